@@ -4,7 +4,8 @@ use Rattle.std.specs.List.{AllPass}
 use Rattle.std.proofs.lemmas.List.{take-append-drop, get_or-take}
 use Rattle.hex_to_txt_run.specs.Inputs.{is_break, CutAtEnd}
 
-pub cut : (bytes : List ℕ) (e : ℕ) → e ≤ length bytes → AllPass is_break (drop e bytes) → (0 < e → is_break (slice_index bytes (e - 1)) ≡ false) → CutAtEnd bytes (take e bytes)
+pub cut : (bytes : List ℕ) (e : ℕ) → e ≤ length bytes → AllPass is_break (drop e bytes) → (0 < e → is_break (slice_index bytes (e - 1)) ≡ false)
+    → CutAtEnd bytes (take e bytes)
 cut bytes e within breaks ends =
     let long : length (take e bytes) ≡ e = omega (arith, length-take e bytes) in
     record {

@@ -9,11 +9,18 @@ use Rattle.hex_to_txt_run.specs.TaskTexts.{TaskPrints, TaskFails}
 use Rattle.hex_to_txt_run.specs.Runs.{Streams, Fails, Failed, HasNoText, Printed, Responds}
 
 -- whether the line was written in full or not, a beginning of it was
-reported : {T E : Type 0} (a b : Option (List ℕ)) (bytes : List ℕ) (r : Result T E) → OnOk r (Appends a b bytes) → OnErr r (AppendsFront a b bytes) → AppendsFront a b bytes
-reported a b bytes (Ok x) all front = record { count = length bytes; within = le_refl _; appends = subst (Appends a b) (sym (take_all (length bytes) bytes (le_refl _))) all }
+reported : {T E : Type 0} (a b : Option (List ℕ)) (bytes : List ℕ) (r : Result T E) → OnOk r (Appends a b bytes) → OnErr r (AppendsFront a b bytes)
+    → AppendsFront a b bytes
+reported a b bytes (Ok x) all front = record {
+  count = length bytes;
+  within = le_refl _;
+  appends =
+      subst (Appends a b) (sym (take_all (length bytes) bytes (le_refl _))) all;
+}
 reported a b bytes (Err e) all front = front
 
-pub failed : {T E : Type 0} (task : Option Task) (s : Streams) (why : Reason) (a b : Option (List ℕ)) (bytes : List ℕ) (r : Result T E) → Fails task s why → bytes ≡ line_of why → OnOk r (Appends a b bytes) → OnErr r (AppendsFront a b bytes) → Failed task s a b
+pub failed : {T E : Type 0} (task : Option Task) (s : Streams) (why : Reason) (a b : Option (List ℕ)) (bytes : List ℕ) (r : Result T E) → Fails task s why
+    → bytes ≡ line_of why → OnOk r (Appends a b bytes) → OnErr r (AppendsFront a b bytes) → Failed task s a b
 failed task s why a b bytes r fails is all front = record { why = why; fails = fails; reported = subst (AppendsFront a b) is (reported a b bytes r all front) }
 
 -- the input that was read has a text
@@ -26,21 +33,21 @@ no_text task (Some known) (Some left) input text taken prints none =
     none text (subst P (sym whole) prints)
 
 -- if the input has no text, the output is unchanged
-pub output_kept : (task : Option Task) (s : Streams) (why : Reason) → Fails task s why → HasNoText task s.input → Keeps s.output s.output_now
-output_kept None s unknown_words fails none = fails.1
-output_kept None s unreadable_input fails none = absurd fails
-output_kept None s not_hexadecimal fails none = absurd fails
-output_kept None s not_utf8 fails none = absurd fails
-output_kept None s (not_a_pair line) fails none = absurd fails
-output_kept None s unwritable_output fails none = absurd fails
-output_kept None s no_memory fails none = absurd fails
-output_kept (Some task) s unknown_words fails none = absurd fails
-output_kept (Some task) s unreadable_input fails none = fails
-output_kept (Some task) s not_hexadecimal fails none = fails.1
-output_kept (Some task) s not_utf8 fails none = fails.1
-output_kept (Some task) s (not_a_pair line) fails none = fails.1
-output_kept (Some task) s unwritable_output fails none = absurd (no_text task s.input s.input_left fails.input fails.text fails.taken fails.prints none)
-output_kept (Some task) s no_memory fails none = fails
+pub output_stays : (task : Option Task) (s : Streams) (why : Reason) → Fails task s why → HasNoText task s.input → Keeps s.output s.output_now
+output_stays None s unknown_words fails none = fails.1
+output_stays None s unreadable_input fails none = absurd fails
+output_stays None s not_hexadecimal fails none = absurd fails
+output_stays None s not_utf8 fails none = absurd fails
+output_stays None s (not_a_pair line) fails none = absurd fails
+output_stays None s unwritable_output fails none = absurd fails
+output_stays None s no_memory fails none = absurd fails
+output_stays (Some task) s unknown_words fails none = absurd fails
+output_stays (Some task) s unreadable_input fails none = fails
+output_stays (Some task) s not_hexadecimal fails none = fails.1
+output_stays (Some task) s not_utf8 fails none = fails.1
+output_stays (Some task) s (not_a_pair line) fails none = fails.1
+output_stays (Some task) s unwritable_output fails none = absurd (no_text task s.input s.input_left fails.input fails.text fails.taken fails.prints none)
+output_stays (Some task) s no_memory fails none = fails
 
 -- if a text was printed, the input has a text
 pub printed_some : (task : Option Task) (s : Streams) → Printed task s → HasNoText task s.input → ⊥
@@ -48,7 +55,8 @@ printed_some None s printed none = printed.prints
 printed_some (Some task) s printed none = no_text task s.input s.input_left printed.input printed.text printed.taken printed.prints none
 
 -- the input that was read has no text, and the output is unchanged
-pub unprinted : (asked : Option Task) (task : Task) (s : Streams) (why : Reason) (input : List ℕ) → Some task ≡ asked → TakesAll s.input s.input_left input → TaskFails task input why → Keeps s.output s.output_now → Fails asked s why
+unprinted : (asked : Option Task) (task : Task) (s : Streams) (why : Reason) (input : List ℕ) → Some task ≡ asked → TakesAll s.input s.input_left input
+    → TaskFails task input why → Keeps s.output s.output_now → Fails asked s why
 unprinted asked task s why input is taken none kept = subst (λ (a : Option Task). Fails a s why) is (by_reason task why none)
   where
     by_reason : (task : Task) (why : Reason) → TaskFails task input why → Fails (Some task) s why
@@ -70,7 +78,9 @@ unprinted asked task s why input is taken none kept = subst (λ (a : Option Task
     by_reason (read_back_task prefix) unwritable_output none = absurd none
 
 -- the same, if this is the result
-pub returned : {T E : Type 0} (reason : E → Reason) (asked : Option Task) (task : Task) (s : Streams) (e y : E) (input : List ℕ) (r : Result T E) → r ≡ Err y → y ≡ e → Some task ≡ asked → TakesAll s.input s.input_left input → TaskFails task input (reason e) → Keeps s.output s.output_now → Responds reason asked s r
+pub returned : {T E : Type 0} (reason : E → Reason) (asked : Option Task) (task : Task) (s : Streams) (e y : E) (input : List ℕ) (r : Result T E) → r ≡ Err y
+    → y ≡ e → Some task ≡ asked → TakesAll s.input s.input_left input → TaskFails task input (reason e) → Keeps s.output s.output_now
+    → Responds reason asked s r
 returned {T} {E} reason asked task s e y input r is same task_is taken none kept =
     let fails = unprinted asked task s (reason e) input task_is taken none kept in
     subst (λ (q : Result T E). Responds reason asked s q) (sym is) (subst (λ (x : E). Fails asked s (reason x)) (sym same) fails)

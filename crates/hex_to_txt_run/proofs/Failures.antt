@@ -27,7 +27,8 @@ on_no_more s bytes v b =
     let P : List ℕ → Type 0 = λ bs. Begins s bs v in
     subst P (sym (append-nil bytes)) b
 
-none_begins : {A : Type 0} (k : ErrorKind A) (s : Form) (bytes : List ℕ) → k ≢ OutOfMemory → NothingBegins s bytes (sort_of_kind (view_of_kind k)) → (v : Value) → Begins s bytes v → ⊥
+none_begins : {A : Type 0} (k : ErrorKind A) (s : Form) (bytes : List ℕ) → k ≢ OutOfMemory → NothingBegins s bytes (sort_of_kind (view_of_kind k)) → (v : Value)
+    → Begins s bytes v → ⊥
 none_begins OutOfMemory s bytes other h v b = other refl
 none_begins (IoError e) s bytes other h v b = h v b
 none_begins (ResponseSizeExceedsLimit n) s bytes other h v b = h [] v (on_no_more s bytes v b)
@@ -36,9 +37,11 @@ none_begins (SerdeError e) s bytes other h v b = h [] v (on_no_more s bytes v b)
 none_begins LengthOverflow s bytes other h v b = h [] v (on_no_more s bytes v b)
 
 -- an error other than out of memory means that there is no pair
-pub no_pair : {A : Type 0} (e : Error A) (input bytes : List ℕ) (why : Reason) → decoded input ≡ Ok bytes → ErrorStands pair_form bytes e → IsReasonOf e why → TaskFails pair_task input why
+pub no_pair : {A : Type 0} (e : Error A) (input bytes : List ℕ) (why : Reason) → decoded input ≡ Ok bytes → ErrorStands pair_form bytes e → IsReasonOf e why
+    → TaskFails pair_task input why
 no_pair e input bytes no_memory decodes fails means = tt
-no_pair e input bytes (not_a_pair line) decodes fails means = (record { bytes = bytes; decodes = decodes; none = none_begins (kind_of e) pair_form bytes means.1 fails }, means.0)
+no_pair e input bytes (not_a_pair line) decodes fails means =
+    (record { bytes = bytes; decodes = decodes; none = none_begins (kind_of e) pair_form bytes means.1 fails }, means.0)
 no_pair e input bytes unknown_words decodes fails means = absurd means
 no_pair e input bytes unreadable_input decodes fails means = absurd means
 no_pair e input bytes not_hexadecimal decodes fails means = absurd means

@@ -1,7 +1,5 @@
 -- The item that a pair is encoded as, and that it fits.
-use Rattle.std.proofs.Common.{◌≡◌, ℕ, ℤ, List, [], ◌∷◌, Some, None, refl, ap, sym, ◌∙◌, length, append-nil, lit<}
-use Rattle.std.specs.Int.{w32, to_be_bytes}
-use Rattle.kmip_ttlv.specs.declared.types.TtlvType.TheVariants.{Integer}
+use Rattle.std.proofs.Common.{◌≡◌, ℕ, ℤ, List, [], ◌∷◌, Some, None, refl, ap, sym, ◌∙◌, append-nil, lit<}
 use Rattle.kmip_ttlv.specs.Errors.{Kind, io_error, exceeds_limit, malformed, mismatch, out_of_memory, length_overflow, Location}
 use Rattle.kmip_ttlv.specs.Names.{tag_of, number, transparent_name}
 use Rattle.kmip_ttlv.specs.Trees.{Tree, leaf_bytes, node_bytes, bytes, bytes_all}
@@ -9,10 +7,6 @@ use Rattle.kmip_ttlv.specs.WrittenItems.{take_tag, some_item}
 use Rattle.kmip_ttlv.specs.Sizes.{FitsAfter}
 use Rattle.kmip_ttlv.specs.EncodeResults.{IsWrittenAs, FailsAs, origin}
 use Rattle.hex_to_txt_run.specs.Pair.{written_pair, pair_tree}
-
-pub leaf_long : (tag n : ℕ) → length (leaf_bytes tag Integer (to_be_bytes w32 n)) ≡ 16
-unfolding leaf_bytes
-leaf_long tag n = refl
 
 the_tree : (a b : ℤ) (ts : List Tree) → Some (pair_tree a b ∷ []) ≡ Some ts → bytes_all ts ≡ bytes (pair_tree a b)
 the_tree a b ts same =

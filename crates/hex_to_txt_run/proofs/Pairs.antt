@@ -31,20 +31,23 @@ pub are_two : {A : Type 0} (d : Data A) (name : Bor (List ℕ)) (v : Vec (Data A
 are_two d name v is given = ap length (two_of d name v is given).are
 
 -- each of which is a number
-pub first_is_number : {A : Type 0} (d : Data A) (name : Bor (List ℕ)) (v : Vec (Data A) A) (x : Data A) → d ≡ Struct name v → Gives pair_form (view d) → x ≡ slice_index_or v.items 0 x → IsI32 (view x)
+pub first_is_number : {A : Type 0} (d : Data A) (name : Bor (List ℕ)) (v : Vec (Data A) A) (x : Data A) → d ≡ Struct name v → Gives pair_form (view d)
+    → x ≡ slice_index_or v.items 0 x → IsI32 (view x)
 first_is_number d name v x is given at =
     let t = two_of d name v is given in
     let P : Data _ → Type 0 = λ y. IsI32 (view y) in
     subst P (sym (at ∙ ap (λ ds. slice_index_or ds 0 x) t.are)) t.first_is
 
-pub second_is_number : {A : Type 0} (d : Data A) (name : Bor (List ℕ)) (v : Vec (Data A) A) (x : Data A) → d ≡ Struct name v → Gives pair_form (view d) → x ≡ slice_index_or v.items 1 x → IsI32 (view x)
+pub second_is_number : {A : Type 0} (d : Data A) (name : Bor (List ℕ)) (v : Vec (Data A) A) (x : Data A) → d ≡ Struct name v → Gives pair_form (view d)
+    → x ≡ slice_index_or v.items 1 x → IsI32 (view x)
 second_is_number d name v x is given at =
     let t = two_of d name v is given in
     let P : Data _ → Type 0 = λ y. IsI32 (view y) in
     subst P (sym (at ∙ ap (λ ds. slice_index_or ds 1 x) t.are)) t.second_is
 
 -- and the data is the pair of them
-pub is_read : {A : Type 0} (d : Data A) (name : Bor (List ℕ)) (v : Vec (Data A) A) (x y : Data A) (a b : ℤ) → d ≡ Struct name v → Gives pair_form (view d) → x ≡ slice_index_or v.items 0 x → y ≡ slice_index_or v.items 1 y → view x ≡ i32_value a → view y ≡ i32_value b → view d ≡ read_pair a b
+pub is_read : {A : Type 0} (d : Data A) (name : Bor (List ℕ)) (v : Vec (Data A) A) (x y : Data A) (a b : ℤ) → d ≡ Struct name v → Gives pair_form (view d)
+    → x ≡ slice_index_or v.items 0 x → y ≡ slice_index_or v.items 1 y → view x ≡ i32_value a → view y ≡ i32_value b → view d ≡ read_pair a b
 is_read d name v x y a b is given x_at y_at x_is y_is =
     let t = two_of d name v is given in
     let seen = ap view is ∙ view-Struct name v in
@@ -52,4 +55,6 @@ is_read d name v x y a b is given x_at y_at x_is y_is =
     let named = (subst G seen given).0 in
     let first = ap view (sym (x_at ∙ ap (λ ds. slice_index_or ds 0 x) t.are)) ∙ x_is in
     let second = ap view (sym (y_at ∙ ap (λ ds. slice_index_or ds 1 y) t.are)) ∙ y_is in
-    seen ∙ ap (λ n. struct_value n (views v.items)) named ∙ ap (λ ds. struct_value (codes "0xAAAAAA") (views ds)) t.are ∙ ap (λ w. struct_value (codes "0xAAAAAA") (value w (value (view t.second) no_values))) first ∙ ap (λ w. struct_value (codes "0xAAAAAA") (value (i32_value a) (value w no_values))) second
+    seen ∙ ap (λ n. struct_value n (views v.items)) named ∙ ap (λ ds. struct_value (codes "0xAAAAAA") (views ds)) t.are
+    ∙ ap (λ w. struct_value (codes "0xAAAAAA") (value w (value (view t.second) no_values))) first
+    ∙ ap (λ w. struct_value (codes "0xAAAAAA") (value (i32_value a) (value w no_values))) second

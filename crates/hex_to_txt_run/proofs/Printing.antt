@@ -1,5 +1,6 @@
 -- The texts of a printer without names of tags.
-use Rattle.std.proofs.Common.{◌≡◌, ℕ, suc, ◌-◌, Bool, false, List, [], ◌∷◌, ◌++◌, Option, Some, Ok, if◌then◌else◌, length, refl, sym, ap, ◌∙◌, subst, arith, append_assoc, append-nil, length-append, codes}
+use Rattle.std.proofs.Common.{◌≡◌, ℕ, suc, ◌-◌, Bool, false, List, [], ◌∷◌, ◌++◌, Option, Some, Ok, if◌then◌else◌, length, refl, sym, ap, ◌∙◌, subst, arith}
+use Rattle.std.proofs.Common.{append_assoc, append-nil, length-append, codes}
 use Rattle.std.specs.List.{slice_get}
 use Rattle.std.proofs.lemmas.List.{get_or_push}
 use Rattle.std.proofs.lemmas.Option.{slice_get-get_or}
@@ -37,7 +38,8 @@ mutual
 last_is : (front : List ℕ) → slice_get (front ++ 10 ∷ []) (length (front ++ 10 ∷ []) - 1) ≡ Some 10
 last_is front =
     let long : length (front ++ 10 ∷ []) - 1 ≡ length front = omega (arith, length-append front (10 ∷ [])) in
-    ap (slice_get (front ++ 10 ∷ [])) long ∙ slice_get-get_or (front ++ 10 ∷ []) (length front) 0 (omega (arith, length-append front (10 ∷ []))) ∙ ap Some (get_or_push front 10 0 (length front) refl)
+    ap (slice_get (front ++ 10 ∷ [])) long ∙ slice_get-get_or (front ++ 10 ∷ []) (length front) 0 (omega (arith, length-append front (10 ∷ [])))
+    ∙ ap Some (get_or_push front 10 0 (length front) refl)
 
 -- no line feed is added to such a text
 ended_line : (text : List ℕ) → EndsLine text → ended text ≡ text
@@ -58,14 +60,16 @@ module _ (input bytes readable text : List ℕ) (decodes : decoded input ≡ Ok 
     message = λ t m. prints ∙ ap ended (exact t m.text m.root m.full) ∙ ended_line _ (pretty_ends no_names 0 t);
   }
 
-  pub prints_readable : (names : ℕ → Option (List ℕ)) (closed : Bool) → names ≡ no_names → closed ≡ false → IsPrinted names closed bytes readable → IsPretty names closed bytes readable → PrintsReadable input text
+  pub prints_readable : (names : ℕ → Option (List ℕ)) (closed : Bool) → names ≡ no_names → closed ≡ false → IsPrinted names closed bytes readable
+      → IsPretty names closed bytes readable → PrintsReadable input text
   prints_readable names closed none is_open is exact =
       let Both : (ℕ → Option (List ℕ)) → Bool → Type 0 = λ ns b. IsPrinted ns b bytes readable × IsPretty ns b bytes readable in
       let first = subst (λ (ns : ℕ → Option (List ℕ)). Both ns closed) none (is, exact) in
       let both = subst (λ (b : Bool). Both no_names b) is_open first in
       readable_unnamed both.0 both.1
 
-pub prints_undiag : (names : ℕ → Option (List ℕ)) (prefix prefix' diagnostic back : List ℕ) → names ≡ no_names → prefix ≡ prefix' → back ≡ undiag names prefix diagnostic → back ≡ undiag no_names prefix' diagnostic
+pub prints_undiag : (names : ℕ → Option (List ℕ)) (prefix prefix' diagnostic back : List ℕ) → names ≡ no_names → prefix ≡ prefix'
+    → back ≡ undiag names prefix diagnostic → back ≡ undiag no_names prefix' diagnostic
 prints_undiag names prefix prefix' diagnostic back none same is = is ∙ ap (λ ns. undiag ns prefix diagnostic) none ∙ ap (λ p. undiag no_names p diagnostic) same
 
 pub then_line_feed : (text front back feed : List ℕ) → text ≡ front ++ feed → feed ≡ 10 ∷ [] → front ≡ back → text ≡ back ++ 10 ∷ []

@@ -1,6 +1,6 @@
 -- What the program's arguments ask for.
 use Rattle.std.specs.Prelude.{ℕ, Bool, true, false, List, [], ◌∷◌, Option, Some, None, if◌then◌else◌, bytes_eq, codes}
-use Rattle.hex_to_txt_run.specs.declared.task.Task.{Task as TaskHeld}
+use Rattle.hex_to_txt_run.specs.declared.task.Task.{Task as TaskIs}
 use Rattle.hex_to_txt_run.specs.declared.task.Task.TheVariants as held
 
 -- to print a pair of numbers; a readable text; a diagnostic, with empty structures closed or left open,
@@ -27,7 +27,7 @@ task_of (word ∷ prefix ∷ []) = prefixed_task word prefix
 task_of (word ∷ prefix ∷ further ∷ rest) = None
 
 -- a task, without where its prefix is in memory
-abbrev pub seen_task : TaskHeld → Task
+abbrev pub seen_task : TaskIs → Task
 seen_task held.Flat = pair_task
 seen_task held.Text = readable_task
 seen_task (held.Diagnostic closed prefix) = diagnostic_task closed prefix.now

@@ -33,7 +33,7 @@ fn is_kept(b: u8) -> bool
     !(b == 10 || b == 13 || b == 32 || b == 34 || b == 44)
 }
 
-fn kept_bytes<A: Allocator>(alloc: A, input: &[u8]) -> Result<Vec<u8, A>, AllocError>
+fn same_bytes<A: Allocator>(alloc: A, input: &[u8]) -> Result<Vec<u8, A>, AllocError>
     ensures { IfOk result (λ v. v.items ≡ filter is_kept input.now) }
 {
     input.iter().copied().filter(|b| is_kept(*b)).collect(alloc)
@@ -45,7 +45,7 @@ pub fn decode<A: Allocator + Copy>(alloc: A, input: &[u8]) -> Result<Vec<u8, A>,
     ensures ok { IfOk result (λ bytes. decoded input.now ≡ Ok bytes.items) }
     ensures err { IfErr result (λ e. IsUndecoded input.now (reason_of e)) }
 {
-    let digits = kept_bytes(alloc, input)?;
+    let digits = same_bytes(alloc, input)?;
     match hex::decode(alloc, digits.as_slice()) {
         Ok(bytes) => Ok(bytes),
         Err(FromHexError::OutOfMemory) => Err(Failure::OutOfMemory),

@@ -10,7 +10,7 @@ use Rattle.kmip_ttlv_base.specs.Visits.{ended, visited, visited_in}
 use Rattle.kmip_ttlv_base.specs.Builds.{Unfinished, within, appended, first_of, build_step}
 
 -- the values as a list
-abbrev pub list_of : Values → List Value
+abbrev list_of : Values → List Value
 list_of no_values = []
 list_of (value v vs) = v ∷ list_of vs
 
@@ -51,7 +51,8 @@ mutual
       ∙ ap (λ us. appended (tuple_variant_value name vname us) s) (values_are vs)
   builds (unsupported_value name) s = refl
 
-  builds_in : (vs : Values) (before : List Value) (around : List (List Value)) → visited_in build_step vs (within before around) ≡ within (before ++ list_of vs) around
+  builds_in : (vs : Values) (before : List Value) (around : List (List Value)) → visited_in build_step vs (within before around) ≡ within
+      (before ++ list_of vs) around
   builds_in no_values before around = ap (λ us. within us around) (sym (append-nil before))
   builds_in (value v vs) before around =
       ap (visited_in build_step vs) (builds v (within before around)) ∙ builds_in vs (before ++ v ∷ []) around

@@ -2,12 +2,15 @@
 use Rattle.std.proofs.Common.{◌≡◌, ℕ, Bool as Boole, List, refl, ap, ◌∙◌, Vec, Box, Bor}
 use Rattle.kmip_ttlv_base.specs.declared.shape.FieldShape.{FieldShape}
 use Rattle.kmip_ttlv_base.specs.declared.shape.VariantShape.{VariantShape}
-use Rattle.kmip_ttlv_base.specs.declared.shape.Shape.{Shape, Row_of-FieldShape, end_of-FieldShape, more_of-FieldShape, items-the_row-FieldShape, items_hidden-the_row-FieldShape-0, Row_of-VariantShape, end_of-VariantShape, more_of-VariantShape, items-the_row-VariantShape, items_hidden-the_row-VariantShape-1}
+use Rattle.kmip_ttlv_base.specs.declared.shape.Shape.{Shape, Row_of-FieldShape, end_of-FieldShape, more_of-FieldShape, items-the_row-FieldShape}
+use Rattle.kmip_ttlv_base.specs.declared.shape.Shape.{items_hidden-the_row-FieldShape-0, Row_of-VariantShape, end_of-VariantShape, more_of-VariantShape}
+use Rattle.kmip_ttlv_base.specs.declared.shape.Shape.{items-the_row-VariantShape, items_hidden-the_row-VariantShape-1}
 use Rattle.kmip_ttlv_base.specs.declared.shape.Shape.TheBlock.{hidden-the_row-FieldShape-0, hidden-the_row-VariantShape-1, hidden-the_row-Shape-2}
 use Rattle.kmip_ttlv_base.specs.declared.shape.Shape.TheVariants.{Struct, Option, Seq, Newtype, Enum}
 use Rattle.kmip_ttlv_base.specs.declared.shape.VariantContent.{Row_of-Shape, end_of-Shape, more_of-Shape, items-the_row-Shape, items_hidden-the_row-Shape-2}
 use Rattle.kmip_ttlv_base.specs.declared.shape.VariantContent.TheVariants as contents
-use Rattle.kmip_ttlv_base.specs.Forms.{struct, option, seq, newtype, enum, wrapped, field, variant, tuple, form, form_of, content_of, fields_in, fields_of, variants_in, variants_of, forms_in, forms_of}
+use Rattle.kmip_ttlv_base.specs.Forms.{struct, option, seq, newtype, enum, wrapped, field, variant, tuple, form, form_of, content_of, fields_in, fields_of}
+use Rattle.kmip_ttlv_base.specs.Forms.{variants_in, variants_of, forms_in, forms_of}
 
 fields-row : {A : Type 0} {n : _} (row : Row_of-FieldShape A n) → fields_in row ≡ fields_of (items-the_row-FieldShape A n row)
 fields-row end_of-FieldShape = refl
@@ -21,8 +24,10 @@ forms-row : {A : Type 0} {n : _} (row : Row_of-Shape A n) → forms_in row ≡ f
 forms-row end_of-Shape = refl
 forms-row (more_of-Shape s rest) = ap (form (form_of s)) (forms-row rest)
 
-pub form_of-Struct : {A : Type 0} (name : Bor (List ℕ)) (v : Vec (FieldShape A) A) (deny : Boole) → form_of (Struct name v deny) ≡ struct name.now (fields_of v.items) deny
-form_of-Struct name v deny = ap (λ fs. struct name.now fs deny) (fields-row (hidden-the_row-FieldShape-0 _ v) ∙ ap fields_of (items_hidden-the_row-FieldShape-0 _ v))
+pub form_of-Struct : {A : Type 0} (name : Bor (List ℕ)) (v : Vec (FieldShape A) A) (deny : Boole)
+    → form_of (Struct name v deny) ≡ struct name.now (fields_of v.items) deny
+form_of-Struct name v deny = ap (λ fs. struct name.now fs deny) (fields-row (hidden-the_row-FieldShape-0 _ v)
+    ∙ ap fields_of (items_hidden-the_row-FieldShape-0 _ v))
 
 pub form_of-Enum : {A : Type 0} (name : Bor (List ℕ)) (v : Vec (VariantShape A) A) → form_of (Enum name v) ≡ enum name.now (variants_of v.items)
 form_of-Enum name v = ap (enum name.now) (variants-row (hidden-the_row-VariantShape-1 _ v) ∙ ap variants_of (items_hidden-the_row-VariantShape-1 _ v))

@@ -1,8 +1,11 @@
 -- The value of data, variant by variant: lemmas for the proofs of a type's `to_data` and `from_data`.
 use Rattle.std.proofs.Common.{◌≡◌, ℕ, ℤ, List, Bool as Boole, String, Vec, Box, Bor, string_bytes, rules}
 use Rattle.kmip_ttlv_base.specs.declared.shape.Data.{Data, the_lemmas}
-use Rattle.kmip_ttlv_base.specs.declared.shape.Data.TheVariants.{Bool, I8, I16, I32, U32, I64, U64, DateTime, Interval, Text, Bytes, BigInteger, None, Some, Seq, Struct, Newtype, UnitVariant, NewtypeVariant, TupleVariant, Unsupported}
-use Rattle.kmip_ttlv_base.specs.Values.{view, views, boolean_value, i8_value, i16_value, i32_value, u32_value, i64_value, u64_value, date_time_value, interval_value, text_value, bytes_value, big_integer_value, none_value, some_value, seq_value, struct_value, newtype_value, unit_variant_value, newtype_variant_value, tuple_variant_value, unsupported_value}
+use Rattle.kmip_ttlv_base.specs.declared.shape.Data.TheVariants.{Bool, I8, I16, I32, U32, I64, U64, DateTime, Interval, Text, Bytes, BigInteger, None, Some}
+use Rattle.kmip_ttlv_base.specs.declared.shape.Data.TheVariants.{Seq, Struct, Newtype, UnitVariant, NewtypeVariant, TupleVariant, Unsupported}
+use Rattle.kmip_ttlv_base.specs.Values.{view, views, boolean_value, i8_value, i16_value, i32_value, u32_value, i64_value, u64_value, date_time_value}
+use Rattle.kmip_ttlv_base.specs.Values.{interval_value, text_value, bytes_value, big_integer_value, none_value, some_value, seq_value, struct_value}
+use Rattle.kmip_ttlv_base.specs.Values.{newtype_value, unit_variant_value, newtype_variant_value, tuple_variant_value, unsupported_value}
 
 pub view-Bool : (A : Type 0) (b : Boole) → view {A = A} (Bool b) ≡ boolean_value b
 view-Bool A b = search (rules, the_lemmas)
@@ -58,10 +61,12 @@ view-Newtype name b = search (rules, the_lemmas)
 pub view-UnitVariant : (A : Type 0) (name variant : Bor (List ℕ)) → view {A = A} (UnitVariant name variant) ≡ unit_variant_value name.now variant.now
 view-UnitVariant A name variant = search (rules, the_lemmas)
 
-pub view-NewtypeVariant : {A : Type 0} (name variant : Bor (List ℕ)) (b : Box (Data A) A) → view (NewtypeVariant name variant b) ≡ newtype_variant_value name.now variant.now (view b.value)
+pub view-NewtypeVariant : {A : Type 0} (name variant : Bor (List ℕ)) (b : Box (Data A) A)
+    → view (NewtypeVariant name variant b) ≡ newtype_variant_value name.now variant.now (view b.value)
 view-NewtypeVariant name variant b = search (rules, the_lemmas)
 
-pub view-TupleVariant : {A : Type 0} (name variant : Bor (List ℕ)) (v : Vec (Data A) A) → view (TupleVariant name variant v) ≡ tuple_variant_value name.now variant.now (views v.items)
+pub view-TupleVariant : {A : Type 0} (name variant : Bor (List ℕ)) (v : Vec (Data A) A)
+    → view (TupleVariant name variant v) ≡ tuple_variant_value name.now variant.now (views v.items)
 view-TupleVariant name variant v = search (rules, the_lemmas)
 
 pub view-Unsupported : (A : Type 0) (name : Bor (List ℕ)) → view {A = A} (Unsupported name) ≡ unsupported_value name.now

@@ -24,6 +24,7 @@ visited_leaf step (leaves.UnitVariant name variant) s = refl
 visited_leaf step (leaves.Unsupported name) s = refl
 
 -- the events of joined values are those of the first ones, and then of the later ones
-pub visited_joined : {S : Type 0} (step : Event → S → S) (vs later : Values) (s : S) → visited_in step (joined vs later) s ≡ visited_in step later (visited_in step vs s)
+pub visited_joined : {S : Type 0} (step : Event → S → S) (vs later : Values) (s : S) → visited_in step (joined vs later) s ≡ visited_in step later
+    (visited_in step vs s)
 visited_joined step no_values later s = refl
 visited_joined step (value v vs) later s = visited_joined step vs later (visited step v s)

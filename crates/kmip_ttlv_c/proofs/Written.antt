@@ -7,13 +7,20 @@ use Rattle.kmip_ttlv_c.specs.declared.status.TheConstants.{OK, NO_ROOM}
 use Rattle.kmip_ttlv_c.specs.Buffers.{Offers}
 use Rattle.kmip_ttlv_c.specs.LentWrites.{c_given, c_bad, AnswersWrite, writes}
 
-module _ (items : List KmipTtlvItem) (lent : List ℕ) (len : ℕ) (old new : List ℕ) (h : FillsFront (map c_given items) lent len old new) (bad : KmipTtlvBadItem) (good : bad ≡ c_bad None) where
+module _ (items : List KmipTtlvItem) (lent : List ℕ) (len : ℕ) (old new : List ℕ) (h : FillsFront (map c_given items) lent len old new) (bad : KmipTtlvBadItem)
+    (good : bad ≡ c_bad None) where
   -- there was room
   pub all_written : len ≤ length old → AnswersWrite items lent OK len bad old new
   all_written le = writes h.text h.written (by h.buffer) good
     where
       by : (((len ≤ length old) × (new ≡ h.text ++ drop len old)) ⊎ ((length old < len) × (new ≡ old))) → Offers h.text OK len old new
-      by (inl k) = inl record { status_is = refl; length_is = h.length_is; fits = omega (arith, h.length_is, le); buffer = k.1 ∙ ap (λ (n : ℕ). h.text ++ drop n old) h.length_is }
+      by (inl k) = inl record {
+        status_is = refl;
+        length_is = h.length_is;
+        fits = omega (arith, h.length_is, le);
+        buffer = k.1
+            ∙ ap (λ (n : ℕ). h.text ++ drop n old) h.length_is;
+      }
       by (inr k) = absurd (omega (arith, k.0, le))
 
   -- there was none

@@ -21,11 +21,11 @@ abbrev pub Offers : List ℕ → ℕ → ℕ → List ℕ → List ℕ → Type 
 Offers text status len old new = Gives text status len old new ⊎ LacksRoom text status len old new
 
 -- a call returns a text of this kind; or it fails with this status, sets the length to 0, and leaves the buffer unchanged
-pub data AnswersText (IsText : List ℕ → Type 0) (Refuses : ℕ → Type 0)
+pub data AnswersText (IsText : List ℕ → Type 0) (Fails : ℕ → Type 0)
     (status len : ℕ) (old new : List ℕ) : Type 0 where
   offers :
       (text : List ℕ)
       → IsText text
       → Offers text status len old new
-      → AnswersText IsText Refuses status len old new
-  refuses : Refuses status → len ≡ 0 → new ≡ old → AnswersText IsText Refuses status len old new
+      → AnswersText IsText Fails status len old new
+  refuses : Fails status → len ≡ 0 → new ≡ old → AnswersText IsText Fails status len old new

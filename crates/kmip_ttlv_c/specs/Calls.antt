@@ -53,38 +53,38 @@ abbrev pub IsVersion : List ℕ → List ℕ → Type 0
 IsVersion version text = text ≡ version
 
 -- a diagnostic fails when out of memory, or if its prefix is not UTF-8
-pub data PrefixRefused (prefix : List ℕ) (count status : ℕ) : Type 0 where
-  no_memory : IsUtf8 prefix → status ≡ OUT_OF_MEMORY → count ≡ 0 → PrefixRefused prefix count status
-  no_prefix : status ≡ NOT_UTF8 → (IsUtf8 prefix → ⊥) → count ≡ 0 → PrefixRefused prefix count status
+pub data PrefixFails (prefix : List ℕ) (count status : ℕ) : Type 0 where
+  no_memory : IsUtf8 prefix → status ≡ OUT_OF_MEMORY → count ≡ 0 → PrefixFails prefix count status
+  no_prefix : status ≡ NOT_UTF8 → (IsUtf8 prefix → ⊥) → count ≡ 0 → PrefixFails prefix count status
 
 -- a table of names fails when out of memory, if it is not UTF-8, or at its first bad line
-pub data NamesRefused (table : List ℕ) (line status : ℕ) : Type 0 where
-  no_memory : IsUtf8 table → status ≡ OUT_OF_MEMORY → line ≡ 0 → NamesRefused table line status
-  no_table : status ≡ NOT_UTF8 → (IsUtf8 table → ⊥) → line ≡ 0 → NamesRefused table line status
-  bad_table : status ≡ BAD_NAMES → bad_line table ≡ Some line → NamesRefused table line status
+pub data NamesFail (table : List ℕ) (line status : ℕ) : Type 0 where
+  no_memory : IsUtf8 table → status ≡ OUT_OF_MEMORY → line ≡ 0 → NamesFail table line status
+  no_table : status ≡ NOT_UTF8 → (IsUtf8 table → ⊥) → line ≡ 0 → NamesFail table line status
+  bad_table : status ≡ BAD_NAMES → bad_line table ≡ Some line → NamesFail table line status
 
 -- a readable text with the built-in names fails only when out of memory
-abbrev pub StandardRefused : ℕ → Type 0
-StandardRefused status = status ≡ OUT_OF_MEMORY
+abbrev pub StandardFails : ℕ → Type 0
+StandardFails status = status ≡ OUT_OF_MEMORY
 
 -- reading a diagnostic back fails because of its table of names, or if a text is not UTF-8
-pub data ReadingRefused (diagnostic prefix table : List ℕ) (line status : ℕ) : Type 0 where
-  names_refused :
+pub data ReadingFails (diagnostic prefix table : List ℕ) (line status : ℕ) : Type 0 where
+  names_fail :
       IsUtf8 diagnostic
       → IsUtf8 prefix
-      → NamesRefused table line status
-      → ReadingRefused diagnostic prefix table line status
+      → NamesFail table line status
+      → ReadingFails diagnostic prefix table line status
   no_diagnostic :
       status ≡ NOT_UTF8
       → (IsUtf8 diagnostic → ⊥)
       → line ≡ 0
-      → ReadingRefused diagnostic prefix table line status
+      → ReadingFails diagnostic prefix table line status
   no_prefix_text :
       status ≡ NOT_UTF8
       → (IsUtf8 prefix → ⊥)
       → line ≡ 0
-      → ReadingRefused diagnostic prefix table line status
+      → ReadingFails diagnostic prefix table line status
 
 -- the call never fails
-abbrev pub NeverRefused : ℕ → Type 0
-NeverRefused status = ⊥
+abbrev pub NeverFails : ℕ → Type 0
+NeverFails status = ⊥

@@ -33,14 +33,14 @@ c_fault None = record { offset = 0; kind = 0 }
 c_fault (Some f) = record { offset = f.offset; kind = c_kind f.kind }
 
 -- the status of a walk, given the fault, how many items there are, and the room: a fault comes before lack of room
-abbrev pub TellsWalk : Option Fault → ℕ → ℕ → ℕ → Type 0
-TellsWalk (Some f) count room status = status ≡ MALFORMED
-TellsWalk None count room status = ((status ≡ OK) × (count ≤ room)) ⊎ ((status ≡ NO_ROOM) × (room < count))
+abbrev pub ReportsWalk : Option Fault → ℕ → ℕ → ℕ → Type 0
+ReportsWalk (Some f) count room status = status ≡ MALFORMED
+ReportsWalk None count room status = ((status ≡ OK) × (count ≤ room)) ⊎ ((status ≡ NO_ROOM) × (room < count))
 
 -- the status of a check
-abbrev pub TellsCheck : Option Fault → ℕ → Type 0
-TellsCheck (Some f) status = status ≡ MALFORMED
-TellsCheck None status = status ≡ OK
+abbrev pub ReportsCheck : Option Fault → ℕ → Type 0
+ReportsCheck (Some f) status = status ≡ MALFORMED
+ReportsCheck None status = status ≡ OK
 
 -- a walk over bytes: its items are in the caller's list as far as it has room, and `count` is how many there are; its
 -- fault is set; or memory ran out, and the list's elements are any
@@ -51,7 +51,7 @@ pub data AnswersWalk (bytes : List ℕ) (status count : ℕ) (fault : KmipTtlvFa
       → Finds c_item bytes old new end
       → count ≡ end.count
       → fault ≡ c_fault end.fault
-      → TellsWalk end.fault end.count (length old) status
+      → ReportsWalk end.fault end.count (length old) status
       → AnswersWalk bytes status count fault old new
   no_memory : status ≡ OUT_OF_MEMORY → count ≡ 0 → fault ≡ c_fault None → AnswersWalk bytes status count fault old new
 
@@ -61,6 +61,6 @@ pub data AnswersCheck (bytes : List ℕ) (status : ℕ) (fault : KmipTtlvFault) 
       (found : Option Fault)
       → Judges bytes found
       → fault ≡ c_fault found
-      → TellsCheck found status
+      → ReportsCheck found status
       → AnswersCheck bytes status fault
   no_memory : status ≡ OUT_OF_MEMORY → fault ≡ c_fault None → AnswersCheck bytes status fault

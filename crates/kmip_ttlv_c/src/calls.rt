@@ -4,8 +4,8 @@ ghost use Rattle.std.specs.Prelude.{◌≡◌, IfOk, IfErr, OnOk, string_bytes};
 ghost use Rattle.kmip_ttlv_util.specs.TagNames.{name_in};
 ghost use Rattle.kmip_ttlv_names.specs.NameTables.{names_of};
 ghost use Rattle.kmip_ttlv_c.specs.Buffers.{AnswersText};
-ghost use Rattle.kmip_ttlv_c.specs.Calls.{IsDiagnostic, PrefixRefused, IsTable, IsReadable, IsNamedText, NamesRefused};
-ghost use Rattle.kmip_ttlv_c.specs.Calls.{StandardRefused, IsReadLines, ReadingRefused, IsVersion, NeverRefused};
+ghost use Rattle.kmip_ttlv_c.specs.Calls.{IsDiagnostic, PrefixFails, IsTable, IsReadable, IsNamedText, NamesFail};
+ghost use Rattle.kmip_ttlv_c.specs.Calls.{StandardFails, IsReadLines, ReadingFails, IsVersion, NeverFails};
 
 use crate::buffer::offer;
 use crate::status::{BAD_NAMES, NOT_UTF8, OUT_OF_MEMORY};
@@ -43,7 +43,7 @@ pub extern "C" fn kmip_ttlv_to_diag(
     length: &mut usize,
     items: &mut usize,
 ) -> u32
-    ensures { AnswersText (IsDiagnostic prefix.now closed bytes.now items.new) (PrefixRefused prefix.now items.new) result length.new out.old out.new }
+    ensures { AnswersText (IsDiagnostic prefix.now closed bytes.now items.new) (PrefixFails prefix.now items.new) result length.new out.old out.new }
 {
     *length = 0;
     *items = 0;
@@ -63,7 +63,7 @@ fn names_in<'t>(alloc: Global, table: &'t [u8], bad_line: &mut usize) -> Result<
     ensures names { IfOk result (λ names. name_in names ≡ names_of table.now) }
     ensures good { OnOk result (IsTable table.now) }
     ensures line { OnOk result (bad_line.new ≡ 0) }
-    ensures refused { IfErr result (λ status. NamesRefused table.now bad_line.new status) }
+    ensures refused { IfErr result (λ status. NamesFail table.now bad_line.new status) }
 {
     *bad_line = 0;
     let Ok(table) = str::from_utf8(table) else {
@@ -90,7 +90,7 @@ pub extern "C" fn kmip_ttlv_to_text(
     length: &mut usize,
     bad_line: &mut usize,
 ) -> u32
-    ensures { AnswersText (IsNamedText names.now closed bytes.now bad_line.new) (NamesRefused names.now bad_line.new) result length.new out.old out.new }
+    ensures { AnswersText (IsNamedText names.now closed bytes.now bad_line.new) (NamesFail names.now bad_line.new) result length.new out.old out.new }
 {
     *length = 0;
     let names = match names_in(alloc, names, bad_line) {
@@ -112,7 +112,7 @@ pub extern "C" fn kmip_ttlv_to_standard_text(
     out: &mut [u8],
     length: &mut usize,
 ) -> u32
-    ensures { AnswersText (IsReadable (names_of STANDARD_TAGS.now) closed bytes.now) StandardRefused result length.new out.old out.new }
+    ensures { AnswersText (IsReadable (names_of STANDARD_TAGS.now) closed bytes.now) StandardFails result length.new out.old out.new }
 {
     *length = 0;
     let Ok(names) = standard_names(alloc) else {
@@ -135,7 +135,7 @@ pub extern "C" fn kmip_ttlv_from_diag(
     length: &mut usize,
     bad_line: &mut usize,
 ) -> u32
-    ensures { AnswersText (IsReadLines names.now prefix.now diagnostic.now bad_line.new) (ReadingRefused diagnostic.now prefix.now names.now bad_line.new) result length.new out.old out.new }
+    ensures { AnswersText (IsReadLines names.now prefix.now diagnostic.now bad_line.new) (ReadingFails diagnostic.now prefix.now names.now bad_line.new) result length.new out.old out.new }
 {
     *length = 0;
     *bad_line = 0;
@@ -158,7 +158,7 @@ pub extern "C" fn kmip_ttlv_from_diag(
 /// Writes the library's version.
 #[unsafe(no_mangle)]
 pub extern "C" fn kmip_ttlv_version(out: &mut [u8], length: &mut usize) -> u32
-    ensures { AnswersText (IsVersion VERSION.now) NeverRefused result length.new out.old out.new }
+    ensures { AnswersText (IsVersion VERSION.now) NeverFails result length.new out.old out.new }
 {
     offer(VERSION.as_bytes(), out, length)
 }

@@ -17,7 +17,9 @@ has_no_tag : (name : List ℕ) (t : ℕ) → tag_of name ≡ None → has_tag na
 has_no_tag name t named = rw (has_tag, named) refl
 
 -- one field more: its tag is put into the set
-pub tag_put : (m n : BTreeSet ℕ) (name : List ℕ) (s : Form) (fs : Fields) (k t : ℕ) → tag_of name ≡ Some k → ((q : ℕ) → contains nat_cmp n q ≡ cond (is_at (nat_cmp k) q) true (contains nat_cmp m q)) → (contains nat_cmp n t || names_tag fs t) ≡ (contains nat_cmp m t || names_tag (field name s fs) t)
+pub tag_put : (m n : BTreeSet ℕ) (name : List ℕ) (s : Form) (fs : Fields) (k t : ℕ) → tag_of name ≡ Some k
+    → ((q : ℕ) → contains nat_cmp n q ≡ cond (is_at (nat_cmp k) q) true (contains nat_cmp m q))
+    → (contains nat_cmp n t || names_tag fs t) ≡ (contains nat_cmp m t || names_tag (field name s fs) t)
 tag_put m n name s fs k t named put =
     let here : contains nat_cmp n t ≡ cond (k == t) true (contains nat_cmp m t) = put t ∙ ap (λ b. cond b true (contains nat_cmp m t)) (is_eq-nat_cmp k t) in
     ap (λ b. b || names_tag fs t) here
@@ -28,5 +30,6 @@ tag_put m n name s fs k t named put =
     ∙ sym (ap (λ b. contains nat_cmp m t || elim b [ true ↦ true | false ↦ names_tag fs t ]) (has_tag_is name k t named))
 
 -- a field whose name is no tag
-pub no_tag_put : (m : BTreeSet ℕ) (name : List ℕ) (s : Form) (fs : Fields) (t : ℕ) → tag_of name ≡ None → (contains nat_cmp m t || names_tag fs t) ≡ (contains nat_cmp m t || names_tag (field name s fs) t)
+pub no_tag_put : (m : BTreeSet ℕ) (name : List ℕ) (s : Form) (fs : Fields) (t : ℕ) → tag_of name ≡ None
+    → (contains nat_cmp m t || names_tag fs t) ≡ (contains nat_cmp m t || names_tag (field name s fs) t)
 no_tag_put m name s fs t named = sym (ap (λ b. contains nat_cmp m t || elim b [ true ↦ true | false ↦ names_tag fs t ]) (has_no_tag name t named))

@@ -17,11 +17,14 @@ use Rattle.kmip_ttlv_reader.specs.Rules.{at_least, equal, in_brackets, member, r
 
 -- what a message is read as: a proof that unfolds it computes each step, each rule and each text
 unfoldable pub reading : Form → List ℕ → Outcome Value
-unfolding root_outcome first_outcome opened all_outcome fields_outcome field_outcome outcome leaf_outcome content_there rest_outcome ignored item_end type_there tag_wanted length_there structure_wanted inside end_there type_wanted seq_outcome run_outcome goes_on struct_outcome enum_outcome number_outcome variant_outcome content_outcome tuple_outcome forms_outcome part_outcome tag_of number rule sides equal at_least member in_brackets trim_end chars trim_start encode is_utf8
+unfolding root_outcome first_outcome opened all_outcome fields_outcome field_outcome outcome leaf_outcome content_there rest_outcome ignored item_end type_there
+    tag_wanted length_there structure_wanted inside end_there type_wanted seq_outcome run_outcome goes_on struct_outcome enum_outcome number_outcome
+    variant_outcome content_outcome tuple_outcome forms_outcome part_outcome tag_of number rule sides equal at_least member in_brackets trim_end chars
+    trim_start encode is_utf8
 reading s bytes = root_outcome s bytes
 
 -- a part of an item is not the one that is wanted
-abbrev pub IsFieldKind : Kind → Type 0
+abbrev IsFieldKind : Kind → Type 0
 IsFieldKind (malformed (faults.UnexpectedTtlvField expected actual)) = Unit {0}
 IsFieldKind _ = ⊥
 

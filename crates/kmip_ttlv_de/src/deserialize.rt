@@ -1,4 +1,4 @@
-//! The traits of types that are decoded: `Decode`, which the calls want, and `Deserialize`, for a type that is decoded by its
+//! The traits of types that are decoded: `Decode`, which the calls need, and `Deserialize`, for a type that is decoded by its
 //! shape. Stands on whole messages, in `root`.
 
 ghost use Rattle.std.specs.Prelude.{◌≡◌, IfOk};
@@ -13,7 +13,7 @@ use kmip_ttlv_base::error::Error;
 use kmip_ttlv_base::shape::{Data, Shape};
 use std::alloc::{AllocError, Allocator};
 
-/// A type that is decoded from bytes: what `from_slice` and `from_reader` want.
+/// A type that is decoded from bytes: what `from_slice` and `from_reader` need.
 ///
 /// A type that reads itself implements it by `read_message`, in one line. A type with a shape implements `Deserialize` and
 /// `ByShape`, and has this by them.

@@ -51,14 +51,14 @@ use std::alloc::Allocator;
 /// - `InvalidLength`: an item has another length than its type's.
 /// - `InvalidValue`: a Boolean of another number than 0 and 1, or a text that is not UTF-8.
 /// - `Overflow`: an item goes past the end of the Structure around it.
-/// - `UnexpectedType`: a leaf where a struct or a tuple wants a Structure.
+/// - `UnexpectedType`: a leaf where a struct or a tuple needs a Structure.
 /// - `UnexpectedTtlvField`: the root's shape is a leaf; a rule chose a variant without content, or
 ///   a number chose one with content.
 ///
 /// `SerdeError`:
 ///
 /// - `UnexpectedTag`: an item's tag is not the one of the field or of the struct.
-/// - `UnexpectedType`: an item is not of the type that a leaf's shape wants, or no number where one
+/// - `UnexpectedType`: an item is not of the type that a leaf's shape needs, or no number where one
 ///   would choose a variant.
 /// - `InvalidTag`: the name of a struct or of a field is no tag, or a rule's text is no tag or no
 ///   number.

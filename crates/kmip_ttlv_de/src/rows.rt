@@ -383,7 +383,7 @@ pub fn small_messages()
         (codes "AAAAAA0100000020BBBBBB02000000040000000300000000BBBBBB02000000040000000400000000")
         (gives_struct (integer 3 ∷ integer 4 ∷ [])) }
     // Forms that no message has.
-    ensures strange_forms { Row (structure (codes "x") no_fields) (codes "AAAAAA0100000010BBBBBB02000000040000000300000000")
+    ensures other_forms { Row (structure (codes "x") no_fields) (codes "AAAAAA0100000010BBBBBB02000000040000000300000000")
         (error_at_start (mismatch (invalid_tag (codes "x"))))
         × Row (structure (codes "x") no_fields) [] (error_at_start (mismatch (invalid_tag (codes "x"))))
         × Row (structure (codes "0xAAAAAA") no_fields) (codes "AAAAAA0100000010BBBBBB02000000040000000300000000")

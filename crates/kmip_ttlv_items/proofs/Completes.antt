@@ -1,17 +1,21 @@
 -- Every walk ends.
-use Rattle.std.proofs.Common.{◌≡◌, ◌≢◌, ◌⊎◌, inl, inr, ℕ, suc, zero, ◌+◌, ◌-◌, ◌*◌, ◌<◌, ◌≤◌, Bool, true, false, List, [], ◌∷◌, ◌++◌, length, get_or, Option, Some, None, ap, sym, refl, subst, ◌∙◌, arith, append-nil, append_assoc}
+use Rattle.std.proofs.Common.{◌≡◌, ◌≢◌, ◌⊎◌, inl, inr, ℕ, suc, zero, ◌+◌, ◌-◌, ◌*◌, ◌<◌, ◌≤◌, Bool, true, false, List, [], ◌∷◌, ◌++◌, length, get_or, Option}
+use Rattle.std.proofs.Common.{Some, None, ap, sym, refl, subst, ◌∙◌, arith, append-nil, append_assoc}
 use Rattle.std.proofs.lemmas.Bool.{cases_lt, cases_eq}
 use Rattle.kmip_ttlv_types.specs.declared.typ.TtlvType.{TtlvType}
-use Rattle.kmip_ttlv_types.specs.declared.typ.TtlvType.TheVariants.{Structure, Integer, LongInteger, BigInteger, Enumeration, Boolean, TextString, ByteString, DateTime, Interval}
+use Rattle.kmip_ttlv_types.specs.declared.typ.TtlvType.TheVariants.{Structure, Integer, LongInteger, BigInteger, Enumeration, Boolean, TextString, ByteString}
+use Rattle.kmip_ttlv_types.specs.declared.typ.TtlvType.TheVariants.{DateTime, Interval}
 use Rattle.kmip_ttlv_types.specs.ItemTypes.{fixed_length}
 use Rattle.kmip_ttlv_types.specs.Leaves.{is_valid}
 use Rattle.kmip_ttlv_types.specs.Places.{tag_at, length_at, size}
 use Rattle.kmip_ttlv_items.specs.declared.found.FoundItem.{FoundItem}
 use Rattle.kmip_ttlv_items.specs.declared.found.Fault.{Fault}
 use Rattle.kmip_ttlv_items.specs.declared.found.FaultKind.{FaultKind}
-use Rattle.kmip_ttlv_items.specs.declared.found.FaultKind.TheVariants.{Cut, NoStructure, UnknownType, PartialHeader, WrongLength, Overlong, InvalidValue, Surplus}
+use Rattle.kmip_ttlv_items.specs.declared.found.FaultKind.TheVariants.{Cut, NoStructure, UnknownType, PartialHeader, WrongLength, Overlong, InvalidValue}
+use Rattle.kmip_ttlv_items.specs.declared.found.FaultKind.TheVariants.{Surplus}
 use Rattle.kmip_ttlv_items.specs.FoundItems.{item}
-use Rattle.kmip_ttlv_items.specs.ItemWalks.{type_at, content_at, own_size, has_length, HasType, IsWhole, Misfits, RootMisfits, WalksTo, enters_root, enters, passes, leaves, Meets, at_first, on_the_way, Ended, Ends}
+use Rattle.kmip_ttlv_items.specs.ItemWalks.{type_at, content_at, own_size, has_length, HasType, IsWhole, Misfits, RootMisfits, WalksTo, enters_root, enters}
+use Rattle.kmip_ttlv_items.specs.ItemWalks.{passes, leaves, Meets, at_first, on_the_way, Ended, Ends}
 use Rattle.kmip_ttlv_items.proofs.Spans.{size_least, own_least, own_leaf}
 use Rattle.kmip_ttlv_items.proofs.Steps.{IsNested}
 use Rattle.kmip_ttlv_items.proofs.Walks.{walked, ended_whole, ended_at_root, ended_inside, ended_behind}
@@ -34,12 +38,27 @@ Judged : List ℕ → ℕ → ℕ → ℕ → Type 0
 Judged w p e depth = ((i : FoundItem) × IsWhole w p e depth i) ⊎ ((kind : FaultKind) × Misfits w p e kind)
 
 module _ (w : List ℕ) (p e depth : ℕ) where
-  whole_item : (t : TtlvType) → type_at w p ≡ Some t → p + size t (length_at w p) ≤ e → p + own_size t (length_at w p) ≤ length w → (t ≢ Structure → is_valid t (content_at w p) ≡ true) → Judged w p e depth
+  whole_item : (t : TtlvType) → type_at w p ≡ Some t → p + size t (length_at w p) ≤ e → p + own_size t (length_at w p) ≤ length w
+      → (t ≢ Structure → is_valid t (content_at w p) ≡ true) → Judged w p e depth
   unfolding Judged
   whole_item t is fits there valid =
-      inl (item p depth (tag_at w p) t (length_at w p), record { offset = refl; deep = refl; tag = refl; typ = is; len = refl; fits = fits; there = there; valid = valid })
+      inl (
+        item p depth (tag_at w p) t (length_at w p),
+        record {
+          offset = refl;
+          deep = refl;
+          tag = refl;
+          typ = is;
+          len = refl;
+          fits = fits;
+          there =
+              there;
+          valid = valid;
+        },
+      )
 
-  judged_content : (t : TtlvType) → HasType w p e t → has_length (fixed_length t) (length_at w p) ≡ true → p + size t (length_at w p) ≤ e → p + own_size t (length_at w p) ≤ length w → t ≢ Structure → (b : Bool) → is_valid t (content_at w p) ≡ b → Judged w p e depth
+  judged_content : (t : TtlvType) → HasType w p e t → has_length (fixed_length t) (length_at w p) ≡ true → p + size t (length_at w p) ≤ e
+      → p + own_size t (length_at w p) ≤ length w → t ≢ Structure → (b : Bool) → is_valid t (content_at w p) ≡ b → Judged w p e depth
   unfolding Judged
   judged_content t has long fits there leaf true valid = whole_item t has.typ fits there (λ _. valid)
   judged_content t has long fits there leaf false valid = inr (InvalidValue, (t, has, long, fits, there, leaf, valid))
@@ -85,7 +104,21 @@ module _ (w : List ℕ) where
   root_structure : HasType w 0 (length w) Structure → RootJudged w
   unfolding RootJudged
   root_structure has =
-      inr (item 0 0 (tag_at w 0) Structure (length_at w 0), record { offset = refl; deep = refl; tag = refl; typ = has.typ; len = refl; fits = omega arith; there = has.read; valid = λ leaf. absurd (leaf refl) }, refl)
+      inr (
+        item 0 0 (tag_at w 0) Structure (length_at w 0),
+        record {
+          offset = refl;
+          deep = refl;
+          tag = refl;
+          typ = has.typ;
+          len = refl;
+          fits =
+              omega arith;
+          there = has.read;
+          valid = λ leaf. absurd (leaf refl);
+        },
+        refl,
+      )
 
   root_type : 8 ≤ length w → (t : Option TtlvType) → type_at w 0 ≡ t → RootJudged w
   unfolding RootJudged
@@ -105,14 +138,20 @@ module _ (w : List ℕ) where
   at_end xs fault h = record { more = []; fault = fault; ended = subst (λ (s : List FoundItem). Ended w s fault) (sym (append-nil xs)) h }
 
   one_on : (xs : List FoundItem) (i : FoundItem) → Ends w (xs ++ (i ∷ [])) → Ends w xs
-  one_on xs i h = record { more = i ∷ h.more; fault = h.fault; ended = subst (λ (s : List FoundItem). Ended w s h.fault) (append_assoc xs (i ∷ []) h.more) h.ended }
+  one_on xs i h = record {
+    more = i ∷ h.more;
+    fault = h.fault;
+    ended = subst (λ (s : List FoundItem). Ended w s h.fault)
+        (append_assoc xs (i ∷ []) h.more) h.ended;
+  }
 
   -- what decreases: the bytes that are left, and the open structures
   left : ℕ → List ℕ → ℕ
   left p es = 2 * (length w - p) + length es
 
   -- if an item is next, and every walk with less left ends, so does this one
-  ends_inside : (p e : ℕ) (es : List ℕ) (xs : List FoundItem) → WalksTo w p (e ∷ es) xs → p ≢ e → ((q : ℕ) (fs : List ℕ) (ys : List FoundItem) → left q fs < left p (e ∷ es) → WalksTo w q fs ys → Ends w ys) → Ends w xs
+  ends_inside : (p e : ℕ) (es : List ℕ) (xs : List FoundItem) → WalksTo w p (e ∷ es) xs → p ≢ e
+      → ((q : ℕ) (fs : List ℕ) (ys : List FoundItem) → left q fs < left p (e ∷ es) → WalksTo w q fs ys → Ends w ys) → Ends w xs
   unfolding left Judged
   ends_inside p e es xs walks ne further = by (judged w p e (length (e ∷ es)))
     where
@@ -122,8 +161,11 @@ module _ (w : List ℕ) where
       met : (i : FoundItem) → IsWhole w p e (length (e ∷ es)) i → Ends w (xs ++ (i ∷ []))
       met i whole =
           elim (node_or_leaf i.typ) [
-            | inl node ↦ further (p + 8) ((p + size i.typ i.length) ∷ e ∷ es) (xs ++ (i ∷ [])) (omega (arith, whole.there, own_least i.typ i.length)) (enters p (p + 8) e (p + size i.typ i.length) es xs i walks whole node refl refl)
-            | inr leaf ↦ further (p + size i.typ i.length) (e ∷ es) (xs ++ (i ∷ [])) (omega (arith, whole.there, own_leaf i.typ i.length leaf, size_least i.typ i.length)) (passes p (p + size i.typ i.length) e es xs i walks whole leaf refl)
+            | inl node ↦ further (p + 8) ((p + size i.typ i.length) ∷ e ∷ es) (xs ++ (i ∷ [])) (omega (arith, whole.there, own_least i.typ i.length))
+                (enters p (p + 8) e (p + size i.typ i.length) es xs i walks whole node refl refl)
+            | inr leaf ↦ further (p + size i.typ i.length) (e ∷ es) (xs ++ (i ∷ []))
+                (omega (arith, whole.there, own_leaf i.typ i.length leaf, size_least i.typ i.length))
+                (passes p (p + size i.typ i.length) e es xs i walks whole leaf refl)
           ]
 
       by : Judged w p e (length (e ∷ es)) → Ends w xs
@@ -135,7 +177,11 @@ module _ (w : List ℕ) where
     ends_by : (n : ℕ) (p : ℕ) (es : List ℕ) (xs : List FoundItem) → left p es ≤ n → WalksTo w p es xs → Ends w xs
     unfolding left
     ends_by n p [] xs few walks =
-        elim (cases_lt p (length w)) [ inl lt ↦ at_end xs (Some record { offset = p; kind = Surplus }) (ended_behind w p xs walks lt) | inr le ↦ at_end xs None (ended_whole w plain p xs walks le) ]
+        elim (cases_lt p (length w)) [
+          | inl lt ↦ at_end xs (Some record { offset = p; kind = Surplus }) (ended_behind w p xs walks lt)
+          | inr le ↦
+              at_end xs None (ended_whole w plain p xs walks le)
+        ]
     ends_by zero p (e ∷ es) xs few walks = absurd (omega (arith, few))
     ends_by (suc n) p (e ∷ es) xs few walks =
         elim (cases_eq p e) [
@@ -151,7 +197,8 @@ module _ (w : List ℕ) where
     ends_first =
         elim (root_judged w) [
           | inl wrong ↦ at_end [] (Some record { offset = 0; kind = wrong.0 }) (ended_at_root w wrong.0 wrong.1)
-          | inr root ↦ one_on [] root.0 (ends_walking 8 (size root.0.typ root.0.length ∷ []) (root.0 ∷ []) (enters_root 8 (size root.0.typ root.0.length) root.0 root.1 root.2 refl refl))
+          | inr root ↦ one_on [] root.0 (ends_walking 8 (size root.0.typ root.0.length ∷ []) (root.0 ∷ [])
+              (enters_root 8 (size root.0.typ root.0.length) root.0 root.1 root.2 refl refl))
         ]
 
     -- every walk ends

@@ -1,5 +1,6 @@
 -- The first of the trees that are encoded from an offset to an end.
-use Rattle.std.proofs.Common.{◌≡◌, ◌≢◌, ℕ, ◌+◌, ◌-◌, ◌<◌, ◌≤◌, true, List, ◌++◌, length, get_or, take, drop, Some, ap, sym, refl, subst, ◌∙◌, arith, append_assoc, length-append}
+use Rattle.std.proofs.Common.{◌≡◌, ◌≢◌, ℕ, ◌+◌, ◌-◌, ◌<◌, ◌≤◌, true, List, ◌++◌, length, get_or, take, drop, Some, ap, sym, refl, subst, ◌∙◌, arith}
+use Rattle.std.proofs.Common.{append_assoc, length-append}
 use Rattle.std.proofs.Math.Seq.{take-add}
 use Rattle.std.proofs.lemmas.List.{drop_at, take_at, drop-drop, length-drop, length-take-le, take-append-drop}
 use Rattle.kmip_ttlv_types.specs.declared.typ.TtlvType.{TtlvType}
@@ -19,21 +20,27 @@ TreesAt w p e ts = AreTreeTexts ts (take (e - p) (drop p w))
 
 -- the first of them is a leaf, or a structure with trees in it; and the others follow it
 pub data Lead (w : List ℕ) (p e : ℕ) (ts : Trees) : Type 0 where
-  leaf_first : (typ : TtlvType) (more : Trees) → type_at w p ≡ Some typ → typ ≢ Structure → is_valid typ (content_at w p) ≡ true → length (content_at w p) ≡ length_at w p → p + size typ (length_at w p) ≤ e
+  leaf_first : (typ : TtlvType) (more : Trees) → type_at w p ≡ Some typ → typ ≢ Structure → is_valid typ (content_at w p) ≡ true
+      → length (content_at w p) ≡ length_at w p → p + size typ (length_at w p) ≤ e
       → ts ≡ tree (leaf (tag_at w p) typ (content_at w p)) more → TreesAt w (p + size typ (length_at w p)) e more → Lead w p e ts
   node_first : (below more : Trees) → type_at w p ≡ Some Structure → p + size Structure (length_at w p) ≤ e
-      → ts ≡ tree (node (tag_at w p) below) more → TreesAt w (p + 8) (p + 8 + length_at w p) below → TreesAt w (p + size Structure (length_at w p)) e more → Lead w p e ts
+      → ts ≡ tree (node (tag_at w p) below) more → TreesAt w (p + 8) (p + 8 + length_at w p) below → TreesAt w (p + size Structure (length_at w p)) e more
+      → Lead w p e ts
 
 -- an encoding that others follow, with the bytes after it
 split_rest : (w : List ℕ) (p e : ℕ) (text rest : List ℕ) → take (e - p) (drop p w) ≡ text ++ rest → drop p w ≡ text ++ (rest ++ drop (e - p) (drop p w))
-split_rest w p e text rest is = sym (take-append-drop (e - p) (drop p w)) ∙ ap (λ (s : List ℕ). s ++ drop (e - p) (drop p w)) is ∙ append_assoc text rest (drop (e - p) (drop p w))
+split_rest w p e text rest is = sym (take-append-drop (e - p) (drop p w)) ∙ ap (λ (s : List ℕ). s ++ drop (e - p) (drop p w)) is
+    ∙ append_assoc text rest (drop (e - p) (drop p w))
 
 -- what follows it
-rest_at : (w : List ℕ) (p e q : ℕ) (text rest : List ℕ) → p ≤ e → e ≤ length w → take (e - p) (drop p w) ≡ text ++ rest → q ≡ p + length text → rest ≡ take (e - q) (drop q w)
+rest_at : (w : List ℕ) (p e q : ℕ) (text rest : List ℕ) → p ≤ e → e ≤ length w → take (e - p) (drop p w) ≡ text ++ rest → q ≡ p + length text
+    → rest ≡ take (e - q) (drop q w)
 rest_at w p e q text rest le within is q-is =
-    let both : e - p ≡ length text + length rest = sym (length-take-le (e - p) (drop p w) (omega (arith, length-drop p w))) ∙ ap length is ∙ length-append text rest in
+    let both : e - p ≡ length text + length rest = sym (length-take-le (e - p) (drop p w) (omega (arith, length-drop p w))) ∙ ap length is
+    ∙ length-append text rest in
     let here = split_rest w p e text rest is in
-    let behind : drop q w ≡ rest ++ drop (e - p) (drop p w) = ap (λ (n : ℕ). drop n w) q-is ∙ sym (drop-drop (length text) p w) ∙ ap (drop (length text)) here ∙ drop_at text (rest ++ drop (e - p) (drop p w)) (length text) refl in
+    let behind : drop q w ≡ rest ++ drop (e - p) (drop p w) = ap (λ (n : ℕ). drop n w) q-is ∙ sym (drop-drop (length text) p w) ∙ ap (drop (length text)) here
+    ∙ drop_at text (rest ++ drop (e - p) (drop p w)) (length text) refl in
     let n : e - q ≡ length rest = omega arith in
     sym (ap (λ (m : ℕ). take m (drop q w)) n ∙ ap (take (length rest)) behind ∙ take_at rest (drop (e - p) (drop p w)) (length rest) refl)
 
@@ -42,24 +49,29 @@ type_there : (w : List ℕ) (p : ℕ) (x : Raw) → ItemAt w p x → type_at w p
 type_there w p x item = ap type_of (sym item.typ) ∙ type_of-code x.typ
 
 module _ (w : List ℕ) (p e : ℕ) (le : p ≤ e) (within : e ≤ length w) where
-  first_leaf : (tag : ℕ) (typ : TtlvType) (content text rest : List ℕ) (more : Trees) → take (e - p) (drop p w) ≡ text ++ rest → IsTreeText (leaf tag typ content) text → AreTreeTexts more rest → Lead w p e (tree (leaf tag typ content) more)
+  first_leaf : (tag : ℕ) (typ : TtlvType) (content text rest : List ℕ) (more : Trees) → take (e - p) (drop p w) ≡ text ++ rest
+      → IsTreeText (leaf tag typ content) text → AreTreeTexts more rest → Lead w p e (tree (leaf tag typ content) more)
   first_leaf tag typ content text rest more is h others =
       let x = raw_with tag typ content in
       let item = item_at_text w p x text (rest ++ drop (e - p) (drop p w)) (omega arith) (split_rest w p e text rest is) h.1 in
       let long : length text ≡ size typ (length_at w p) = text_length x text h.1 ∙ ap (size typ) item.len in
-      let both : e - p ≡ length text + length rest = sym (length-take-le (e - p) (drop p w) (omega (arith, length-drop p w))) ∙ ap length is ∙ length-append text rest in
+      let both : e - p ≡ length text + length rest = sym (length-take-le (e - p) (drop p w) (omega (arith, length-drop p w))) ∙ ap length is
+      ∙ length-append text rest in
       let q-is : p + size typ (length_at w p) ≡ p + length text = ap (λ (n : ℕ). p + n) (sym long) in
       let same : tree (leaf tag typ content) more ≡ tree (leaf (tag_at w p) typ (content_at w p)) more =
       ap (λ (m : ℕ). tree (leaf m typ content) more) item.tag ∙ ap (λ (c : List ℕ). tree (leaf (tag_at w p) typ c) more) item.content in
-      leaf_first typ more (type_there w p x item) (leaf_not typ content h.0) (ap (is_valid typ) (sym item.content) ∙ h.0) (ap length (sym item.content) ∙ item.len) (omega arith) same
+      leaf_first typ more (type_there w p x item) (leaf_not typ content h.0) (ap (is_valid typ) (sym item.content) ∙ h.0) (ap length (sym item.content)
+      ∙ item.len) (omega arith) same
       (subst (AreTreeTexts more) (rest_at w p e (p + size typ (length_at w p)) text rest le within is q-is) others)
 
-  first_node : (tag : ℕ) (below more : Trees) (text rest : List ℕ) → take (e - p) (drop p w) ≡ text ++ rest → IsTreeText (node tag below) text → AreTreeTexts more rest → Lead w p e (tree (node tag below) more)
+  first_node : (tag : ℕ) (below more : Trees) (text rest : List ℕ) → take (e - p) (drop p w) ≡ text ++ rest → IsTreeText (node tag below) text
+      → AreTreeTexts more rest → Lead w p e (tree (node tag below) more)
   first_node tag below more text rest is h others =
       let x = raw_with tag Structure h.0 in
       let item = item_at_text w p x text (rest ++ drop (e - p) (drop p w)) (omega arith) (split_rest w p e text rest is) h.1 in
       let long : length text ≡ size Structure (length_at w p) = text_length x text h.1 ∙ ap (size Structure) item.len in
-      let both : e - p ≡ length text + length rest = sym (length-take-le (e - p) (drop p w) (omega (arith, length-drop p w))) ∙ ap length is ∙ length-append text rest in
+      let both : e - p ≡ length text + length rest = sym (length-take-le (e - p) (drop p w) (omega (arith, length-drop p w))) ∙ ap length is
+      ∙ length-append text rest in
       let q-is : p + size Structure (length_at w p) ≡ p + length text = ap (λ (n : ℕ). p + n) (sym long) in
       let n : p + 8 + length_at w p - (p + 8) ≡ length_at w p = omega arith in
       let inner : h.0 ≡ take (p + 8 + length_at w p - (p + 8)) (drop (p + 8) w) = item.content ∙ ap (λ (m : ℕ). take m (drop (p + 8) w)) (sym n) in
@@ -77,7 +89,8 @@ module _ (w : List ℕ) (p e : ℕ) (le : p ≤ e) (within : e ≤ length w) whe
   parts_at : (s : ℕ) → p + s ≤ e → take (e - p) (drop p w) ≡ take s (drop p w) ++ take (e - (p + s)) (drop (p + s) w)
   parts_at s fits =
       let sum : e - p ≡ s + (e - (p + s)) = omega arith in
-      ap (λ (n : ℕ). take n (drop p w)) sum ∙ take-add s (e - (p + s)) (drop p w) ∙ ap (λ (r : List ℕ). take s (drop p w) ++ take (e - (p + s)) r) (drop-drop s p w)
+      ap (λ (n : ℕ). take n (drop p w)) sum ∙ take-add s (e - (p + s)) (drop p w) ∙ ap (λ (r : List ℕ). take s (drop p w) ++ take (e - (p + s)) r)
+      (drop-drop s p w)
 
   module _ (plain : (i : ℕ) → get_or w i 0 < 256) where
     -- the item at an offset
@@ -94,15 +107,28 @@ module _ (w : List ℕ) (p e : ℕ) (le : p ≤ e) (within : e ≤ length w) whe
         }
 
     -- a leaf before trees
-    pub leaf_before : (typ : TtlvType) (more : Trees) → type_at w p ≡ Some typ → is_valid typ (content_at w p) ≡ true → p + size typ (length_at w p) ≤ e → TreesAt w (p + size typ (length_at w p)) e more → TreesAt w p e (tree (leaf (tag_at w p) typ (content_at w p)) more)
+    pub leaf_before : (typ : TtlvType) (more : Trees) → type_at w p ≡ Some typ → is_valid typ (content_at w p) ≡ true → p + size typ (length_at w p) ≤ e
+        → TreesAt w (p + size typ (length_at w p)) e more → TreesAt w p e (tree (leaf (tag_at w p) typ (content_at w p)) more)
     leaf_before typ more is valid fits others =
-        let s = size typ (length_at w p) in
-        (take s (drop p w), take (e - (p + s)) (drop (p + s) w), parts_at s fits, (valid, text_at_item w p (raw_with (tag_at w p) typ (content_at w p)) (item_here typ is fits)), others)
+        let s = size typ (length_at w p) in (
+          take s (drop p w),
+          take (e - (p + s)) (drop (p + s) w),
+          parts_at s fits,
+          (valid, text_at_item w p (raw_with (tag_at w p) typ (content_at w p)) (item_here typ is fits)),
+          others,
+        )
 
     -- a structure before trees
-    pub node_before : (below more : Trees) → type_at w p ≡ Some Structure → p + size Structure (length_at w p) ≤ e → TreesAt w (p + 8) (p + 8 + length_at w p) below → TreesAt w (p + size Structure (length_at w p)) e more → TreesAt w p e (tree (node (tag_at w p) below) more)
+    pub node_before : (below more : Trees) → type_at w p ≡ Some Structure → p + size Structure (length_at w p) ≤ e
+        → TreesAt w (p + 8) (p + 8 + length_at w p) below → TreesAt w (p + size Structure (length_at w p)) e more
+        → TreesAt w p e (tree (node (tag_at w p) below) more)
     node_before below more is fits inner others =
         let s = size Structure (length_at w p) in
         let n : p + 8 + length_at w p - (p + 8) ≡ length_at w p = omega arith in
-        let content : AreTreeTexts below (content_at w p) = subst (λ (m : ℕ). AreTreeTexts below (take m (drop (p + 8) w))) n inner in
-        (take s (drop p w), take (e - (p + s)) (drop (p + s) w), parts_at s fits, (content_at w p, text_at_item w p (raw_with (tag_at w p) Structure (content_at w p)) (item_here Structure is fits), content), others)
+        let content : AreTreeTexts below (content_at w p) = subst (λ (m : ℕ). AreTreeTexts below (take m (drop (p + 8) w))) n inner in (
+          take s (drop p w),
+          take (e - (p + s)) (drop (p + s) w),
+          parts_at s fits,
+          (content_at w p, text_at_item w p (raw_with (tag_at w p) Structure (content_at w p)) (item_here Structure is fits), content),
+          others,
+        )

@@ -1,8 +1,10 @@
 -- The lengths of encoded trees, and the codes of types.
-use Rattle.std.proofs.Common.{◌≡◌, ◌≢◌, ℕ, zero, suc, ◌+◌, ◌<◌, ◌≤◌, Bool, true, false, List, length, Some, None, ap, sym, refl, ◌∙◌, arith, length-append, ◌==◌, if◌then◌else◌}
+use Rattle.std.proofs.Common.{◌≡◌, ◌≢◌, ℕ, zero, suc, ◌+◌, ◌<◌, ◌≤◌, Bool, true, false, List, length, Some, None, ap, sym, refl, ◌∙◌, arith, length-append}
+use Rattle.std.proofs.Common.{◌==◌, if◌then◌else◌}
 use Rattle.std.proofs.lemmas.Bool.{ne_eqb}
 use Rattle.kmip_ttlv_types.specs.declared.typ.TtlvType.{TtlvType}
-use Rattle.kmip_ttlv_types.specs.declared.typ.TtlvType.TheVariants.{Structure, Integer, LongInteger, BigInteger, Enumeration, Boolean, TextString, ByteString, DateTime, Interval}
+use Rattle.kmip_ttlv_types.specs.declared.typ.TtlvType.TheVariants.{Structure, Integer, LongInteger, BigInteger, Enumeration, Boolean, TextString, ByteString}
+use Rattle.kmip_ttlv_types.specs.declared.typ.TtlvType.TheVariants.{DateTime, Interval}
 use Rattle.kmip_ttlv_types.specs.ItemTypes.{code, type_of, fixed_length}
 use Rattle.kmip_ttlv_types.specs.Leaves.{is_valid}
 use Rattle.kmip_ttlv_types.specs.Places.{size}
@@ -28,7 +30,18 @@ span_least (leaf tag typ content) = omega arith
 span_least (node tag below) = omega arith
 
 no_type : (n : ℕ) → 10 < n → type_of n ≡ None
-no_type n lt = rw (ne_eqb n 1 (omega arith), ne_eqb n 2 (omega arith), ne_eqb n 3 (omega arith), ne_eqb n 4 (omega arith), ne_eqb n 5 (omega arith), ne_eqb n 6 (omega arith), ne_eqb n 7 (omega arith), ne_eqb n 8 (omega arith), ne_eqb n 9 (omega arith), ne_eqb n 10 (omega arith)) refl
+no_type n lt = rw (
+  ne_eqb n 1 (omega arith),
+  ne_eqb n 2 (omega arith),
+  ne_eqb n 3 (omega arith),
+  ne_eqb n 4 (omega arith),
+  ne_eqb n 5 (omega arith),
+  ne_eqb n 6 (omega arith),
+  ne_eqb n 7 (omega arith),
+  ne_eqb n 8 (omega arith),
+  ne_eqb n 9 (omega arith),
+  ne_eqb n 10 (omega arith),
+) refl
 
 -- the code of a type is the code that it was read from
 pub code_is : (n : ℕ) (t : TtlvType) → type_of n ≡ Some t → code t ≡ n
@@ -43,7 +56,8 @@ code_is (suc (suc (suc (suc (suc (suc (suc zero))))))) t e = let k : TextString 
 code_is (suc (suc (suc (suc (suc (suc (suc (suc zero)))))))) t e = let k : ByteString ≡ t = cc in ap code (sym k)
 code_is (suc (suc (suc (suc (suc (suc (suc (suc (suc zero))))))))) t e = let k : DateTime ≡ t = cc in ap code (sym k)
 code_is (suc (suc (suc (suc (suc (suc (suc (suc (suc (suc zero)))))))))) t e = let k : Interval ≡ t = cc in ap code (sym k)
-code_is (suc (suc (suc (suc (suc (suc (suc (suc (suc (suc (suc n))))))))))) t e = let k = no_type (suc (suc (suc (suc (suc (suc (suc (suc (suc (suc (suc n))))))))))) (omega arith) in absurd cc
+code_is (suc (suc (suc (suc (suc (suc (suc (suc (suc (suc (suc n))))))))))) t e = let k =
+    no_type (suc (suc (suc (suc (suc (suc (suc (suc (suc (suc (suc n))))))))))) (omega arith) in absurd cc
 
 -- a valid value has a length that its type allows
 pub valid_length : (t : TtlvType) (content : List ℕ) → is_valid t content ≡ true → has_length (fixed_length t) (length content) ≡ true

@@ -1,12 +1,7 @@
 -- The items that a walk stored, how the ends of structures are nested, and what is wrong with a value.
-use Rattle.std.proofs.Common.{◌≡◌, inr, ℕ, suc, ◌+◌, ◌≤◌, Some, List, [], ◌∷◌, ◌++◌, length, map, set, ap, sym, refl, ◌∙◌, arith}
+use Rattle.std.proofs.Common.{◌≡◌, ℕ, suc, ◌+◌, ◌≤◌, List, [], ◌∷◌, ◌++◌, length, map, set, ap, sym, refl, ◌∙◌, arith}
 use Rattle.std.proofs.lemmas.List.{map-append}
-use Rattle.kmip_ttlv_types.specs.declared.typ.TtlvType.{TtlvType}
-use Rattle.kmip_ttlv_types.specs.Places.{length_at, size}
-use Rattle.kmip_ttlv_items.specs.declared.found.FaultKind.{FaultKind}
-use Rattle.kmip_ttlv_items.specs.declared.found.FaultKind.TheVariants.{Cut, NoStructure, UnknownType, PartialHeader, WrongLength, Overlong, InvalidValue, Surplus}
-use Rattle.kmip_ttlv_items.specs.ItemWalks.{HasType, IsLengthOf, Misfits}
-use Rattle.kmip_ttlv_items.specs.WalkPlaces.{JudgesValue}
+use Rattle.kmip_ttlv_types.specs.Places.{length_at}
 use Rattle.kmip_ttlv_items.specs.declared.found.FoundItem.{FoundItem}
 use Rattle.kmip_ttlv_items.specs.FoundItems.{overlaid}
 
@@ -23,10 +18,13 @@ overlaid_more [] (y ∷ ys) x = ap (λ (s : List _). x ∷ s) (sym (overlaid_non
 overlaid_more (z ∷ xs) [] x = refl
 overlaid_more (z ∷ xs) (y ∷ ys) x = ap (λ (s : List _). z ∷ s) (overlaid_more xs ys x)
 
-pub keeps_more : {T : Type 0} (from_item : FoundItem → T) (found : List FoundItem) (i : FoundItem) (old out new : List T) (count : ℕ) → out ≡ overlaid (map from_item found) old → count ≡ length found → new ≡ set out count (from_item i) → new ≡ overlaid (map from_item (found ++ (i ∷ []))) old
+pub keeps_more : {T : Type 0} (from_item : FoundItem → T) (found : List FoundItem) (i : FoundItem) (old out new : List T) (count : ℕ)
+    → out ≡ overlaid (map from_item found) old → count ≡ length found → new ≡ set out count (from_item i)
+    → new ≡ overlaid (map from_item (found ++ (i ∷ []))) old
 keeps_more from_item found i old out new count converted counts is =
     let n : count ≡ length (map from_item found) = counts ∙ sym (length_map found) in
-    is ∙ ap (λ (s : List _). set s count (from_item i)) converted ∙ ap (λ (m : ℕ). set (overlaid (map from_item found) old) m (from_item i)) n ∙ overlaid_more (map from_item found) old (from_item i)
+    is ∙ ap (λ (s : List _). set s count (from_item i)) converted ∙ ap (λ (m : ℕ). set (overlaid (map from_item found) old) m (from_item i)) n
+    ∙ overlaid_more (map from_item found) old (from_item i)
     ∙ ap (λ (s : List _). overlaid s old) (sym (map-append from_item found (i ∷ [])))
   where
     length_map : (xs : List FoundItem) → length (map from_item xs) ≡ length xs
@@ -41,14 +39,3 @@ IsNested w p (e ∷ es) = (p ≤ e) × IsNested w e es
 pub nested_within : (w : List ℕ) (p : ℕ) (es : List ℕ) → IsNested w p es → p ≤ 8 + length_at w 0
 nested_within w p [] h = omega (arith, h)
 nested_within w p (e ∷ es) h = omega (arith, h.0, nested_within w e es h.1)
-
--- what is wrong with the value of an item that passes no end
-pub value_misfits : (w : List ℕ) (p e : ℕ) (t : TtlvType) → HasType w p e t → IsLengthOf t (length_at w p) → p + size t (length_at w p) ≤ e → (kind : FaultKind) → JudgesValue w p t (Some kind) → Misfits w p e kind
-value_misfits w p e t has long fits Cut cut = inr (record { typ = t; has = has; long = long; fits = fits; cut = cut })
-value_misfits w p e t has long fits InvalidValue wrong = (t, has, long, fits, wrong.0, wrong.1, wrong.2)
-value_misfits w p e t has long fits NoStructure wrong = absurd wrong
-value_misfits w p e t has long fits UnknownType wrong = absurd wrong
-value_misfits w p e t has long fits PartialHeader wrong = absurd wrong
-value_misfits w p e t has long fits WrongLength wrong = absurd wrong
-value_misfits w p e t has long fits Overlong wrong = absurd wrong
-value_misfits w p e t has long fits Surplus wrong = absurd wrong

@@ -1,6 +1,7 @@
 -- What is known of every walk: where it is; that a message's items are those that it met and those that are
 -- left; and so how it ends.
-use Rattle.std.proofs.Common.{◌≡◌, ◌≢◌, ℕ, ◌+◌, ◌-◌, ◌*◌, ◌^◌, ◌<◌, ◌≤◌, Bool, true, false, List, [], ◌∷◌, ◌++◌, length, get_or, Some, None, ap, sym, refl, subst, ◌∙◌, arith, length-append, append-nil, append_assoc, ◌==◌, if◌then◌else◌}
+use Rattle.std.proofs.Common.{◌≡◌, ◌≢◌, ℕ, ◌+◌, ◌-◌, ◌*◌, ◌^◌, ◌<◌, ◌≤◌, Bool, true, false, List, [], ◌∷◌, ◌++◌, length, get_or, Some, None, ap, sym, refl}
+use Rattle.std.proofs.Common.{subst, ◌∙◌, arith, length-append, append-nil, append_assoc, ◌==◌, if◌then◌else◌}
 use Rattle.std.proofs.lemmas.Bool.{eqb-true, eqb-false}
 use Rattle.std.proofs.Math.Bridge.{le_prop}
 use Rattle.std.proofs.Math.Logic.{∥∥₁_elim, ∥∥₁_map}
@@ -12,7 +13,8 @@ use Rattle.kmip_ttlv_items.specs.declared.found.FoundItem.{FoundItem}
 use Rattle.kmip_ttlv_items.specs.declared.found.FaultKind.{FaultKind}
 use Rattle.kmip_ttlv_items.specs.declared.found.FaultKind.TheVariants.{Surplus}
 use Rattle.kmip_ttlv_items.specs.FoundItems.{Lists}
-use Rattle.kmip_ttlv_items.specs.ItemWalks.{type_at, content_at, own_size, IsWhole, Misfits, RootMisfits, WalksTo, enters_root, enters, passes, leaves, at_root, inside, behind, Meets, at_first, on_the_way, CanStand, Ended}
+use Rattle.kmip_ttlv_items.specs.ItemWalks.{type_at, content_at, own_size, IsWhole, Misfits, RootMisfits, WalksTo, enters_root, enters, passes, leaves, at_root}
+use Rattle.kmip_ttlv_items.specs.ItemWalks.{inside, behind, Meets, at_first, on_the_way, CanStand, Ended}
 use Rattle.kmip_ttlv_items.specs.WalkPlaces.{unreached, innermost, Continues, into_structure, past_leaf, IsDue, root, within, IsLeafTo, PassesLeaves}
 use Rattle.kmip_ttlv_items.proofs.Spans.{size_least, size_structure, own_least, own_leaf, leaf_not}
 use Rattle.kmip_ttlv_items.proofs.Lefts.{Goes, out_to, out_from, past_to, past_from, into_to, into_from, misfit, root_facts, root_misfit, root_to, root_from}
@@ -73,7 +75,8 @@ module _ (w : List ℕ) (plain : (k : ℕ) → get_or w k 0 < 256) where
   walked_from _ _ _ all exact (enters p q e f es xs i walks whole is at end) g =
       let h = walked w p (e ∷ es) xs walks in
       let lt : p < e = omega (arith, whole.fits, size_least i.typ i.length) in
-      walked_from p (e ∷ es) xs all exact walks (into_from w p e es xs all lt (omega (arith, exact, nested_within w e es h.nested.1)) plain i q f whole is at end g)
+      walked_from p (e ∷ es) xs all exact walks (into_from w p e es xs all lt (omega (arith, exact, nested_within w e es h.nested.1)) plain i q f whole
+      is at end g)
   walked_from _ _ _ all exact (passes p q e es xs i walks whole ne at) g =
       let h = walked w p (e ∷ es) xs walks in
       let lt : p < e = omega (arith, whole.fits, size_least i.typ i.length) in
@@ -107,10 +110,6 @@ pub first_of : (es : List ℕ) (e : ℕ) → Some e ≡ innermost es → (fs : L
 first_of [] e is = absurd cc
 first_of (x ∷ es) e is = let k : x ≡ e = cc in (es, ap (λ (y : ℕ). y ∷ es) k)
 
-pub none_of : (es : List ℕ) → None ≡ innermost es → es ≡ []
-none_of [] is = refl
-none_of (x ∷ es) is = absurd cc
-
 -- the first end that is not reached is not at this offset
 pub unreached_ne : (p : ℕ) (es : List ℕ) (e : ℕ) (fs : List ℕ) → unreached p es ≡ e ∷ fs → p ≢ e
 unreached_ne p [] e fs is = absurd cc
@@ -126,10 +125,14 @@ module _ (w : List ℕ) where
   ended_at_root kind wrong = (at_root refl refl wrong, λ all. root_misfit w all kind wrong)
 
   -- an item is not whole
-  pub ended_inside : (p e : ℕ) (es : List ℕ) (xs : List FoundItem) (kind : FaultKind) → WalksTo w p (e ∷ es) xs → p < e → Misfits w p e kind → Ended w xs (Some record { offset = p; kind = kind })
+  pub ended_inside : (p e : ℕ) (es : List ℕ) (xs : List FoundItem) (kind : FaultKind) → WalksTo w p (e ∷ es) xs → p < e → Misfits w p e kind
+      → Ended w xs (Some record { offset = p; kind = kind })
   ended_inside p e es xs kind walks lt wrong =
-      let h = walked w p (e ∷ es) xs walks in
-      (inside e es walks lt wrong, λ all l. misfit w p e es xs all lt (omega (arith, nested_within w e es h.nested.1, (root_facts w all l).1)) kind wrong (h.to all l))
+      let h = walked w p (e ∷ es) xs walks in (
+        inside e es walks lt wrong,
+        λ all l. misfit w p e es xs all lt (omega (arith, nested_within w e es h.nested.1, (root_facts w all l).1)) kind wrong
+            (h.to all l),
+      )
 
   -- more bytes follow the root
   pub ended_behind : (p : ℕ) (xs : List FoundItem) → WalksTo w p [] xs → p < length w → Ended w xs (Some record { offset = p; kind = Surplus })
@@ -172,7 +175,8 @@ module _ (w : List ℕ) where
   unreached_met p es xs lt m = on_the_way (unreached_walks p es xs (met_walks p es xs lt m))
 
   -- the next item is met, and the walk moves on
-  pub met_more : (p : ℕ) (es : List ℕ) (i : FoundItem) (q : ℕ) (fs : List ℕ) (xs : List FoundItem) → IsDue w p es i → Continues i es q fs → Meets w p es xs → Meets w q fs (xs ++ (i ∷ []))
+  pub met_more : (p : ℕ) (es : List ℕ) (i : FoundItem) (q : ℕ) (fs : List ℕ) (xs : List FoundItem) → IsDue w p es i → Continues i es q fs → Meets w p es xs
+      → Meets w q fs (xs ++ (i ∷ []))
   met_more p es i q fs xs (root first whole node small) goes m = by goes
     where
       met : (es ≡ []) × (xs ≡ [])
@@ -186,7 +190,8 @@ module _ (w : List ℕ) where
           let whole' : IsWhole w 0 end 0 i = subst (λ (e : ℕ). IsWhole w 0 e 0 i) (sym end-is) whole in
           let walks : WalksTo w q (end ∷ []) (i ∷ []) = enters_root q end i whole' node (omega (arith, at, whole.offset)) end-is in
           let is : fs ≡ end ∷ [] = ends ∙ ap (λ (s : List ℕ). end ∷ s) met.0 in
-          on_the_way (subst (λ (s : List ℕ). WalksTo w q s (xs ++ (i ∷ []))) (sym is) (subst (λ (s : List FoundItem). WalksTo w q (end ∷ []) (s ++ (i ∷ []))) (sym met.1) walks))
+          on_the_way (subst (λ (s : List ℕ). WalksTo w q s (xs ++ (i ∷ []))) (sym is) (subst (λ (s : List FoundItem). WalksTo w q (end ∷ []) (s ++ (i ∷ [])))
+          (sym met.1) walks))
   met_more p es i q fs xs (within e gs is some lt top whole) goes m = by goes
     where
       walks : WalksTo w p (e ∷ gs) xs
@@ -230,7 +235,14 @@ module _ (w : List ℕ) where
   -- and the walk gets further
   pub due_onward : (p : ℕ) (es : List ℕ) (i : FoundItem) (q : ℕ) (fs : List ℕ) → IsDue w p es i → Continues i es q fs → length w - q < length w - p
   due_onward p es i q fs due (into_structure node at ends) = omega (arith, at, (due_at p es i due).0, (due_at p es i due).1, own_least i.typ i.length)
-  due_onward p es i q fs due (past_leaf leaf at same) = omega (arith, at, (due_at p es i due).0, (due_at p es i due).1, own_leaf i.typ i.length leaf, size_least i.typ i.length)
+  due_onward p es i q fs due (past_leaf leaf at same) = omega (
+    arith,
+    at,
+    (due_at p es i due).0,
+    (due_at p es i due).1,
+    own_leaf i.typ i.length leaf,
+    size_least i.typ i.length,
+  )
 
   -- a walk in a structure is in front of its end
   pub stands_before : (p e : ℕ) (es fs : List ℕ) → fs ≡ e ∷ es → CanStand w p fs → (p ≤ e) × (p ≤ length w)
@@ -241,7 +253,8 @@ module _ (w : List ℕ) where
       by (xs, on_the_way walks) = let h = walked w p (e ∷ es) xs (subst (λ (s : List ℕ). WalksTo w p s xs) is walks) in (h.nested.0, h.here)
 
   -- a leaf is passed
-  passed_leaf : (p e stop q : ℕ) → stop ≤ e → stop ≤ length w → IsLeafTo w p stop q → (es : List ℕ) (xs : List FoundItem) → WalksTo w p (e ∷ es) xs → (i : FoundItem) × WalksTo w q (e ∷ es) (xs ++ (i ∷ []))
+  passed_leaf : (p e stop q : ℕ) → stop ≤ e → stop ≤ length w → IsLeafTo w p stop q → (es : List ℕ) (xs : List FoundItem) → WalksTo w p (e ∷ es) xs
+      → (i : FoundItem) × WalksTo w q (e ∷ es) (xs ++ (i ∷ []))
   passed_leaf p e stop q short there leaf es xs walks =
       let i : FoundItem = record { offset = p; depth = length (e ∷ es); tag = tag_at w p; typ = leaf.typ; length = length_at w p } in
       let ne : leaf.typ ≢ Structure = leaf_not leaf.typ (content_at w p) leaf.valid in
@@ -274,7 +287,8 @@ module _ (w : List ℕ) where
   }
 
   -- so a walk that is in this structure passes them
-  pub met_passed : (p q e : ℕ) (es fs : List ℕ) (xs : List FoundItem) → fs ≡ e ∷ es → PassesLeaves w e p q → Meets w p fs xs → (more : List FoundItem) × Meets w q fs (xs ++ more)
+  pub met_passed : (p q e : ℕ) (es fs : List ℕ) (xs : List FoundItem) → fs ≡ e ∷ es → PassesLeaves w e p q → Meets w p fs xs → (more : List FoundItem)
+      × Meets w q fs (xs ++ more)
   met_passed p q e es fs xs is passed (at_first _ none _) = let k : e ∷ es ≡ [] = sym is ∙ none in absurd cc
   met_passed p q e es fs xs is passed (on_the_way walks) =
       let h = passed.walks es xs (subst (λ (s : List ℕ). WalksTo w p s xs) is walks) in

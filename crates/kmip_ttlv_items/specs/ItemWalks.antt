@@ -124,20 +124,20 @@ CanStand bytes p es = ∥ ((xs : List FoundItem) × Meets bytes p es xs) ∥₁
 
 -- the fault at which a walk that has met these items stops: of the root, of an item in a structure, or of what
 -- follows the root
-pub data StepEnds (bytes : List ℕ) (xs : List FoundItem) (f : Fault) : Type 0 where
-  at_root : xs ≡ [] → f.offset ≡ 0 → RootMisfits bytes f.kind → StepEnds bytes xs f
+pub data StopsAt (bytes : List ℕ) (xs : List FoundItem) (f : Fault) : Type 0 where
+  at_root : xs ≡ [] → f.offset ≡ 0 → RootMisfits bytes f.kind → StopsAt bytes xs f
   inside :
       (e : ℕ) (es : List ℕ)
       → WalksTo bytes f.offset (e ∷ es) xs
       → f.offset < e
       → Misfits bytes f.offset e f.kind
-      → StepEnds bytes xs f
-  behind : WalksTo bytes f.offset [] xs → f.offset < length bytes → f.kind ≡ Surplus → StepEnds bytes xs f
+      → StopsAt bytes xs f
+  behind : WalksTo bytes f.offset [] xs → f.offset < length bytes → f.kind ≡ Surplus → StopsAt bytes xs f
 
 -- the bytes are one whole message with these items; or they are none, and a walk that met these items stops at this fault
 abbrev pub Ended : List ℕ → List FoundItem → Option Fault → Type 0
 Ended bytes xs None = Lists bytes xs
-Ended bytes xs (Some f) = StepEnds bytes xs f × ((all : List FoundItem) → Lists bytes all → ⊥)
+Ended bytes xs (Some f) = StopsAt bytes xs f × ((all : List FoundItem) → Lists bytes all → ⊥)
 
 -- what a walk returns: the items that it met, stored in some form in the caller's list, and how it ended
 pub record Finds {T : Type 0} (from_item : FoundItem → T) (bytes : List ℕ) (old new : List T) (r : WalkEnd) : Type 0 where

@@ -1,5 +1,6 @@
 -- JSON strings: what is escaped in texts, and that hexadecimal digits need no escape.
-use Rattle.std.proofs.Common.{◌≡◌, ◌∙◌, ℕ, zero, suc, ◌+◌, ◌/◌, ◌%◌, ◌<◌, ◌≤◌, List, [], ◌∷◌, ◌++◌, length, map, take, drop, get_or, if◌then◌else◌, inl, inr, refl, sym, ap, ap₂, arith, append-nil, map-id, IsUtf8}
+use Rattle.std.proofs.Common.{◌≡◌, ◌∙◌, ℕ, zero, suc, ◌+◌, ◌/◌, ◌%◌, ◌<◌, ◌≤◌, List, [], ◌∷◌, ◌++◌, length, map, take, drop, get_or, if◌then◌else◌, inl, inr}
+use Rattle.std.proofs.Common.{refl, sym, ap, ap₂, arith, append-nil, map-id, IsUtf8}
 use Rattle.std.specs.Prelude.{slice_index, flat_map, encode_utf8}
 use Rattle.std.specs.Str.{chars}
 use Rattle.std.proofs.lemmas.Bool.{cases_lt, lt-ltb, le-ltb}
@@ -16,7 +17,8 @@ escape_high : (xs : List ℕ) → ((k : ℕ) → k < length xs → 128 ≤ get_o
 escape_high [] h = refl
 escape_high (x ∷ xs) h =
     let high : 128 ≤ x = h 0 (omega arith) in
-    ap₂ (λ (a b : List ℕ). a ++ b) (escape_byte_plain x (λ e. omega arith) (λ e. omega arith) (omega arith)) (escape_high xs (λ k below. h (suc k) (omega arith)))
+    ap₂ (λ (a b : List ℕ). a ++ b) (escape_byte_plain x (λ e. omega arith) (λ e. omega arith) (omega arith))
+    (escape_high xs (λ k below. h (suc k) (omega arith)))
 
 -- a character
 char_is : (c : ℕ) → escape (encode c) ≡ char_text c
@@ -44,10 +46,12 @@ pub chars_more : (f : ℕ → List ℕ) (ys : List ℕ) (y : ℕ) → flat_map f
 chars_more f ys y = flat_map-append f ys (y ∷ []) ∙ ap (λ (s : List ℕ). flat_map f ys ++ s) (append-nil (f y))
 
 -- the characters so far, this one, and the others
-pub char_parts : (f : ℕ → List ℕ) (all seen : List ℕ) (x : ℕ) → map (λ c. c) seen ≡ take (length seen) all → length seen < length all → x ≡ get_or all (length seen) x → (flat_map f seen ++ f x) ++ flat_map f (drop (length seen + 1) all) ≡ flat_map f all
+pub char_parts : (f : ℕ → List ℕ) (all seen : List ℕ) (x : ℕ) → map (λ c. c) seen ≡ take (length seen) all → length seen < length all
+    → x ≡ get_or all (length seen) x → (flat_map f seen ++ f x) ++ flat_map f (drop (length seen + 1) all) ≡ flat_map f all
 char_parts f all seen x far lt is =
     let n = length seen in
-    let front : take (n + 1) all ≡ seen ++ (x ∷ []) = (take_at_read all n x lt).1 ∙ ap (λ (s : List ℕ). s ++ (get_or all n x ∷ [])) (sym far ∙ map-id seen) ∙ ap (λ (c : ℕ). seen ++ (c ∷ [])) (sym is) in
+    let front : take (n + 1) all ≡ seen ++ (x ∷ []) = (take_at_read all n x lt).1 ∙ ap (λ (s : List ℕ). s ++ (get_or all n x ∷ [])) (sym far ∙ map-id seen)
+    ∙ ap (λ (c : ℕ). seen ++ (c ∷ [])) (sym is) in
     ap (λ (s : List ℕ). s ++ flat_map f (drop (n + 1) all)) (sym (chars_more f seen x) ∙ ap (flat_map f) (sym front))
     ∙ sym (flat_map-append f (take (n + 1) all) (drop (n + 1) all)) ∙ ap (flat_map f) (take-append-drop (n + 1) all)
 

@@ -1,10 +1,12 @@
 -- The items that a walk finds, as the parts of a message's JSON.
-use Rattle.std.proofs.Common.{◌≡◌, ◌≢◌, ◌∙◌, inl, inr, ℕ, ◌+◌, ◌-◌, ◌==◌, Bool, true, false, ◌||◌, List, [], ◌∷◌, ◌++◌, take, drop, map, if◌then◌else◌, Option, Some, None, refl, sym, ap, subst, arith, append_assoc, append-nil}
+use Rattle.std.proofs.Common.{◌≡◌, ◌≢◌, ◌∙◌, inl, inr, ℕ, ◌+◌, ◌-◌, ◌==◌, Bool, true, false, ◌||◌, List, [], ◌∷◌, ◌++◌, take, drop, map, if◌then◌else◌, Option}
+use Rattle.std.proofs.Common.{Some, None, refl, sym, ap, subst, arith, append_assoc, append-nil}
 use Rattle.std.specs.Prelude.{codes, Result, Ok, Err, OnErr}
 use Rattle.std.proofs.lemmas.Bool.{cases_lt}
 use Rattle.std.proofs.lemmas.List.{get_or-take, get_or-drop, get_or_past, length-take}
 use Rattle.kmip_ttlv_types.specs.declared.typ.TtlvType.{TtlvType}
-use Rattle.kmip_ttlv_types.specs.declared.typ.TtlvType.TheVariants.{Structure, Integer, LongInteger, BigInteger, Enumeration, Boolean, TextString, ByteString, DateTime, Interval}
+use Rattle.kmip_ttlv_types.specs.declared.typ.TtlvType.TheVariants.{Structure, Integer, LongInteger, BigInteger, Enumeration, Boolean, TextString, ByteString}
+use Rattle.kmip_ttlv_types.specs.declared.typ.TtlvType.TheVariants.{DateTime, Interval}
 use Rattle.kmip_ttlv_types.specs.ItemTypes.{code}
 use Rattle.kmip_ttlv_types.specs.Places.{length_at}
 use Rattle.kmip_ttlv_items.specs.declared.found.FoundItem.{FoundItem}
@@ -14,7 +16,7 @@ use Rattle.kmip_ttlv_items.specs.ItemWalks.{content_at, Ended, Meets, at_first, 
 use Rattle.kmip_ttlv_items.proofs.Completes.{ends}
 use Rattle.kmip_ttlv_util.specs.Pieces.{SomeText}
 use Rattle.kmip_ttlv_write.specs.GivenItems.{Line, lines, line_of, given_of}
-use Rattle.kmip_ttlv_write.proofs.Uniques.{message_tells}
+use Rattle.kmip_ttlv_write.proofs.Uniques.{message_has_lines}
 use Rattle.kmip_ttlv_json.specs.declared.print.Spot.{Spot}
 use Rattle.kmip_ttlv_json.specs.Jsons.{json_line}
 use Rattle.kmip_ttlv_json.specs.Parts.{closes, is_inside, spot_after, gap, opening, value_text, value_part, item_part, kind, parts, spot_behind, first_spot}
@@ -35,14 +37,16 @@ leaf_part hidden DateTime content leaf = refl
 leaf_part hidden Interval content leaf = refl
 
 -- as the code takes it out of the bytes
-pub value_told : (hidden : Bool) (w : List ℕ) (i : FoundItem) → i.typ ≢ Structure → i.length ≡ length_at w i.offset
-    → value_text hidden i.typ (take (i.offset + 8 + i.length - (i.offset + 8)) (drop (i.offset + 8) w)) ++ codes "}" ≡ value_part hidden i.typ (content_at w i.offset)
-value_told hidden w i ne len =
+pub value_printed : (hidden : Bool) (w : List ℕ) (i : FoundItem) → i.typ ≢ Structure → i.length ≡ length_at w i.offset
+    → value_text hidden i.typ (take (i.offset + 8 + i.length - (i.offset + 8)) (drop (i.offset + 8) w)) ++ codes "}" ≡ value_part hidden i.typ
+    (content_at w i.offset)
+value_printed hidden w i ne len =
     let n : i.offset + 8 + i.length - (i.offset + 8) ≡ length_at w i.offset = omega (arith, len) in
     ap (λ (m : ℕ). value_text hidden i.typ (take m (drop (i.offset + 8) w)) ++ codes "}") n ∙ leaf_part hidden i.typ (content_at w i.offset) ne
 
 -- a structure's content is not looked at
-content_free : (hidden : Bool) (typ : TtlvType) (content : List ℕ) → value_part hidden typ (if code typ == 1 then [] else content) ≡ value_part hidden typ content
+content_free : (hidden : Bool) (typ : TtlvType) (content : List ℕ) → value_part hidden typ (if code typ == 1 then [] else content)
+    ≡ value_part hidden typ content
 content_free hidden Structure content = refl
 content_free hidden Integer content = refl
 content_free hidden LongInteger content = refl
@@ -80,59 +84,68 @@ lines_plain w plain (x ∷ xs) = (by (code x.typ == 1), lines_plain w plain xs)
 
 -- those of a message's tree
 tree_lines : (w : List ℕ) (xs : List FoundItem) (h : Lists w xs) → found_lines w xs ≡ lines 0 h.message
-tree_lines w xs h = ap (found_lines w) h.items ∙ (message_tells w h.message h.text).same
+tree_lines w xs h = ap (found_lines w) h.items ∙ (message_has_lines w h.message h.text).same
 
 pub tree_plain : (w : List ℕ) → ArePlain w → (xs : List FoundItem) (h : Lists w xs) → AllPlain (lines 0 h.message)
 tree_plain w plain xs h = subst AllPlain (tree_lines w xs h) (lines_plain w plain xs)
 
 module _ (secrets : ℕ → Bool) (hidden : Bool) where
-  parts_both : (s : Spot) (xs ys : List Line) → parts secrets hidden s (xs ++ ys) ≡ parts secrets hidden s xs ++ parts secrets hidden (spot_behind secrets s xs) ys
+  parts_both : (s : Spot) (xs ys : List Line) → parts secrets hidden s (xs ++ ys) ≡ parts secrets hidden s xs ++ parts secrets hidden
+      (spot_behind secrets s xs) ys
   parts_both s [] ys = refl
   parts_both s (l ∷ ls) ys =
       let t = spot_after secrets s l.depth l.tag (kind l.code) in
       let part = item_part secrets hidden s l.depth l.tag (kind l.code) l.content in
-      ap (λ (x : List ℕ). part ++ x) (parts_both t ls ys) ∙ sym (append_assoc part (parts secrets hidden t ls) (parts secrets hidden (spot_behind secrets t ls) ys))
+      ap (λ (x : List ℕ). part ++ x) (parts_both t ls ys)
+      ∙ sym (append_assoc part (parts secrets hidden t ls) (parts secrets hidden (spot_behind secrets t ls) ys))
 
   spot_both : (s : Spot) (xs ys : List Line) → spot_behind secrets s (xs ++ ys) ≡ spot_behind secrets (spot_behind secrets s xs) ys
   spot_both s [] ys = refl
   spot_both s (l ∷ ls) ys = spot_both (spot_after secrets s l.depth l.tag (kind l.code)) ls ys
 
   -- what is printed of an item
-  abbrev item_told : Spot → List ℕ → FoundItem → List ℕ
-  item_told s w i = gap s i.depth ++ (opening i.tag i.typ ++ value_part ((hidden || is_inside s.secret i.depth) || secrets i.tag) i.typ (content_at w i.offset))
+  abbrev item_printed : Spot → List ℕ → FoundItem → List ℕ
+  item_printed s w i = gap s i.depth ++ (opening i.tag i.typ ++ value_part ((hidden || is_inside s.secret i.depth) || secrets i.tag) i.typ (content_at w i.offset))
 
-  told_is : (s : Spot) (w : List ℕ) (i : FoundItem) → IsThere w i → parts secrets hidden s (found_lines w (i ∷ [])) ≡ item_told s w i
-  told_is s w i there =
+  printed_is : (s : Spot) (w : List ℕ) (i : FoundItem) → IsThere w i → parts secrets hidden s (found_lines w (i ∷ [])) ≡ item_printed s w i
+  printed_is s w i there =
       let hid = (hidden || is_inside s.secret i.depth) || secrets i.tag in
       let content = take i.length (drop (i.offset + 8) w) in
       append-nil _
       ∙ ap (λ (k : TtlvType). gap s i.depth ++ (opening i.tag k ++ value_part hid k (if code i.typ == 1 then [] else content))) (kind_code i.typ)
-      ∙ ap (λ (x : List ℕ). gap s i.depth ++ (opening i.tag i.typ ++ x)) (content_free hid i.typ content ∙ ap (λ (n : ℕ). value_part hid i.typ (take n (drop (i.offset + 8) w))) there.len)
+      ∙ ap (λ (x : List ℕ). gap s i.depth ++ (opening i.tag i.typ ++ x)) (content_free hid i.typ content
+      ∙ ap (λ (n : ℕ). value_part hid i.typ (take n (drop (i.offset + 8) w))) there.len)
 
   -- one more
   parts_more : (w : List ℕ) (xs : List FoundItem) (i : FoundItem) → IsThere w i
-      → parts secrets hidden first_spot (found_lines w xs) ++ item_told (spot_behind secrets first_spot (found_lines w xs)) w i ≡ parts secrets hidden first_spot (found_lines w (xs ++ (i ∷ [])))
+      → parts secrets hidden first_spot (found_lines w xs) ++ item_printed (spot_behind secrets first_spot (found_lines w xs)) w i
+      ≡ parts secrets hidden first_spot (found_lines w (xs ++ (i ∷ [])))
   parts_more w xs i there =
       let ls = found_lines w xs in
-      ap (λ (x : List ℕ). parts secrets hidden first_spot ls ++ x) (sym (told_is (spot_behind secrets first_spot ls) w i there))
+      ap (λ (x : List ℕ). parts secrets hidden first_spot ls ++ x) (sym (printed_is (spot_behind secrets first_spot ls) w i there))
       ∙ sym (parts_both first_spot ls (found_lines w (i ∷ []))) ∙ ap (parts secrets hidden first_spot) (sym (found_both w xs (i ∷ [])))
 
   -- as the code prints it
   pub one_more : (w : List ℕ) (xs : List FoundItem) (i : FoundItem) → IsThere w i → (s : Spot) (secret flag : Bool)
       → s ≡ spot_behind secrets first_spot (found_lines w xs) → secret ≡ secrets i.tag → flag ≡ ((hidden || is_inside s.secret i.depth) || secret)
-      → parts secrets hidden first_spot (found_lines w xs) ++ (gap s i.depth ++ (opening i.tag i.typ ++ value_part flag i.typ (content_at w i.offset))) ≡ parts secrets hidden first_spot (found_lines w (xs ++ (i ∷ [])))
-  one_more w xs i there s secret flag is told hid =
+      → parts secrets hidden first_spot (found_lines w xs) ++ (gap s i.depth ++ (opening i.tag i.typ ++ value_part flag i.typ (content_at w i.offset)))
+      ≡ parts secrets hidden first_spot (found_lines w (xs ++ (i ∷ [])))
+  one_more w xs i there s secret flag is printed_lines hid =
       let first = parts secrets hidden first_spot (found_lines w xs) in
-      ap (λ (b : Bool). first ++ (gap s i.depth ++ (opening i.tag i.typ ++ value_part b i.typ (content_at w i.offset)))) (hid ∙ ap (λ (b : Bool). (hidden || is_inside s.secret i.depth) || b) told)
-      ∙ ap (λ (t : Spot). first ++ item_told t w i) is ∙ parts_more w xs i there
+      ap (λ (b : Bool). first ++ (gap s i.depth ++ (opening i.tag i.typ ++ value_part b i.typ (content_at w i.offset)))) (hid
+      ∙ ap (λ (b : Bool). (hidden || is_inside s.secret i.depth) || b) printed_lines)
+      ∙ ap (λ (t : Spot). first ++ item_printed t w i) is ∙ parts_more w xs i there
 
-  pub spot_more : (w : List ℕ) (xs : List FoundItem) (i : FoundItem) → spot_after secrets (spot_behind secrets first_spot (found_lines w xs)) i.depth i.tag i.typ ≡ spot_behind secrets first_spot (found_lines w (xs ++ (i ∷ [])))
+  pub spot_more : (w : List ℕ) (xs : List FoundItem) (i : FoundItem) → spot_after secrets (spot_behind secrets first_spot (found_lines w xs)) i.depth i.tag
+      i.typ ≡ spot_behind secrets first_spot (found_lines w (xs ++ (i ∷ [])))
   spot_more w xs i =
       let s = spot_behind secrets first_spot (found_lines w xs) in
-      sym (ap (spot_behind secrets first_spot) (found_both w xs (i ∷ [])) ∙ spot_both first_spot (found_lines w xs) (found_lines w (i ∷ [])) ∙ ap (λ (k : TtlvType). spot_after secrets s i.depth i.tag k) (kind_code i.typ))
+      sym (ap (spot_behind secrets first_spot) (found_both w xs (i ∷ [])) ∙ spot_both first_spot (found_lines w xs) (found_lines w (i ∷ []))
+      ∙ ap (λ (k : TtlvType). spot_after secrets s i.depth i.tag k) (kind_code i.typ))
 
   -- all items of a message
-  line_is : (w : List ℕ) → ArePlain w → (xs : List FoundItem) (h : Lists w xs) → parts secrets hidden first_spot (found_lines w xs) ++ (closes (spot_behind secrets first_spot (found_lines w xs)).depth ++ 10 ∷ []) ≡ json_line secrets hidden h.message
+  line_is : (w : List ℕ) → ArePlain w → (xs : List FoundItem) (h : Lists w xs) → parts secrets hidden first_spot (found_lines w xs)
+      ++ (closes (spot_behind secrets first_spot (found_lines w xs)).depth ++ 10 ∷ []) ≡ json_line secrets hidden h.message
   line_is w plain xs h =
       let t = h.message in
       let all = found_lines w xs in
@@ -151,35 +164,40 @@ pub record Left (w : List ℕ) (xs : List FoundItem) : Type 0 where
   pub more : List FoundItem
   pub lists : Lists w (xs ++ more)
 
-pub left_over : (w v : List ℕ) → v ≡ w → ArePlain w → (some : List FoundItem) → Lists w some → (p : ℕ) (es : List ℕ) (xs : List FoundItem) → Meets v p es xs → Left w xs
+pub left_over : (w v : List ℕ) → v ≡ w → ArePlain w → (some : List FoundItem) → Lists w some → (p : ℕ) (es : List ℕ) (xs : List FoundItem) → Meets v p es xs
+    → Left w xs
 left_over w v is plain some lists p es xs met =
     let end : Ends w xs = ends w plain p es xs (subst (λ (s : List ℕ). Meets s p es xs) is met) in
     record { more = end.more; lists = no_fault w some lists (xs ++ end.more) end.fault end.ended }
 
 -- a beginning of the line, up to where some items were met
 module _ (secrets : ℕ → Bool) (hidden : Bool) (w : List ℕ) (plain : ArePlain w) (xs : List FoundItem) (left : Left w xs) where
-  abbrev pub rest_told : List ℕ
-  rest_told =
+  abbrev pub rest_printed : List ℕ
+  rest_printed =
       let all = found_lines w (xs ++ left.more) in
-      parts secrets hidden (spot_behind secrets first_spot (found_lines w xs)) (found_lines w left.more) ++ (closes (spot_behind secrets first_spot all).depth ++ 10 ∷ [])
+      parts secrets hidden (spot_behind secrets first_spot (found_lines w xs)) (found_lines w left.more)
+      ++ (closes (spot_behind secrets first_spot all).depth ++ 10 ∷ [])
 
-  begun : parts secrets hidden first_spot (found_lines w xs) ++ rest_told ≡ json_line secrets hidden left.lists.message
+  begun : parts secrets hidden first_spot (found_lines w xs) ++ rest_printed ≡ json_line secrets hidden left.lists.message
   begun =
       let all = found_lines w (xs ++ left.more) in
       let end = closes (spot_behind secrets first_spot all).depth ++ 10 ∷ [] in
       let first = parts secrets hidden first_spot (found_lines w xs) in
       let second = parts secrets hidden (spot_behind secrets first_spot (found_lines w xs)) (found_lines w left.more) in
       sym (append_assoc first second end)
-      ∙ ap (λ (x : List ℕ). x ++ end) (sym (ap (parts secrets hidden first_spot) (found_both w xs left.more) ∙ parts_both secrets hidden first_spot (found_lines w xs) (found_lines w left.more)))
+      ∙ ap (λ (x : List ℕ). x ++ end) (sym (ap (parts secrets hidden first_spot) (found_both w xs left.more)
+      ∙ parts_both secrets hidden first_spot (found_lines w xs) (found_lines w left.more)))
       ∙ line_is secrets hidden w plain (xs ++ left.more) left.lists
 
   -- and the line is printed of the message
-  pub begun_json : IsJson secrets hidden w (parts secrets hidden first_spot (found_lines w xs) ++ rest_told) None
+  pub begun_json : IsJson secrets hidden w (parts secrets hidden first_spot (found_lines w xs) ++ rest_printed) None
   begun_json = record { found = xs ++ left.more; ended = left.lists; is = begun }
 
 -- where a walk over a whole message ended, what is printed is its line
-pub json_is : (secrets : ℕ → Bool) (hidden : Bool) (w : List ℕ) → ArePlain w → (some : List FoundItem) → Lists w some → (xs : List FoundItem) (fault : Option Fault) → Ended w xs fault
-    → IsJson secrets hidden w (parts secrets hidden first_spot (found_lines w xs) ++ (closes (spot_behind secrets first_spot (found_lines w xs)).depth ++ 10 ∷ [])) fault
+pub json_is : (secrets : ℕ → Bool) (hidden : Bool) (w : List ℕ) → ArePlain w → (some : List FoundItem) → Lists w some
+    → (xs : List FoundItem) (fault : Option Fault) → Ended w xs fault
+    → IsJson secrets hidden w (parts secrets hidden first_spot (found_lines w xs) ++ (closes (spot_behind secrets first_spot (found_lines w xs)).depth
+    ++ 10 ∷ [])) fault
 json_is secrets hidden w plain some lists xs None ended = record { found = xs; ended = ended; is = line_is secrets hidden w plain xs ended }
 json_is secrets hidden w plain some lists xs (Some f) ended = absurd (ended.1 some lists)
 
@@ -198,6 +216,7 @@ err_holds (Ok x) P h = tt
 err_holds (Err e) P h = h
 
 -- a beginning of it was added
-pub broken_json : {X : Type 0} (breaks : X → List ℕ → X → Type 0) (secrets : ℕ → Bool) (hidden : Bool) (w : List ℕ) (a b : X) (text : List ℕ) (fault : Option Fault) → IsJson secrets hidden w text fault → breaks a text b
+pub broken_json : {X : Type 0} (breaks : X → List ℕ → X → Type 0) (secrets : ℕ → Bool) (hidden : Bool) (w : List ℕ) (a b : X) (text : List ℕ)
+    (fault : Option Fault) → IsJson secrets hidden w text fault → breaks a text b
     → SomeText (λ t. (fault : Option Fault) × IsJson secrets hidden w t fault) (λ t. breaks a t b)
 broken_json breaks secrets hidden w a b text fault is holds = record { text = text; is = (fault, is); holds = holds }

@@ -3,7 +3,7 @@ pub mod Escapes
 pub mod TreeTexts
 pub mod Found
 pub mod ReadBack
-pub mod Tells
+pub mod Determining
 pub mod ReadingBack
 pub mod Returning
 pub mod Sounding

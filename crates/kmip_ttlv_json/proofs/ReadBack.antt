@@ -1,5 +1,6 @@
 -- A message's JSON is read back from its text.
-use Rattle.std.proofs.Common.{◌≡◌, ◌∙◌, ℕ, suc, ◌≤◌, Bool, true, false, ◌||◌, List, [], Option, Some, option_map, option_and_then, refl, ap, ap₂, sym, arith, append-nil}
+use Rattle.std.proofs.Common.{◌≡◌, ◌∙◌, ℕ, suc, ◌≤◌, Bool, true, false, ◌||◌, List, [], Option, Some, option_map, option_and_then, refl, ap, ap₂, sym, arith}
+use Rattle.std.proofs.Common.{append-nil}
 use Rattle.std.specs.Prelude.{max, codes}
 use Rattle.std.specs.Int.{bytes_high_first}
 use Rattle.json.specs.Token.{Token}
@@ -15,7 +16,8 @@ use Rattle.serde_json.specs.Written.{compact_text, outline, items_outline}
 use Rattle.serde_json.proofs.OnLiterals.{serde_json_on_literals}
 use Rattle.serde_json.proofs.Texts.{print-outline}
 use Rattle.kmip_ttlv_types.specs.declared.typ.TtlvType.{TtlvType}
-use Rattle.kmip_ttlv_types.specs.declared.typ.TtlvType.TheVariants.{Structure, Integer, LongInteger, BigInteger, Enumeration, Boolean, TextString, ByteString, DateTime, Interval}
+use Rattle.kmip_ttlv_types.specs.declared.typ.TtlvType.TheVariants.{Structure, Integer, LongInteger, BigInteger, Enumeration, Boolean, TextString, ByteString}
+use Rattle.kmip_ttlv_types.specs.declared.typ.TtlvType.TheVariants.{DateTime, Interval}
 use Rattle.kmip_ttlv_types.specs.Trees.{Tree, Trees, leaf, node, no_trees}
 use Rattle.kmip_ttlv_types.specs.Trees as trees
 use Rattle.kmip_ttlv_json.specs.Jsons.{type_word, hex_text, value_json, item_json, tree_json, trees_json}
@@ -53,7 +55,8 @@ value_back false DateTime content = record { numbers = tt; shallow = refl; same 
 value_back false Interval content = record { numbers = tt; shallow = refl; same = refl }
 
 -- the members stand in the order of their keys
-put_all : (a b v : Data) → put (codes "value") v (put (codes "type") b (put (codes "tag") a no_members)) ≡ member (codes "tag") a (member (codes "type") b (member (codes "value") v no_members))
+put_all : (a b v : Data) → put (codes "value") v (put (codes "type") b (put (codes "tag") a no_members)) ≡ member (codes "tag") a
+    (member (codes "type") b (member (codes "value") v no_members))
 unfolding serde_json_on_literals
 put_all a b v = refl
 
@@ -97,4 +100,5 @@ tokens_are d back = ap tokens (sym (print-outline d)) ∙ tokens-print (json_tok
 pub text_back : (d : Data) → Back d → depth d ≤ max_depth → read (compact_text d) ≡ Some d
 text_back d back le =
     let j = outline d in
-    ap whole (ap (json.value max_depth) (tokens_are d back ∙ sym (append-nil (json_tokens j))) ∙ value-json_tokens j max_depth [] (omega (arith, back.shallow, le))) ∙ back.same
+    ap whole (ap (json.value max_depth) (tokens_are d back ∙ sym (append-nil (json_tokens j)))
+    ∙ value-json_tokens j max_depth [] (omega (arith, back.shallow, le))) ∙ back.same

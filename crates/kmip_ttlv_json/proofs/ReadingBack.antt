@@ -1,5 +1,6 @@
 -- JSON as trees, and the bytes that are made of them.
-use Rattle.std.proofs.Common.{◌≡◌, ◌∙◌, ℕ, zero, suc, ◌+◌, ◌-◌, ◌<◌, ◌≤◌, ◌^◌, true, List, [], ◌∷◌, ◌++◌, length, take, drop, get_or, replicate, Result, Ok, Err, refl, ap, sym, arith, append_assoc, length-append}
+use Rattle.std.proofs.Common.{◌≡◌, ◌∙◌, ℕ, zero, suc, ◌+◌, ◌-◌, ◌<◌, ◌≤◌, ◌^◌, true, List, [], ◌∷◌, ◌++◌, length, take, drop, get_or, replicate, Result, Ok}
+use Rattle.std.proofs.Common.{Err, refl, ap, sym, arith, append_assoc, length-append}
 use Rattle.std.proofs.lemmas.List.{take_at, drop_at}
 use Rattle.std.specs.Int.{w32, to_be_bytes}
 use Rattle.serde_json.specs.Data.{depth, items_depth}
@@ -16,7 +17,7 @@ use Rattle.kmip_ttlv_json.specs.declared.failure.BadMember.{BadMember}
 use Rattle.kmip_ttlv_json.specs.declared.failure.JsonError.{JsonError}
 use Rattle.kmip_ttlv_json.specs.declared.failure.JsonError.TheVariants.{NotJson, NotItem, NotStructure, TooLong, OutOfMemory}
 use Rattle.kmip_ttlv_json.specs.JsonTrees.{both}
-use Rattle.kmip_ttlv_json.specs.Readings.{Refuses, is_node}
+use Rattle.kmip_ttlv_json.specs.Readings.{Fails, is_node}
 
 -- ---- trees, one after the other
 
@@ -43,19 +44,22 @@ pub record Begun (whole rest : Result Trees BadMember) (old new : List ℕ) : Ty
   pub is : whole ≡ before done rest
   pub all : new ≡ old ++ bytes_below done
 
-pub begun_more : (whole rest : Result Trees BadMember) (old mid new : List ℕ) (t : Tree) → Begun whole (both (Ok t) rest) old mid → new ≡ mid ++ bytes t → Begun whole rest old new
+pub begun_more : (whole rest : Result Trees BadMember) (old mid new : List ℕ) (t : Tree) → Begun whole (both (Ok t) rest) old mid → new ≡ mid ++ bytes t
+    → Begun whole rest old new
 begun_more whole rest old mid new t b e = record {
   done = add_last b.done t;
   is = b.is ∙ sym (before_last b.done t rest);
-  all = e ∙ ap (λ (s : List ℕ). s ++ bytes t) b.all ∙ append_assoc old (bytes_below b.done) (bytes t) ∙ ap (λ (s : List ℕ). old ++ s) (sym (below_last b.done t));
+  all = e ∙ ap (λ (s : List ℕ). s ++ bytes t) b.all ∙ append_assoc old (bytes_below b.done) (bytes t)
+      ∙ ap (λ (s : List ℕ). old ++ s) (sym (below_last b.done t));
 }
 
-pub refuses_all : (whole rest : Result Trees BadMember) (one : Result Tree BadMember) (old new : List ℕ) (e : JsonError) → Begun whole (both one rest) old new → Refuses one e → Refuses whole e
-refuses_all whole rest one old new (NotItem bad) b h = b.is ∙ ap (λ (r : Result Tree BadMember). before b.done (both r rest)) h ∙ before_bad b.done bad
-refuses_all whole rest one old new OutOfMemory b h = tt
-refuses_all whole rest one old new (NotJson line column) b h = h
-refuses_all whole rest one old new NotStructure b h = h
-refuses_all whole rest one old new TooLong b h = h
+pub fails_all : (whole rest : Result Trees BadMember) (one : Result Tree BadMember) (old new : List ℕ) (e : JsonError) → Begun whole (both one rest) old new
+    → Fails one e → Fails whole e
+fails_all whole rest one old new (NotItem bad) b h = b.is ∙ ap (λ (r : Result Tree BadMember). before b.done (both r rest)) h ∙ before_bad b.done bad
+fails_all whole rest one old new OutOfMemory b h = tt
+fails_all whole rest one old new (NotJson line column) b h = h
+fails_all whole rest one old new NotStructure b h = h
+fails_all whole rest one old new TooLong b h = h
 
 -- an item of an array is no deeper than all of them
 pub item_deep : (vs : List Value) (i : ℕ) (d : Value) → i < length vs → depth (view (get_or vs i d)) ≤ items_depth (items_view vs)

@@ -1,5 +1,6 @@
 -- A message is read back from its line.
-use Rattle.std.proofs.Common.{◌≡◌, ◌∙◌, ℕ, suc, ◌+◌, ◌<◌, ◌≤◌, ◌^◌, ◌==◌, true, false, List, ◌∷◌, length, if◌then◌else◌, Some, None, option_map, option_and_then, Ok, refl, ap, sym, arith, length-append}
+use Rattle.std.proofs.Common.{◌≡◌, ◌∙◌, ℕ, suc, ◌+◌, ◌<◌, ◌≤◌, ◌^◌, ◌==◌, true, false, List, ◌∷◌, length, if◌then◌else◌, Some, None, option_map}
+use Rattle.std.proofs.Common.{option_and_then, Ok, refl, ap, sym, arith, length-append}
 use Rattle.std.specs.Prelude.{nat_lt}
 use Rattle.std.specs.Option.{ok_or}
 use Rattle.std.specs.Result.{result_ok}
@@ -12,7 +13,8 @@ use Rattle.serde_json.specs.Data.{Data, string, array, depth}
 use Rattle.serde_json.specs.Read.{max_depth}
 use Rattle.serde_json.specs.Written.{compact_text}
 use Rattle.kmip_ttlv_types.specs.declared.typ.TtlvType.{TtlvType}
-use Rattle.kmip_ttlv_types.specs.declared.typ.TtlvType.TheVariants.{Structure, Integer, LongInteger, BigInteger, Enumeration, Boolean, TextString, ByteString, DateTime, Interval}
+use Rattle.kmip_ttlv_types.specs.declared.typ.TtlvType.TheVariants.{Structure, Integer, LongInteger, BigInteger, Enumeration, Boolean, TextString, ByteString}
+use Rattle.kmip_ttlv_types.specs.declared.typ.TtlvType.TheVariants.{DateTime, Interval}
 use Rattle.kmip_ttlv_types.specs.Leaves.{is_valid}
 use Rattle.kmip_ttlv_types.proofs.PlaceLemmas.{raw_with, text_length}
 use Rattle.kmip_ttlv_types.specs.Trees.{Tree, Trees, leaf, node, no_trees, bytes, bytes_below, IsTreeText, AreTreeTexts, IsStructure, Fits}
@@ -23,14 +25,15 @@ use Rattle.kmip_ttlv_items.proofs.Spans.{leaf_not}
 use Rattle.kmip_ttlv_write.specs.GivenItems.{lines, lines_below}
 use Rattle.kmip_ttlv_write.proofs.Opens.{leaf_len, node_len, padding_is}
 use Rattle.kmip_ttlv_json.specs.Jsons.{type_word, hex_text, is_true, value_json, item_json, tree_json, trees_json}
-use Rattle.kmip_ttlv_json.specs.JsonTrees.{boolean_bytes, tag_in, type_in, content_in, valid_in, leaf_in, node_of, typed_in, tagged_in, both, tree_of, below_of, trees_of}
+use Rattle.kmip_ttlv_json.specs.JsonTrees.{boolean_bytes, tag_in, type_in, content_in, valid_in, leaf_in, node_of, typed_in, tagged_in, both, tree_of, below_of}
+use Rattle.kmip_ttlv_json.specs.JsonTrees.{trees_of}
 use Rattle.kmip_ttlv_json.specs.declared.failure.BadMember.TheVariants.{Value}
 use Rattle.kmip_ttlv_json.specs.Laws.{no_secrets}
 use Rattle.kmip_ttlv_json.specs.Readings.{Stands, is_node}
 use Rattle.kmip_ttlv_json.proofs.Found.{tree_plain}
 use Rattle.kmip_ttlv_json.proofs.ReadBack.{tree_back, text_back}
 use Rattle.kmip_ttlv_json.proofs.ReadingBack.{structure_fits}
-use Rattle.kmip_ttlv_json.proofs.Tells.{both_true}
+use Rattle.kmip_ttlv_json.proofs.Determining.{both_true}
 use Rattle.kmip_ttlv_json.proofs.TreeTexts.{ArePlain, AllPlain, plain_both, tag_plain}
 
 -- ---- the members of an item
@@ -71,9 +74,11 @@ number_bit n lt = grind arith
 boolean_returns : (content : List ℕ) → is_valid Boolean content ≡ true → ArePlain content → boolean_bytes (is_true content) ≡ content
 boolean_returns content good plain =
     let k = both_true (length content == 8) (nat_lt (from_be_bytes w64 content) 2) good in
-    ap (to_be_bytes w64) (number_bit (from_be_bytes w64 content) (ltb-true _ 2 k.1)) ∙ be_bytes_8 content (from_be_bytes w64 content) (eqb-true (length content) 8 k.0) plain refl
+    ap (to_be_bytes w64) (number_bit (from_be_bytes w64 content) (ltb-true _ 2 k.1))
+    ∙ be_bytes_8 content (from_be_bytes w64 content) (eqb-true (length content) 8 k.0) plain refl
 
-content_returns : (typ : TtlvType) (content : List ℕ) → is_valid typ content ≡ true → ArePlain content → content_in typ (value_json false typ content) ≡ Some content
+content_returns : (typ : TtlvType) (content : List ℕ) → is_valid typ content ≡ true → ArePlain content
+    → content_in typ (value_json false typ content) ≡ Some content
 content_returns Structure content good plain = absurd (leaf_not Structure content good refl)
 content_returns Integer content good plain = digits_return content plain
 content_returns LongInteger content good plain = digits_return content plain
@@ -88,7 +93,8 @@ content_returns Interval content good plain = digits_return content plain
 valid_returns : (typ : TtlvType) (content : List ℕ) → is_valid typ content ≡ true → valid_in typ content ≡ Some content
 valid_returns typ content good = ap (λ b. if b then Some content else None) good
 
-leaf_returns : (tag : ℕ) (typ : TtlvType) (content : List ℕ) → is_valid typ content ≡ true → ArePlain content → leaf_in tag typ (value_json false typ content) ≡ Ok (leaf tag typ content)
+leaf_returns : (tag : ℕ) (typ : TtlvType) (content : List ℕ) → is_valid typ content ≡ true → ArePlain content
+    → leaf_in tag typ (value_json false typ content) ≡ Ok (leaf tag typ content)
 leaf_returns tag typ content good plain =
     ap (λ o. ok_or (option_map (leaf tag typ) (option_and_then (valid_in typ) o)) Value) (content_returns typ content good plain)
     ∙ ap (λ o. ok_or (option_map (leaf tag typ) o) Value) (valid_returns typ content good)
@@ -129,7 +135,8 @@ mutual
 mutual
   len_of : (t : Tree) (text : List ℕ) → IsTreeText t text → length (bytes t) ≡ length text
   len_of (leaf tag typ content) text h =
-      leaf_len tag typ content ∙ ap (λ (n : ℕ). 8 + length content + n) (sym (padding_is typ (length content) (leaf_not typ content h.0))) ∙ sym (text_length (raw_with tag typ content) text h.1)
+      leaf_len tag typ content ∙ ap (λ (n : ℕ). 8 + length content + n) (sym (padding_is typ (length content) (leaf_not typ content h.0)))
+      ∙ sym (text_length (raw_with tag typ content) text h.1)
   len_of (node tag below) text h =
       omega (arith, node_len tag (bytes_below below), lens_of below h.0 h.2, text_length (raw_with tag Structure h.0) text h.1)
 
@@ -147,7 +154,8 @@ structure_is : (t : Tree) → IsStructure t → is_node t ≡ true
 structure_is (leaf tag typ content) root = absurd root
 structure_is (node tag below) root = refl
 
-pub stands_back : (w : List ℕ) (xs : List FoundItem) → ArePlain w → (h : Lists w xs) → depth (tree_json no_secrets false h.message) ≤ max_depth → Stands (compact_text (tree_json no_secrets false h.message)) h.message
+pub stands_back : (w : List ℕ) (xs : List FoundItem) → ArePlain w → (h : Lists w xs) → depth (tree_json no_secrets false h.message) ≤ max_depth
+    → Stands (compact_text (tree_json no_secrets false h.message)) h.message
 stands_back w xs plain h deep =
     let t = h.message in
     let d = tree_json no_secrets false t in

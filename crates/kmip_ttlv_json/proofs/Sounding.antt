@@ -1,5 +1,6 @@
 -- What JSON is read as is a whole message.
-use Rattle.std.proofs.Common.{◌≡◌, ℕ, ◌/◌, ◌%◌, ◌<◌, ◌^◌, ◌==◌, Bool, true, false, List, [], ◌∷◌, length, if◌then◌else◌, Option, Some, None, option_map, option_and_then, Result, Ok, Err, refl, ap, sym, subst, arith}
+use Rattle.std.proofs.Common.{◌≡◌, ℕ, ◌/◌, ◌%◌, ◌<◌, ◌^◌, ◌==◌, Bool, true, false, List, [], ◌∷◌, length, if◌then◌else◌, Option, Some, None, option_map}
+use Rattle.std.proofs.Common.{option_and_then, Result, Ok, Err, refl, ap, sym, subst, arith}
 use Rattle.std.specs.Option.{ok_or}
 use Rattle.std.specs.Result.{result_ok}
 use Rattle.std.specs.Int.{w32, from_be_bytes}
@@ -11,19 +12,22 @@ use Rattle.hex.proofs.HexLemmas.{decode_pairs-ok}
 use Rattle.serde_json.specs.Data.{Data, null, boolean, number, string, array, object, Items, no_items, item, no_members, member}
 use Rattle.serde_json.specs.Find.{as_str}
 use Rattle.kmip_ttlv_types.specs.declared.typ.TtlvType.{TtlvType}
-use Rattle.kmip_ttlv_types.specs.declared.typ.TtlvType.TheVariants.{Structure, Integer, LongInteger, BigInteger, Enumeration, Boolean, TextString, ByteString, DateTime, Interval}
+use Rattle.kmip_ttlv_types.specs.declared.typ.TtlvType.TheVariants.{Structure, Integer, LongInteger, BigInteger, Enumeration, Boolean, TextString, ByteString}
+use Rattle.kmip_ttlv_types.specs.declared.typ.TtlvType.TheVariants.{DateTime, Interval}
 use Rattle.kmip_ttlv_types.specs.Leaves.{is_valid}
 use Rattle.kmip_ttlv_types.specs.Trees.{Tree, Trees, leaf, node, no_trees, tree, bytes, IsTreeText, Fits, FitsBelow}
 use Rattle.kmip_ttlv_items.proofs.Spans.{leaf_not}
 use Rattle.kmip_ttlv_write.proofs.Opens.{AllTexts, leaf_text, node_text}
 use Rattle.kmip_ttlv_json.specs.declared.failure.BadMember.{BadMember}
 use Rattle.kmip_ttlv_json.specs.declared.failure.BadMember.TheVariants.{Members as BadMembers, Value}
-use Rattle.kmip_ttlv_json.specs.JsonTrees.{behind_0x, tag_in, type_in, content_in, valid_in, leaf_in, node_of, typed_in, tagged_in, both, are_named, tree_of, below_of, trees_of}
+use Rattle.kmip_ttlv_json.specs.JsonTrees.{behind_0x, tag_in, type_in, content_in, valid_in, leaf_in, node_of, typed_in, tagged_in, both, are_named, tree_of}
+use Rattle.kmip_ttlv_json.specs.JsonTrees.{below_of, trees_of}
 
 -- ---- tags
 
 -- what a choice that succeeded was made of
-chosen : (odd sized : Bool) (r : Result (List ℕ) FromHexError) (s : List ℕ) → (if odd then Err OddLength else if sized then r else Err InvalidStringLength) ≡ Ok s → (sized ≡ true) × (r ≡ Ok s)
+chosen : (odd sized : Bool) (r : Result (List ℕ) FromHexError) (s : List ℕ) → (if odd then Err OddLength else if sized then r else Err InvalidStringLength)
+    ≡ Ok s → (sized ≡ true) × (r ≡ Ok s)
 chosen true sized r s h = absurd (cc)
 chosen false true r s h = (refl, h)
 chosen false false r s h = absurd (cc)
@@ -43,7 +47,8 @@ abbrev number_in : Option ℕ → ℕ
 number_in None = 0
 number_in (Some n) = n
 
-sized_small : (digits : List ℕ) (r : Result (List ℕ) FromHexError) (n : ℕ) → decode_sized digits 3 ≡ r → option_map (λ s. from_be_bytes w32 (0 ∷ s)) (result_ok r) ≡ Some n → n < 2 ^ 24
+sized_small : (digits : List ℕ) (r : Result (List ℕ) FromHexError) (n : ℕ) → decode_sized digits 3 ≡ r
+    → option_map (λ s. from_be_bytes w32 (0 ∷ s)) (result_ok r) ≡ Some n → n < 2 ^ 24
 sized_small digits (Err e) n is h = absurd (cc)
 sized_small digits (Ok s) n is h =
     let k = chosen (length digits % 2 == 1) (length digits / 2 == 3) (decode_pairs 0 digits) s is in
@@ -52,7 +57,8 @@ sized_small digits (Ok s) n is h =
     let lt = three_small s (omega (arith, half, all.1)) all.2 in
     subst (λ m. m < 2 ^ 24) (ap number_in h) lt
 
-text_small : (o : Option (List ℕ)) (n : ℕ) → option_map (λ s. from_be_bytes w32 (0 ∷ s)) (option_and_then (λ digits. result_ok (decode_sized digits 3)) o) ≡ Some n → n < 2 ^ 24
+text_small : (o : Option (List ℕ)) (n : ℕ) → option_map (λ s. from_be_bytes w32 (0 ∷ s)) (option_and_then (λ digits. result_ok (decode_sized digits 3)) o)
+    ≡ Some n → n < 2 ^ 24
 text_small None n h = absurd (cc)
 text_small (Some digits) n h = sized_small digits (decode_sized digits 3) n refl h
 
@@ -66,14 +72,16 @@ tree_in (Ok t) = t
 tree_in (Err bad) = leaf 0 Structure []
 
 module _ (tag : ℕ) (typ : TtlvType) (small : tag < 2 ^ 24) where
-  valid_sound : (content : List ℕ) (good : Bool) (t : Tree) → is_valid typ content ≡ good → ok_or (option_map (leaf tag typ) (if good then Some content else None)) Value ≡ Ok t → Fits t → IsTreeText t (bytes t)
+  valid_sound : (content : List ℕ) (good : Bool) (t : Tree) → is_valid typ content ≡ good
+      → ok_or (option_map (leaf tag typ) (if good then Some content else None)) Value ≡ Ok t → Fits t → IsTreeText t (bytes t)
   valid_sound content false t is h fits = absurd (cc)
   valid_sound content true t is h fits =
       let e : leaf tag typ content ≡ t = ap tree_in h in
       let short : Fits (leaf tag typ content) = subst Fits (sym e) fits in
       subst (λ u. IsTreeText u (bytes u)) e (leaf_text tag typ content small (leaf_not typ content is) short is)
 
-  content_sound : (o : Option (List ℕ)) (t : Tree) → ok_or (option_map (leaf tag typ) (option_and_then (valid_in typ) o)) Value ≡ Ok t → Fits t → IsTreeText t (bytes t)
+  content_sound : (o : Option (List ℕ)) (t : Tree) → ok_or (option_map (leaf tag typ) (option_and_then (valid_in typ) o)) Value ≡ Ok t → Fits t
+      → IsTreeText t (bytes t)
   content_sound None t h fits = absurd (cc)
   content_sound (Some content) t h fits = valid_sound content (is_valid typ content) t refl h fits
 
@@ -93,7 +101,8 @@ node_sound tag (Ok ts) t small below h fits =
     let all : Fits (node tag ts) = subst Fits (sym e) fits in
     subst (λ u. IsTreeText u (bytes u)) e (node_text tag ts small all.0 (below ts refl all.1))
 
-typed_sound : (tag : ℕ) (o : Option TtlvType) (v : Data) (r : Result Trees BadMember) (t : Tree) → tag < 2 ^ 24 → AreSound r → typed_in tag o v r ≡ Ok t → Fits t → IsTreeText t (bytes t)
+typed_sound : (tag : ℕ) (o : Option TtlvType) (v : Data) (r : Result Trees BadMember) (t : Tree) → tag < 2 ^ 24 → AreSound r → typed_in tag o v r ≡ Ok t
+    → Fits t → IsTreeText t (bytes t)
 typed_sound tag None v r t small below h fits = absurd (cc)
 typed_sound tag (Some Structure) v r t small below h fits = node_sound tag r t small below h fits
 typed_sound tag (Some Integer) v r t small below h fits = leaf_sound tag Integer small v t h fits
@@ -106,11 +115,13 @@ typed_sound tag (Some ByteString) v r t small below h fits = leaf_sound tag Byte
 typed_sound tag (Some DateTime) v r t small below h fits = leaf_sound tag DateTime small v t h fits
 typed_sound tag (Some Interval) v r t small below h fits = leaf_sound tag Interval small v t h fits
 
-tagged_sound : (d : Data) (o : Option ℕ) (typ v : Data) (r : Result Trees BadMember) (t : Tree) → tag_in d ≡ o → AreSound r → tagged_in o typ v r ≡ Ok t → Fits t → IsTreeText t (bytes t)
+tagged_sound : (d : Data) (o : Option ℕ) (typ v : Data) (r : Result Trees BadMember) (t : Tree) → tag_in d ≡ o → AreSound r → tagged_in o typ v r ≡ Ok t
+    → Fits t → IsTreeText t (bytes t)
 tagged_sound d None typ v r t is below h fits = absurd (cc)
 tagged_sound d (Some tag) typ v r t is below h fits = typed_sound tag (type_in typ) v r t (tag_small d tag is) below h fits
 
-named_sound : (named : Bool) (tag typ v : Data) (r : Result Trees BadMember) (t : Tree) → AreSound r → (if named then tagged_in (tag_in tag) typ v r else Err BadMembers) ≡ Ok t → Fits t → IsTreeText t (bytes t)
+named_sound : (named : Bool) (tag typ v : Data) (r : Result Trees BadMember) (t : Tree) → AreSound r
+    → (if named then tagged_in (tag_in tag) typ v r else Err BadMembers) ≡ Ok t → Fits t → IsTreeText t (bytes t)
 named_sound false tag typ v r t below h fits = absurd (cc)
 named_sound true tag typ v r t below h fits = tagged_sound tag (tag_in tag) typ v r t refl below h fits
 

@@ -1,5 +1,6 @@
 -- The text that is printed item by item is that of the tree.
-use Rattle.std.proofs.Common.{◌≡◌, ◌≢◌, ◌∙◌, ℕ, zero, suc, ◌+◌, ◌-◌, ◌<◌, ◌≤◌, ◌==◌, Bool, true, false, not, ◌||◌, ◌&&◌, List, [], ◌∷◌, ◌++◌, get_or, if◌then◌else◌, Option, Some, None, refl, sym, ap, ap₂, arith, append_assoc, append-nil}
+use Rattle.std.proofs.Common.{◌≡◌, ◌≢◌, ◌∙◌, ℕ, zero, suc, ◌+◌, ◌-◌, ◌<◌, ◌≤◌, ◌==◌, Bool, true, false, not, ◌||◌, ◌&&◌, List, [], ◌∷◌, ◌++◌, get_or}
+use Rattle.std.proofs.Common.{if◌then◌else◌, Option, Some, None, refl, sym, ap, ap₂, arith, append_assoc, append-nil}
 use Rattle.std.specs.Prelude.{codes}
 use Rattle.std.specs.Int.{bytes_high_first}
 use Rattle.std.proofs.lemmas.Bool.{lt-ltb, le-ltb, ltb-true, ltb-false, ne_eqb, eq-eqb}
@@ -8,7 +9,8 @@ use Rattle.json.specs.Print.{escape_byte, escape, quoted}
 use Rattle.serde_json.specs.Data.{Data}
 use Rattle.serde_json.specs.Written.{compact_text, items_text, comma_if}
 use Rattle.kmip_ttlv_types.specs.declared.typ.TtlvType.{TtlvType}
-use Rattle.kmip_ttlv_types.specs.declared.typ.TtlvType.TheVariants.{Structure, Integer, LongInteger, BigInteger, Enumeration, Boolean, TextString, ByteString, DateTime, Interval}
+use Rattle.kmip_ttlv_types.specs.declared.typ.TtlvType.TheVariants.{Structure, Integer, LongInteger, BigInteger, Enumeration, Boolean, TextString, ByteString}
+use Rattle.kmip_ttlv_types.specs.declared.typ.TtlvType.TheVariants.{DateTime, Interval}
 use Rattle.kmip_ttlv_types.specs.ItemTypes.{code}
 use Rattle.kmip_ttlv_types.specs.Trees.{Tree, Trees, leaf, node, no_trees, tree, IsTreeText, AreTreeTexts}
 use Rattle.kmip_ttlv_items.proofs.Spans.{leaf_not}
@@ -36,7 +38,8 @@ kind_code Interval = refl
 -- ---- one item
 
 -- what stands between the digits of the tag and the value
-type_is : (typ : TtlvType) (s : List ℕ) → 44 ∷ (quoted (codes "type") ++ 58 ∷ (quoted (type_word typ) ++ 44 ∷ (quoted (codes "value") ++ 58 ∷ s))) ≡ 44 ∷ 34 ∷ 116 ∷ 121 ∷ 112 ∷ 101 ∷ 34 ∷ 58 ∷ 34 ∷ (type_word typ ++ (codes "\",\"value\":" ++ s))
+type_is : (typ : TtlvType) (s : List ℕ) → 44 ∷ (quoted (codes "type") ++ 58 ∷ (quoted (type_word typ) ++ 44 ∷ (quoted (codes "value") ++ 58 ∷ s)))
+    ≡ 44 ∷ 34 ∷ 116 ∷ 121 ∷ 112 ∷ 101 ∷ 34 ∷ 58 ∷ 34 ∷ (type_word typ ++ (codes "\",\"value\":" ++ s))
 unfolding escape_byte
 type_is Structure s = refl
 type_is Integer s = refl
@@ -57,7 +60,8 @@ tag_plain tag (suc (suc (suc k))) = omega arith
 
 quoted_hex : (content s : List ℕ) → ArePlain content → quoted (hex_text content) ++ s ≡ 34 ∷ 48 ∷ 120 ∷ (encode_upper content ++ 34 ∷ s)
 unfolding escape_byte
-quoted_hex content s plain = ap (λ (t : List ℕ). 34 ∷ 48 ∷ 120 ∷ ((t ++ 34 ∷ []) ++ s)) (escape_digits content plain) ∙ ap (λ (t : List ℕ). 34 ∷ 48 ∷ 120 ∷ t) (append_assoc (encode_upper content) (34 ∷ []) s)
+quoted_hex content s plain = ap (λ (t : List ℕ). 34 ∷ 48 ∷ 120 ∷ ((t ++ 34 ∷ []) ++ s)) (escape_digits content plain)
+    ∙ ap (λ (t : List ℕ). 34 ∷ 48 ∷ 120 ∷ t) (append_assoc (encode_upper content) (34 ∷ []) s)
 
 -- an item with any value
 item_is : (tag : ℕ) (typ : TtlvType) (value : Data) → opening tag typ ++ (compact_text value ++ 125 ∷ []) ≡ compact_text (item_json tag typ value)
@@ -76,7 +80,8 @@ quoted_digits : (content : List ℕ) → ArePlain content → encode_upper conte
 quoted_digits content plain = sym (ap (λ (t : List ℕ). t ++ 34 ∷ []) (escape_digits content plain))
 
 -- the value of a leaf
-pub value_is : (hidden : Bool) (typ : TtlvType) (content : List ℕ) → typ ≢ Structure → ArePlain content → value_part hidden typ content ≡ compact_text (value_json hidden typ content) ++ 125 ∷ []
+value_is : (hidden : Bool) (typ : TtlvType) (content : List ℕ) → typ ≢ Structure → ArePlain content
+    → value_part hidden typ content ≡ compact_text (value_json hidden typ content) ++ 125 ∷ []
 unfolding escape_byte
 value_is hidden Structure content ne plain = absurd (ne refl)
 value_is true Integer content ne plain = refl
@@ -159,7 +164,8 @@ module _ (secrets : ℕ → Bool) (hidden : Bool) where
       no false = refl
 
   -- where an item is in no secret one, it doesn't matter which was the last
-  swap : (d : ℕ) (b : Bool) (s t : Option ℕ) (r : List Line) → IsLow d r → is_inside s d ≡ false → is_inside t d ≡ false → flat (spot d b s) r ≡ flat (spot d b t) r
+  swap : (d : ℕ) (b : Bool) (s t : Option ℕ) (r : List Line) → IsLow d r → is_inside s d ≡ false → is_inside t d ≡ false
+      → flat (spot d b s) r ≡ flat (spot d b t) r
   swap d b s t [] low u v = refl
   swap d b s t (l ∷ ls) low u v =
       let one = inside_less s d l.depth u low in
@@ -208,7 +214,8 @@ module _ (secrets : ℕ → Bool) (hidden : Bool) where
         let ne = leaf_not typ content h.0 in
         let hid = (hidden || is_inside s d) || secrets tag in
         let v = value_json hid typ content in
-        let own : opening tag typ ++ value_part hid typ content ≡ compact_text (item_json tag typ v) = ap (λ (x : List ℕ). opening tag typ ++ x) (value_is hid typ content ne plain.0) ∙ item_is tag typ v in
+        let own : opening tag typ ++ value_part hid typ content ≡ compact_text (item_json tag typ v) =
+        ap (λ (x : List ℕ). opening tag typ ++ x) (value_is hid typ content ne plain.0) ∙ item_is tag typ v in
         let after : flat (spot_after secrets (spot d b s) d tag typ) r ≡ flat (spot d false s) r = leaf_after typ ne ∙ secret_same s d tag false r low in
         ap (λ (k : TtlvType). item_part secrets hidden (spot d b s) d tag k content ++ flat (spot_after secrets (spot d b s) d tag k) r) (kind_code typ)
         ∙ ap₂ (λ (x y : List ℕ). (x ++ (opening tag typ ++ value_part hid typ content)) ++ y) (gap_is d b s) after
@@ -232,12 +239,14 @@ module _ (secrets : ℕ → Bool) (hidden : Bool) where
         let inner = trees_json secrets hid below in
         let rest = flat (spot d false s) r in
         let one_more : d + 1 ≡ suc d = omega arith in
-        let deep : flat (spot (d + 1) true u) (lines_below (suc d) below ++ r) ≡ flat (spot (suc d) true u) (lines_below (suc d) below ++ r) = ap (λ (n : ℕ). flat (spot n true u) (lines_below (suc d) below ++ r)) one_more in
+        let deep : flat (spot (d + 1) true u) (lines_below (suc d) below ++ r) ≡ flat (spot (suc d) true u) (lines_below (suc d) below ++ r) =
+        ap (λ (n : ℕ). flat (spot n true u) (lines_below (suc d) below ++ r)) one_more in
         let all : flat (spot (d + 1) true u) (lines_below (suc d) below ++ r) ≡ items_text false inner ++ 125 ∷ rest =
         deep ∙ trees_flat d true u below h.0 r h.2 plain.1 low
         ∙ ap (λ (k : Bool). items_text false (trees_json secrets k below) ++ 125 ∷ flat (spot d false u) r) (hidden_below s d tag)
         ∙ ap (λ (x : List ℕ). items_text false inner ++ 125 ∷ x) (secret_same s d tag false r low) in
-        let own : opening tag Structure ++ (91 ∷ (items_text false inner ++ 125 ∷ [])) ≡ compact_text (item_json tag Structure (Data.array inner)) = item_is tag Structure (Data.array inner) in
+        let own : opening tag Structure ++ (91 ∷ (items_text false inner ++ 125 ∷ [])) ≡ compact_text (item_json tag Structure (Data.array inner)) =
+        item_is tag Structure (Data.array inner) in
         ap₂ (λ (x y : List ℕ). (x ++ (opening tag Structure ++ 91 ∷ [])) ++ y) (gap_is d b s) all
         ∙ regroup (comma_if (not b)) (opening tag Structure) (items_text false inner) rest
         ∙ ap (λ (x : List ℕ). comma_if (not b) ++ (x ++ rest)) own
@@ -245,8 +254,10 @@ module _ (secrets : ℕ → Bool) (hidden : Bool) where
         regroup : (c o i rest : List ℕ) → (c ++ (o ++ 91 ∷ [])) ++ (i ++ 125 ∷ rest) ≡ c ++ ((o ++ 91 ∷ (i ++ 125 ∷ [])) ++ rest)
         regroup c o i rest = simp append_assoc
 
-    trees_flat : (d : ℕ) (b : Bool) (s : Option ℕ) (ts : Trees) (text : List ℕ) (r : List Line) → AreTreeTexts ts text → AllPlain (lines_below (suc d) ts) → IsLow d r
-        → flat (spot (suc d) b s) (lines_below (suc d) ts ++ r) ≡ items_text (not b) (trees_json secrets (hidden || is_inside s (suc d)) ts) ++ 125 ∷ flat (spot d false s) r
+    trees_flat : (d : ℕ) (b : Bool) (s : Option ℕ) (ts : Trees) (text : List ℕ) (r : List Line) → AreTreeTexts ts text → AllPlain (lines_below (suc d) ts)
+        → IsLow d r
+        → flat (spot (suc d) b s) (lines_below (suc d) ts ++ r) ≡ items_text (not b) (trees_json secrets (hidden || is_inside s (suc d)) ts) ++ 125 ∷ flat
+        (spot d false s) r
     trees_flat d b s no_trees text r h plain low = close_one d b s r low
     trees_flat d b s (tree t ts) text r h plain low =
         let k = plain_both (lines (suc d) t) (lines_below (suc d) ts) plain in
@@ -264,7 +275,8 @@ module _ (secrets : ℕ → Bool) (hidden : Bool) where
         regroup c o i rest = simp append_assoc
 
   -- a whole message
-  pub message_flat : (t : Tree) (text : List ℕ) → IsTreeText t text → AllPlain (lines 0 t) → parts secrets hidden first_spot (lines 0 t) ++ closes (spot_behind secrets first_spot (lines 0 t)).depth ≡ compact_text (tree_json secrets hidden t)
+  pub message_flat : (t : Tree) (text : List ℕ) → IsTreeText t text → AllPlain (lines 0 t) → parts secrets hidden first_spot (lines 0 t) ++ closes
+      (spot_behind secrets first_spot (lines 0 t)).depth ≡ compact_text (tree_json secrets hidden t)
   message_flat t text h plain =
       let none : (hidden || false) ≡ hidden = by hidden in
       flat_is first_spot (lines 0 t) ∙ ap (flat first_spot) (sym (append-nil (lines 0 t))) ∙ tree_flat 0 true None t text [] h plain tt

@@ -15,8 +15,8 @@ abbrev pub no_secrets : ℕ → Bool
 no_secrets tag = false
 
 -- whole messages with the same line, in which nothing is hidden, have the same tags, types and contents
-abbrev pub TellsAll : Type 0
-TellsAll =
+abbrev pub DeterminesAll : Type 0
+DeterminesAll =
     (a b : List ℕ) (xs ys : List FoundItem)
     → AreBytes a
     → AreBytes b

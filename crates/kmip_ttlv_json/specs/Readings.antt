@@ -47,10 +47,10 @@ error_words TooLong = codes "a length has more than four bytes"
 error_words OutOfMemory = codes "out of memory"
 
 -- why the JSON of an item gives no tree, or out of memory
-abbrev pub Refuses : {A : Type 0} → Result A BadMember → JsonError → Type 0
-Refuses result (NotItem bad) = result ≡ Err bad
-Refuses result OutOfMemory = Unit {0}
-Refuses result _ = ⊥
+abbrev pub Fails : {A : Type 0} → Result A BadMember → JsonError → Type 0
+Fails result (NotItem bad) = result ≡ Err bad
+Fails result OutOfMemory = Unit {0}
+Fails result _ = ⊥
 
 -- a tree is a structure
 abbrev pub is_node : Tree → Bool

@@ -6,7 +6,7 @@ ghost use Rattle.serde_json.specs.Read.{max_depth, read};
 ghost use Rattle.serde_json.specs.Written.{compact_text};
 ghost use Rattle.kmip_ttlv_types.specs.Trees.{Tree};
 ghost use Rattle.kmip_ttlv_json.specs.Jsons.{tree_json};
-ghost use Rattle.kmip_ttlv_json.specs.Laws.{ComesBack, ReadsMessages, TellsAll};
+ghost use Rattle.kmip_ttlv_json.specs.Laws.{ComesBack, ReadsMessages, DeterminesAll};
 
 /// A message's JSON is read back from its text, if it nests at most 127 deep: if no structure is in more than 62 others.
 pub fn a_message_reads_back()
@@ -15,8 +15,8 @@ pub fn a_message_reads_back()
 {}
 
 /// Two messages with the same line, in which nothing is hidden, are the same, but for what their padding holds.
-pub fn a_line_tells_its_message()
-    ensures { TellsAll }
+pub fn a_line_determines_its_message()
+    ensures { DeterminesAll }
 {}
 
 /// [`from_json`] returns of a whole message's line, in which nothing is hidden, the message with zeros for its padding, out

@@ -6,7 +6,7 @@ ghost use Rattle.serde_json.specs.View.{view, items_view};
 ghost use Rattle.kmip_ttlv_types.specs.Items.{header};
 ghost use Rattle.kmip_ttlv_types.specs.Trees.{leaf_bytes};
 ghost use Rattle.kmip_ttlv_json.specs.JsonTrees.{leaf_in, node_of, tree_of, below_of, trees_of};
-ghost use Rattle.kmip_ttlv_json.specs.Readings.{IsReadAs, FailsToRead, Refuses, AddsTree, AddsTrees};
+ghost use Rattle.kmip_ttlv_json.specs.Readings.{IsReadAs, FailsToRead, Fails, AddsTree, AddsTrees};
 
 use crate::failure::{BadMember, JsonError};
 use crate::members::{content_of, members_of, tag_of, type_of};
@@ -66,7 +66,7 @@ fn push_value(
     value: &Value,
 ) -> Result<(), JsonError>
     ensures ok { OnOk result (AddsTree (leaf_in tag typ (view value.now)) out.old.items out.new.items false) }
-    ensures err { IfErr result (Refuses (leaf_in tag typ (view value.now))) }
+    ensures err { IfErr result (Fails (leaf_in tag typ (view value.now))) }
 {
     let Some(content) = content_of(alloc, typ, value)? else {
         return Err(JsonError::NotItem(BadMember::Value));
@@ -82,7 +82,7 @@ fn push_value(
 #[cycle(tree)]
 fn push_node(alloc: Global, out: &mut Vec<u8>, tag: TtlvTag, value: &Value) -> Result<(), JsonError>
     ensures ok { OnOk result (AddsTree (node_of tag (below_of (view value.now))) out.old.items out.new.items true) }
-    ensures err { IfErr result (Refuses (below_of (view value.now))) }
+    ensures err { IfErr result (Fails (below_of (view value.now))) }
 {
     let Value::Array(items) = value else {
         return Err(JsonError::NotItem(BadMember::Value));
@@ -98,7 +98,7 @@ fn push_node(alloc: Global, out: &mut Vec<u8>, tag: TtlvTag, value: &Value) -> R
 #[cycle(tree)]
 fn push_items(alloc: Global, out: &mut Vec<u8>, items: &Vec<Value>) -> Result<(), JsonError>
     ensures ok { OnOk result (AddsTrees (trees_of (items_view items.now.items)) out.old.items out.new.items) }
-    ensures err { IfErr result (Refuses (trees_of (items_view items.now.items))) }
+    ensures err { IfErr result (Fails (trees_of (items_view items.now.items))) }
 {
     for item in items {
         push_tree(alloc, out, item)?;
@@ -110,7 +110,7 @@ fn push_items(alloc: Global, out: &mut Vec<u8>, items: &Vec<Value>) -> Result<()
 #[cycle(tree)]
 fn push_tree(alloc: Global, out: &mut Vec<u8>, item: &Value) -> Result<bool, JsonError>
     ensures ok { IfOk result (AddsTree (tree_of (view item.now)) out.old.items out.new.items) }
-    ensures err { IfErr result (Refuses (tree_of (view item.now))) }
+    ensures err { IfErr result (Fails (tree_of (view item.now))) }
 {
     let Some(members) = members_of(item) else {
         return Err(JsonError::NotItem(BadMember::Members));

@@ -1,5 +1,5 @@
 -- What a list of an enumeration's values means: an entry for each value.
-use Rattle.std.specs.Prelude.{◌≡◌, ℕ, Bool, List, [], ◌∷◌, length, Option, Some, None, if◌then◌else◌, ◌==◌, nat_lt}
+use Rattle.std.specs.Prelude.{ℕ, Bool, List, [], ◌∷◌, length, Option, Some, None, if◌then◌else◌, ◌==◌, nat_lt}
 use Rattle.std.specs.List.{slice_split, position_or_len, before_first, after_first}
 use Rattle.kmip_ttlv_types.specs.Names.{number}
 

@@ -1,5 +1,5 @@
 -- Variants that rules choose, one after the other.
-use Rattle.std.proofs.Common.{◌≡◌, ℕ, suc, ◌+◌, arith, List, [], ◌∷◌, ◌++◌, codes, Some, None, Result, Ok, Err, IfOk, Option, refl, ap, ◌∙◌}
+use Rattle.std.proofs.Common.{◌≡◌, ℕ, suc, ◌+◌, arith, List, [], ◌∷◌, ◌++◌, codes, Some, None, Result, Ok, Err, Option, refl, ap, ◌∙◌}
 use Rattle.kmip_ttlv_types.specs.declared.typ.TtlvType.{TtlvType}
 use Rattle.kmip_ttlv_types.specs.declared.typ.TtlvType.TheVariants.{Enumeration}
 use Rattle.kmip_ttlv_types.specs.Places.{tag_at}
@@ -13,26 +13,30 @@ use Rattle.kmip_ttlv_reader.specs.ReadFaults.{in_struct}
 use Rattle.kmip_ttlv_reader.specs.Results.{IsFailure}
 use Rattle.kmip_ttlv_reader.specs.Rules.{Choice, chosen, number_decides, choice_invalid, choice, first_by, past, rule}
 use Rattle.kmip_ttlv_reader.specs.Steps.{Outcome, gives, ends_early, fails, Read, Reader, reads, mapped, ◌>>=◌, ◌>>◌}
-use Rattle.kmip_ttlv_reader.specs.Outcomes.{outcome, enum_outcome, picked, by_index, variant_outcome, content_outcome, number_outcome, type_there, type_wanted, length_there, length_wanted, content_there, unit_wanted, inside}
+use Rattle.kmip_ttlv_reader.specs.Outcomes.{outcome, enum_outcome, picked, by_index, variant_outcome, content_outcome, number_outcome, type_there, type_wanted}
+use Rattle.kmip_ttlv_reader.specs.Outcomes.{length_there, length_wanted, content_there, unit_wanted, inside}
 use Rattle.kmip_ttlv_reader.specs.Spots.{Spot, IsReadTo, at}
 use Rattle.kmip_ttlv_reader.specs.Chosen.{by_rules, unnamed, IsFailed, IsChosen}
 use Rattle.kmip_ttlv_reader.proofs.Steps.{failure_then}
 
 -- the first variant's rule holds
-pub chosen_here : (own name : List ℕ) (s : Form) (vs : Variants) (number : TtlvType → Reader Value) (t : TtlvType) (b : List ℕ) (o : ℕ) (k : List TagValue) (p e : ℕ)
+pub chosen_here : (own name : List ℕ) (s : Form) (vs : Variants) (number : TtlvType → Reader Value) (t : TtlvType) (b : List ℕ) (o : ℕ)
+    (k : List TagValue) (p e : ℕ)
     → ((c : Choice) → first_by (rule name k t) c ≡ chosen 0)
     → by_rules own (variant name (wrapped s) vs) number t b o k p e ≡ mapped (newtype_variant_value own name) (outcome s b o k p e)
 unfolding variant_outcome content_outcome
 chosen_here own name s vs number t b o k p e h = rw (h (choice vs k t)) refl
 
 -- it doesn't
-pub chosen_later : (own name : List ℕ) (x : Content) (vs : Variants) (number : TtlvType → Reader Value) (t : TtlvType) (b : List ℕ) (o : ℕ) (k : List TagValue) (p e : ℕ)
+pub chosen_later : (own name : List ℕ) (x : Content) (vs : Variants) (number : TtlvType → Reader Value) (t : TtlvType) (b : List ℕ) (o : ℕ)
+    (k : List TagValue) (p e : ℕ)
     → ((c : Choice) → first_by (rule name k t) c ≡ past 1 c)
     → by_rules own (variant name x vs) number t b o k p e ≡ by_rules own vs number t b o k p e
 unfolding variant_outcome
 chosen_later own name x vs number t b o k p e h = rw (h (choice vs k t)) (by (choice vs k t))
   where
-    by : (c : Choice) → (picked (past 1 c) b p t >>= λ i. by_index i (variant_outcome own (variant name x vs)) number t b o k p e) ≡ (picked c b p t >>= λ i. by_index i (variant_outcome own vs) number t b o k p e)
+    by : (c : Choice) → (picked (past 1 c) b p t >>= λ i. by_index i (variant_outcome own (variant name x vs)) number t b o k p e)
+        ≡ (picked c b p t >>= λ i. by_index i (variant_outcome own vs) number t b o k p e)
     by (chosen i) =
         let more : 1 + i ≡ suc i = omega arith in
         ap (λ j. variant_outcome own (variant name x vs) j t b o k p e) more
@@ -40,10 +44,12 @@ chosen_later own name x vs number t b o k p e h = rw (h (choice vs k t)) (by (ch
     by (choice_invalid m) = refl
 
 -- it is none that can be tested
-pub choice_fails : {A : Type 0} (own name : List ℕ) (x : Content) (vs : Variants) (number : TtlvType → Reader Value) (t : TtlvType) (b : List ℕ) (o : ℕ) (k : List TagValue) (p e : ℕ) (r : Failure A)
+pub choice_fails : {A : Type 0} (own name : List ℕ) (x : Content) (vs : Variants) (number : TtlvType → Reader Value) (t : TtlvType) (b : List ℕ) (o : ℕ)
+    (k : List TagValue) (p e : ℕ) (r : Failure A)
     → ((c : Choice) → IsFailure (picked (first_by (rule name k t) c) b p t) r)
     → IsFailure (by_rules own (variant name x vs) number t b o k p e) r
-choice_fails own name x vs number t b o k p e r h = failure_then (picked (first_by (rule name k t) (choice vs k t)) b p t) (λ i. by_index i (variant_outcome own (variant name x vs)) number t b o k p e) r (h (choice vs k t))
+choice_fails own name x vs number t b o k p e r h = failure_then (picked (first_by (rule name k t) (choice vs k t)) b p t)
+    (λ i. by_index i (variant_outcome own (variant name x vs)) number t b o k p e) r (h (choice vs k t))
 
 -- what the page says of an enum whose rules were asked
 pub enum_by_rules : (own : List ℕ) (vs : Variants) (t : TtlvType) (b : List ℕ) (o : ℕ) (k : List TagValue) (p e : ℕ)
@@ -66,10 +72,12 @@ pub number_unnamed : (own : List ℕ) (vs : Variants) (t : TtlvType) (b : List �
     → by_rules own vs (number_outcome own vs) t b o k p e ≡ unnamed b o p t
 unfolding number_outcome unnamed
 number_unnamed own vs t b o k p e none none_holds =
-    rw none_holds (ap (λ rest. type_wanted (is_number_type t) Enumeration b p t >> (length_there b p >> (length_wanted b p 4 t (Some 4) >> rest))) (by (content_there b p t)))
+    rw none_holds (ap (λ rest. type_wanted (is_number_type t) Enumeration b p t >> (length_there b p >> (length_wanted b p 4 t (Some 4) >> rest)))
+    (by (content_there b p t)))
   where
     by : (c : Outcome (List ℕ × ℕ))
-        → (c >>= λ x. unit_wanted b o p t (first_named (number_text x.0) vs) >> (inside b p e t x.1 >> reads (unit_variant_value own (number_text x.0)) (k ++ record { tag = tag_at b p; text = number_text x.0 } ∷ []) x.1))
+        → (c >>= λ x. unit_wanted b o p t (first_named (number_text x.0) vs) >> (inside b p e t x.1 >> reads (unit_variant_value own (number_text x.0))
+        (k ++ record { tag = tag_at b p; text = number_text x.0 } ∷ []) x.1))
         ≡ (c >> fails (in_struct (p + 16) o (codes "unknown variant")))
     by (gives x) = rw (none x.0) refl
     by ends_early = refl
@@ -80,13 +88,11 @@ pub never_read : {X A : Type 0} (view : X → Value) (spot : Spot) (o : Outcome 
 never_read view spot o (Ok x) h = absurd h
 never_read view spot o (Err failure) h = h
 
-pub never_ok : {X A : Type 0} (P : X → Type 0) (o : Outcome (Read Value)) (r : Result X (Failure A)) → IsFailed o r → IfOk r P
-never_ok P o (Ok x) h = absurd h
-never_ok P o (Err failure) h = tt
-
 -- where the first variant's rule fails, what is chosen is chosen among the later ones
-pub passed : {X A : Type 0} (own name : List ℕ) (content : Content) (vs : Variants) (view : X → Value) (t : TtlvType) (scope : Scope A) (old new : Spot) (r : Result (Option X) (Failure A))
-    → ((own : List ℕ) (vs : Variants) (number : TtlvType → Reader Value) → at (by_rules own (variant name content vs) number t) scope old ≡ at (by_rules own vs number t) scope old)
+pub passed : {X A : Type 0} (own name : List ℕ) (content : Content) (vs : Variants) (view : X → Value) (t : TtlvType) (scope : Scope A) (old new : Spot)
+    (r : Result (Option X) (Failure A))
+    → ((own : List ℕ) (vs : Variants) (number : TtlvType → Reader Value) → at (by_rules own (variant name content vs) number t) scope old ≡ at
+    (by_rules own vs number t) scope old)
     → ((vs : Variants) → choice (variant name content vs) old.stored t ≡ past 1 (choice vs old.stored t))
     → IsChosen own vs view t scope old new r
     → IsChosen own (variant name content vs) view t scope old new r

@@ -1,5 +1,6 @@
 -- What `strip_prefix`, `strip_suffix` and `split_once` at a text give.
-use Rattle.std.proofs.Common.{◌≡◌, ℕ, zero, suc, ◌-◌, ◌<◌, ◌≤◌, List, [], ◌∷◌, ◌++◌, true, false, Option, Some, None, option_map, MatchOption, Bor, length, take, drop, eqb, refl, sym, ap, ◌∙◌, subst, arith}
+use Rattle.std.proofs.Common.{◌≡◌, ℕ, zero, suc, ◌-◌, ◌<◌, ◌≤◌, List, [], ◌∷◌, ◌++◌, true, false, Option, Some, None, option_map, MatchOption, Bor, length}
+use Rattle.std.proofs.Common.{take, drop, eqb, refl, sym, ap, ◌∙◌, subst, arith}
 use Rattle.std.proofs.lemmas.List.{drop_at}
 use Rattle.std.specs.Str.{IsCharBoundary, trim}
 use Rattle.std.specs.Str.Pattern.{LacksTextAt, FindsText, FindsTextPrefix, FindsTextSuffix, StripsPrefix, StripsSuffix, SplitsAroundMatch}
@@ -11,7 +12,8 @@ use Rattle.kmip_ttlv_types.specs.Names.{after_prefix}
 use Rattle.kmip_ttlv_reader.specs.Rules.{before_suffix, cut, sides}
 
 -- `strip_prefix`
-pub stripped_prefix : (p s : List ℕ) (r : Option (Bor (List ℕ))) → MatchOption r (FindsTextPrefix p s None) (λ x. StripsPrefix (FindsTextPrefix p) s x.now) → option_map (λ x. x.now) r ≡ after_prefix p s
+pub stripped_prefix : (p s : List ℕ) (r : Option (Bor (List ℕ))) → MatchOption r (FindsTextPrefix p s None) (λ x. StripsPrefix (FindsTextPrefix p) s x.now)
+    → option_map (λ x. x.now) r ≡ after_prefix p s
 stripped_prefix p s None h = let e : false ≡ starts_with eqb s p = starts_text false p s h in rw (← e)
 stripped_prefix p s (Some x) (n, found, is, len) =
     let b : IsCharBoundary s n = subst (IsCharBoundary s) (sym found.0) found.2 in
@@ -19,7 +21,8 @@ stripped_prefix p s (Some x) (n, found, is, len) =
     rw (← e) (ap Some (is ∙ ap (λ k. drop k s) found.0))
 
 -- `strip_suffix`
-pub stripped_suffix : (p s : List ℕ) (r : Option (Bor (List ℕ))) → MatchOption r (FindsTextSuffix p s None) (λ x. StripsSuffix (FindsTextSuffix p) s x.now) → option_map (λ x. x.now) r ≡ before_suffix p s
+pub stripped_suffix : (p s : List ℕ) (r : Option (Bor (List ℕ))) → MatchOption r (FindsTextSuffix p s None) (λ x. StripsSuffix (FindsTextSuffix p) s x.now)
+    → option_map (λ x. x.now) r ≡ before_suffix p s
 stripped_suffix p s None h = let e : false ≡ ends_with eqb s p = ends_text false p s h in rw (← e)
 stripped_suffix p s (Some x) (n, found, is, len) =
     let b : IsCharBoundary s (length s - n) = subst (λ k. IsCharBoundary s (length s - k)) (sym found.0) found.2 in
@@ -51,7 +54,8 @@ cut_at p (c ∷ cs) rest (suc i) lacks le is =
     (rw (cut_at p cs rest i (λ k lt. lacks (suc k) (omega arith)) (omega arith) is) refl)
 
 -- `split_once`
-pub split_once_is : (p s : List ℕ) (r : Option (Bor (List ℕ) × Bor (List ℕ))) → MatchOption r (FindsText p s None) (λ x. SplitsAroundMatch (FindsText p) s x.0.now x.1.now) → option_map (λ x. (x.0.now, x.1.now)) r ≡ cut p s
+pub split_once_is : (p s : List ℕ) (r : Option (Bor (List ℕ) × Bor (List ℕ)))
+    → MatchOption r (FindsText p s None) (λ x. SplitsAroundMatch (FindsText p) s x.0.now x.1.now) → option_map (λ x. (x.0.now, x.1.now)) r ≡ cut p s
 split_once_is p s None h = sym (cut_nowhere p s h)
 split_once_is p s (Some x) (i, j, found, front, back, le, front_len, back_len) =
     (λ k. Some (front k, back k)) ∙ sym (cut_at p s (drop j s) i found.0 (omega arith) found.1.split)

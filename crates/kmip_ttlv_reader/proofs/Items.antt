@@ -13,11 +13,13 @@ abbrev put_before : Value → Outcome (Read Values) → Outcome (Read Values)
 put_before v o = o >>= λ rs. reads (value v rs.value) rs.stored rs.next
 
 -- one more value at the end of those in front
-join_one : {X : Type 0} (f : X → Value) (xs : List X) (x : X) (ws : Values) → join (values_of (map f (xs ++ x ∷ []))) ws ≡ join (values_of (map f xs)) (value (f x) ws)
+join_one : {X : Type 0} (f : X → Value) (xs : List X) (x : X) (ws : Values) → join (values_of (map f (xs ++ x ∷ []))) ws ≡ join (values_of (map f xs))
+    (value (f x) ws)
 join_one f [] x ws = refl
 join_one f (y ∷ xs) x ws = ap (value (f y)) (join_one f xs x ws)
 
-front_one : {X : Type 0} (f : X → Value) (xs : List X) (x : X) (o : Outcome (Read Values)) → with_front (values_of (map f xs)) (put_before (f x) o) ≡ with_front (values_of (map f (xs ++ x ∷ []))) o
+front_one : {X : Type 0} (f : X → Value) (xs : List X) (x : X) (o : Outcome (Read Values)) → with_front (values_of (map f xs)) (put_before (f x) o) ≡ with_front
+    (values_of (map f (xs ++ x ∷ []))) o
 front_one f xs x (gives rs) = ap (λ v. reads v rs.stored rs.next) (sym (join_one f xs x rs.value))
 front_one f xs x ends_early = refl
 front_one f xs x (fails e) = refl
@@ -26,7 +28,8 @@ front_one f xs x (fails e) = refl
 pub item_step : {X : Type 0} (f : X → Value) (read : Reader Value) (n first : ℕ) (xs : List X) (x : X) (b : List ℕ) (o : ℕ) (k k' : List TagValue) (p q e : ℕ)
     → goes_on b first p e ≡ gives true
     → read b o k p e ≡ reads (f x) k' q
-    → with_front (values_of (map f xs)) (run_outcome (suc n) read first b o k p e) ≡ with_front (values_of (map f (xs ++ x ∷ []))) (run_outcome n read first b o k' q e)
+    → with_front (values_of (map f xs)) (run_outcome (suc n) read first b o k p e) ≡ with_front (values_of (map f (xs ++ x ∷ [])))
+    (run_outcome n read first b o k' q e)
 unfolding run_outcome
 item_step f read n first xs x b o k k' p q e more h = rw (more, h) (front_one f xs x (run_outcome n read first b o k' q e))
 

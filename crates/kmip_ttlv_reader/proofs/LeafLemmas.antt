@@ -1,26 +1,13 @@
 -- Leaves of any shape.
-use Rattle.std.proofs.Common.{◌≡◌, ℕ, List, false, refl, ap}
+use Rattle.std.proofs.Common.{◌≡◌, ℕ, List, refl, ap}
 use Rattle.kmip_ttlv_base.specs.Values.{newtype_value}
 use Rattle.kmip_ttlv_base.specs.Forms.{newtype}
 use Rattle.kmip_ttlv_reader.specs.declared.leaf.Leaf.{Leaf}
 use Rattle.kmip_ttlv_reader.specs.declared.leaf.Leaf.TheVariants as leaves
 use Rattle.kmip_ttlv_reader.specs.TagValues.{TagValue}
 use Rattle.kmip_ttlv_reader.specs.LeafForms.{form_of_leaf}
-use Rattle.kmip_ttlv_reader.specs.Reads.{is_struct}
 use Rattle.kmip_ttlv_reader.specs.Steps.{mapped}
 use Rattle.kmip_ttlv_reader.specs.Outcomes.{outcome, leaf_outcome}
-
--- a leaf is no struct
-pub no_struct : (l : Leaf) → is_struct (form_of_leaf l) ≡ false
-no_struct leaves.I32 = refl
-no_struct leaves.I64 = refl
-no_struct leaves.Bool = refl
-no_struct leaves.Text = refl
-no_struct leaves.Bytes = refl
-no_struct leaves.DateTime = refl
-no_struct leaves.Interval = refl
-no_struct leaves.BigInteger = refl
-no_struct leaves.U32 = refl
 
 -- what the form of a leaf reads
 pub leaf_is : (l : Leaf) (b : List ℕ) (o : ℕ) (k : List TagValue) (p e : ℕ) → outcome (form_of_leaf l) b o k p e ≡ leaf_outcome (form_of_leaf l) b o k p e
@@ -36,6 +23,7 @@ leaf_is leaves.BigInteger b o k p e = refl
 leaf_is leaves.U32 b o k p e = refl
 
 -- and what it reads within a wrapper
-pub wrapped_is : (name : List ℕ) (l : Leaf) (b : List ℕ) (o : ℕ) (k : List TagValue) (p e : ℕ) → outcome (newtype name (form_of_leaf l)) b o k p e ≡ mapped (newtype_value name) (leaf_outcome (form_of_leaf l) b o k p e)
+pub wrapped_is : (name : List ℕ) (l : Leaf) (b : List ℕ) (o : ℕ) (k : List TagValue) (p e : ℕ) → outcome (newtype name (form_of_leaf l)) b o k p e ≡ mapped
+    (newtype_value name) (leaf_outcome (form_of_leaf l) b o k p e)
 unfolding outcome
 wrapped_is name l b o k p e = ap (mapped (newtype_value name)) (leaf_is l b o k p e)

@@ -1,5 +1,6 @@
 -- What the loops of readers keep: what was read stands before what is still to be read.
-use Rattle.std.proofs.Common.{◌≡◌, ℕ, zero, suc, Some, ◌+◌, ◌-◌, ◌<◌, ◌≤◌, List, [], ◌∷◌, ◌++◌, length, drop, get_or, refl, ap, sym, ◌∙◌, true, false, Bool, nat_lt, codes, arith}
+use Rattle.std.proofs.Common.{◌≡◌, ℕ, zero, suc, Some, ◌+◌, ◌-◌, ◌<◌, ◌≤◌, List, [], ◌∷◌, ◌++◌, length, drop, get_or, refl, ap, sym, ◌∙◌, true, false, Bool}
+use Rattle.std.proofs.Common.{nat_lt, codes, arith}
 use Rattle.kmip_ttlv_base.specs.declared.shape.FieldShape.{FieldShape}
 use Rattle.kmip_ttlv_base.specs.declared.shape.Shape.{Shape}
 use Rattle.std.proofs.lemmas.Bool.{lt-ltb, le-ltb}
@@ -11,7 +12,9 @@ use Rattle.kmip_ttlv_base.specs.Forms.{fields_of, form_of, forms_of, variants_of
 use Rattle.kmip_ttlv_reader.specs.declared.failure.Failure.{Failure}
 use Rattle.kmip_ttlv_reader.specs.TagValues.{TagValue}
 use Rattle.kmip_ttlv_reader.specs.Steps.{Outcome, gives, ends_early, fails, Read, reads, Reader, ◌>>=◌, mapped}
-use Rattle.kmip_ttlv_reader.specs.Outcomes.{outcome, fields_outcome, field_outcome, run_outcome, goes_on, forms_outcome, part_outcome, rest_outcome, ignored, struct_outcome, first_outcome, root_outcome, enum_outcome, variant_outcome, content_outcome, type_there, picked, tuple_outcome, structure_wanted, length_there, inside}
+use Rattle.kmip_ttlv_reader.specs.Outcomes.{outcome, fields_outcome, field_outcome, run_outcome, goes_on, forms_outcome, part_outcome, rest_outcome, ignored}
+use Rattle.kmip_ttlv_reader.specs.Outcomes.{struct_outcome, first_outcome, root_outcome, enum_outcome, variant_outcome, content_outcome, type_there, picked}
+use Rattle.kmip_ttlv_reader.specs.Outcomes.{tuple_outcome, structure_wanted, length_there, inside}
 use Rattle.kmip_ttlv_reader.specs.Rules.{choice}
 use Rattle.kmip_ttlv_reader.specs.ReadFaults.{in_struct}
 use Rattle.kmip_ttlv_reader.specs.Results.{IsFailure, IsFailureOf}
@@ -41,16 +44,19 @@ front_none (fails x) = refl
 abbrev put_before : Value → Outcome (Read Values) → Outcome (Read Values)
 put_before v o = o >>= λ rs. reads (value v rs.value) rs.stored rs.next
 
-pub front_more : {A : Type 0} (ds : List (Data A)) (d : Data A) (o : Outcome (Read Values)) → with_front (views ds) (put_before (view d) o) ≡ with_front (views (ds ++ d ∷ [])) o
+pub front_more : {A : Type 0} (ds : List (Data A)) (d : Data A) (o : Outcome (Read Values)) → with_front (views ds) (put_before (view d) o) ≡ with_front
+    (views (ds ++ d ∷ [])) o
 front_more ds d (gives rs) = ap (λ v. reads v rs.stored rs.next) (sym (join_more ds d rs.value))
 front_more ds d ends_early = refl
 front_more ds d (fails x) = refl
 
 -- one more field
-pub fields_step : {A : Type 0} (fs : List (FieldShape A)) (i : ℕ) (f : FieldShape A) (ds : List (Data A)) (d : Data A) (b : List ℕ) (o : ℕ) (k k' : List TagValue) (p q e : ℕ)
+pub fields_step : {A : Type 0} (fs : List (FieldShape A)) (i : ℕ) (f : FieldShape A) (ds : List (Data A)) (d : Data A) (b : List ℕ) (o : ℕ)
+    (k k' : List TagValue) (p q e : ℕ)
     → i < length fs → f ≡ get_or fs i f
     → field_outcome f.name.now (form_of f.shape) (outcome (form_of f.shape)) b o k p e ≡ reads (view d) k' q
-    → with_front (views ds) (fields_outcome (fields_of (drop i fs)) b o k p e) ≡ with_front (views (ds ++ d ∷ [])) (fields_outcome (fields_of (drop (i + 1) fs)) b o k' q e)
+    → with_front (views ds) (fields_outcome (fields_of (drop i fs)) b o k p e) ≡ with_front (views (ds ++ d ∷ []))
+    (fields_outcome (fields_of (drop (i + 1) fs)) b o k' q e)
 unfolding fields_outcome outcome
 fields_step fs i f ds d b o k k' p q e lt is h =
     let rest = fields_of (drop (i + 1) fs) in
@@ -59,7 +65,8 @@ fields_step fs i f ds d b o k k' p q e lt is h =
     ∙ front_more ds d (fields_outcome rest b o k' q e)
 
 -- a field with a fault
-pub fields_fails : {A C : Type 0} (fs : List (FieldShape A)) (i : ℕ) (f : FieldShape A) (ds : List (Data A)) (b : List ℕ) (o : ℕ) (k : List TagValue) (p e : ℕ) (r : Failure C)
+pub fields_fails : {A C : Type 0} (fs : List (FieldShape A)) (i : ℕ) (f : FieldShape A) (ds : List (Data A)) (b : List ℕ) (o : ℕ) (k : List TagValue) (p e : ℕ)
+    (r : Failure C)
     → i < length fs → f ≡ get_or fs i f
     → IsFailure (field_outcome f.name.now (form_of f.shape) (outcome (form_of f.shape)) b o k p e) r
     → IsFailure (with_front (views ds) (fields_outcome (fields_of (drop i fs)) b o k p e)) r
@@ -67,7 +74,8 @@ unfolding fields_outcome outcome
 fields_fails fs i f ds b o k p e r lt is h =
     let rest = fields_of (drop (i + 1) fs) in
     let after : Read Value → Outcome (Read Values) = λ v. put_before v.value (fields_outcome rest b o v.stored v.next e) in
-    rw (fields_at fs i f lt is) (failure_then (field_outcome f.name.now (form_of f.shape) (outcome (form_of f.shape)) b o k p e >>= after) _ r (failure_then (field_outcome f.name.now (form_of f.shape) (outcome (form_of f.shape)) b o k p e) after r h))
+    rw (fields_at fs i f lt is) (failure_then (field_outcome f.name.now (form_of f.shape) (outcome (form_of f.shape)) b o k p e >>= after) _ r
+    (failure_then (field_outcome f.name.now (form_of f.shape) (outcome (form_of f.shape)) b o k p e) after r h))
 
 -- no field left
 pub fields_done : {A : Type 0} (fs : List (FieldShape A)) (i : ℕ) (ds : List (Data A)) (b : List ℕ) (o : ℕ) (k : List TagValue) (p e : ℕ)
@@ -78,10 +86,12 @@ fields_done fs i ds b o k p e none =
     ap (λ g. with_front (views ds) (fields_outcome (fields_of g) b o k p e)) none ∙ ap (λ v. reads v k p) (join_nil (views ds))
 
 -- one more part of a tuple
-pub parts_step : {A : Type 0} (fs : List (Shape A)) (i : ℕ) (f : Shape A) (ds : List (Data A)) (d : Data A) (b : List ℕ) (o : ℕ) (k k' : List TagValue) (p q e : ℕ)
+pub parts_step : {A : Type 0} (fs : List (Shape A)) (i : ℕ) (f : Shape A) (ds : List (Data A)) (d : Data A) (b : List ℕ) (o : ℕ) (k k' : List TagValue)
+    (p q e : ℕ)
     → i < length fs → f ≡ get_or fs i f
     → part_outcome (outcome (form_of f)) b o k p e ≡ reads (view d) k' q
-    → with_front (views ds) (forms_outcome (forms_of (drop i fs)) b o k p e) ≡ with_front (views (ds ++ d ∷ [])) (forms_outcome (forms_of (drop (i + 1) fs)) b o k' q e)
+    → with_front (views ds) (forms_outcome (forms_of (drop i fs)) b o k p e) ≡ with_front (views (ds ++ d ∷ []))
+    (forms_outcome (forms_of (drop (i + 1) fs)) b o k' q e)
 unfolding forms_outcome outcome
 parts_step fs i f ds d b o k k' p q e lt is h =
     let rest = forms_of (drop (i + 1) fs) in
@@ -90,7 +100,8 @@ parts_step fs i f ds d b o k k' p q e lt is h =
     ∙ front_more ds d (forms_outcome rest b o k' q e)
 
 -- a part with a fault
-pub parts_fails : {A C : Type 0} (fs : List (Shape A)) (i : ℕ) (f : Shape A) (ds : List (Data A)) (b : List ℕ) (o : ℕ) (k : List TagValue) (p e : ℕ) (r : Failure C)
+pub parts_fails : {A C : Type 0} (fs : List (Shape A)) (i : ℕ) (f : Shape A) (ds : List (Data A)) (b : List ℕ) (o : ℕ) (k : List TagValue) (p e : ℕ)
+    (r : Failure C)
     → i < length fs → f ≡ get_or fs i f
     → IsFailure (part_outcome (outcome (form_of f)) b o k p e) r
     → IsFailure (with_front (views ds) (forms_outcome (forms_of (drop i fs)) b o k p e)) r
@@ -98,7 +109,8 @@ unfolding forms_outcome outcome
 parts_fails fs i f ds b o k p e r lt is h =
     let rest = forms_of (drop (i + 1) fs) in
     let after : Read Value → Outcome (Read Values) = λ v. put_before v.value (forms_outcome rest b o v.stored v.next e) in
-    rw (forms_at fs i f lt is) (failure_then (part_outcome (outcome (form_of f)) b o k p e >>= after) _ r (failure_then (part_outcome (outcome (form_of f)) b o k p e) after r h))
+    rw (forms_at fs i f lt is) (failure_then (part_outcome (outcome (form_of f)) b o k p e >>= after) _ r
+    (failure_then (part_outcome (outcome (form_of f)) b o k p e) after r h))
 
 -- no part left
 pub parts_done : {A : Type 0} (fs : List (Shape A)) (i : ℕ) (ds : List (Data A)) (b : List ℕ) (o : ℕ) (k : List TagValue) (p e : ℕ)
@@ -175,17 +187,20 @@ unfolding outcome
 struct_is name fs deny b o k p e = refl
 
 -- what the page says of a message
-pub root_struct_is : (name : List ℕ) (fs : Fields) (deny : Bool) (b : List ℕ) → root_outcome (struct name fs deny) b ≡ (first_outcome name fs deny (fields_outcome fs) b >>= λ vs. gives (struct_value name vs))
+pub root_struct_is : (name : List ℕ) (fs : Fields) (deny : Bool) (b : List ℕ)
+    → root_outcome (struct name fs deny) b ≡ (first_outcome name fs deny (fields_outcome fs) b >>= λ vs. gives (struct_value name vs))
 unfolding root_outcome
 root_struct_is name fs deny b = refl
 
 -- what it says of an enum
-pub enum_is : (name : List ℕ) (vs : Variants) (b : List ℕ) (o : ℕ) (k : List TagValue) (p e : ℕ) → outcome (enum name vs) b o k p e ≡ enum_outcome name vs (variant_outcome name vs) b o k p e
+pub enum_is : (name : List ℕ) (vs : Variants) (b : List ℕ) (o : ℕ) (k : List TagValue) (p e : ℕ) → outcome (enum name vs) b o k p e ≡ enum_outcome name vs
+    (variant_outcome name vs) b o k p e
 unfolding outcome
 enum_is name vs b o k p e = refl
 
 -- the variant at an index
-variant_is : {A : Type 0} (name : List ℕ) (vs : List (VariantShape A)) (i : ℕ) (v : VariantShape A) (t : TtlvType) (b : List ℕ) (o : ℕ) (k : List TagValue) (p e : ℕ)
+variant_is : {A : Type 0} (name : List ℕ) (vs : List (VariantShape A)) (i : ℕ) (v : VariantShape A) (t : TtlvType) (b : List ℕ) (o : ℕ)
+    (k : List TagValue) (p e : ℕ)
     → i < length vs → v ≡ get_or vs i v
     → variant_outcome name (variants_of vs) i t b o k p e ≡ content_outcome name v.name.now (content_of v.content) t b o k p e
 unfolding variant_outcome
@@ -194,7 +209,8 @@ variant_is name (w ∷ vs) zero v t b o k p e lt is = ap (λ x. content_outcome 
 variant_is name (w ∷ vs) (suc i) v t b o k p e lt is = variant_is name vs i v t b o k p e (omega arith) is
 
 -- an enum of which a rule chose a variant
-pub enum_chosen : {A : Type 0} (name : List ℕ) (vs : List (VariantShape A)) (i : ℕ) (v : VariantShape A) (t : TtlvType) (b : List ℕ) (o : ℕ) (k : List TagValue) (p e : ℕ)
+pub enum_chosen : {A : Type 0} (name : List ℕ) (vs : List (VariantShape A)) (i : ℕ) (v : VariantShape A) (t : TtlvType) (b : List ℕ) (o : ℕ)
+    (k : List TagValue) (p e : ℕ)
     → type_there b p ≡ gives t
     → picked (choice (variants_of vs) k t) b p t ≡ gives (Some i)
     → i < length vs → v ≡ get_or vs i v
@@ -242,6 +258,7 @@ tuple_done t read vs b o k k' p e n q s l h past i =
     rw (s, l, h, none, i) refl
 
 -- a tuple that a rule chose
-pub content_is : (name vname : List ℕ) (ss : Forms) (t : TtlvType) (b : List ℕ) (o : ℕ) (k : List TagValue) (p e : ℕ) → content_outcome name vname (tuple ss) t b o k p e ≡ mapped (tuple_variant_value name vname) (tuple_outcome t (forms_outcome ss) b o k p e)
+pub content_is : (name vname : List ℕ) (ss : Forms) (t : TtlvType) (b : List ℕ) (o : ℕ) (k : List TagValue) (p e : ℕ)
+    → content_outcome name vname (tuple ss) t b o k p e ≡ mapped (tuple_variant_value name vname) (tuple_outcome t (forms_outcome ss) b o k p e)
 unfolding content_outcome
 content_is name vname ss t b o k p e = refl

@@ -1,13 +1,16 @@
 -- What a step of reading gives, and when it ends early: said once for each step, whatever an early end would mean.
-use Rattle.std.proofs.Common.{◌≡◌, ◌==◌, ◌||◌, ℕ, ◌+◌, ◌<◌, ◌≤◌, List, Bool, true, false, length, take, drop, nat_lt, Option, Some, None, refl, ap, sym, ◌∙◌, subst, arith, if◌then◌else◌}
+use Rattle.std.proofs.Common.{◌≡◌, ◌==◌, ◌||◌, ℕ, ◌+◌, ◌<◌, ◌≤◌, List, Bool, true, false, length, take, drop, nat_lt, Option, Some, None, refl, ap, sym, ◌∙◌}
+use Rattle.std.proofs.Common.{subst, arith, if◌then◌else◌}
 use Rattle.std.proofs.lemmas.Bool.{ltb-false, ltb-true, eqb-true}
 use Rattle.kmip_ttlv_types.specs.declared.typ.TtlvType.{TtlvType}
-use Rattle.kmip_ttlv_types.specs.declared.typ.TtlvType.TheVariants.{BigInteger, Boolean, ByteString, DateTime, Enumeration, Integer, Interval, LongInteger, Structure, TextString}
+use Rattle.kmip_ttlv_types.specs.declared.typ.TtlvType.TheVariants.{BigInteger, Boolean, ByteString, DateTime, Enumeration, Integer, Interval, LongInteger}
+use Rattle.kmip_ttlv_types.specs.declared.typ.TtlvType.TheVariants.{Structure, TextString}
 use Rattle.kmip_ttlv_types.specs.ItemTypes.{code, fixed_length, is_structure, type_of}
 use Rattle.kmip_ttlv_types.specs.Leaves.{is_valid}
 use Rattle.kmip_ttlv_types.specs.Names.{tag_of}
 use Rattle.kmip_ttlv_types.specs.Places.{code_at, length_at, size, tag_at}
-use Rattle.kmip_ttlv_reader.specs.Outcomes.{content_there, end_there, inside, item_end, length_there, length_wanted, opened, structure_wanted, tag_wanted, tagged, type_there, type_wanted, typed}
+use Rattle.kmip_ttlv_reader.specs.Outcomes.{content_there, end_there, inside, item_end, length_there, length_wanted, opened, structure_wanted, tag_wanted}
+use Rattle.kmip_ttlv_reader.specs.Outcomes.{tagged, type_there, type_wanted, typed}
 use Rattle.kmip_ttlv_reader.specs.Reads.{has_tag}
 use Rattle.kmip_ttlv_reader.specs.Steps.{Fault, Outcome, ends_early, fails, gives, must, must_not, within, ◌>>=◌}
 
@@ -17,7 +20,8 @@ pub data Onward {A : Type 0} (E : Type 0) (P : A → Type 0) : Outcome A → Typ
   given : {x : A} → P x → Onward E P (gives x)
   failed : {f : Fault} → Onward E P (fails f)
 
-pub on_then : {A B : Type 0} {E : Type 0} {P : A → Type 0} {Q : B → Type 0} {o : Outcome A} {f : A → Outcome B} → Onward E P o → ((x : A) → P x → Onward E Q (f x)) → Onward E Q (o >>= f)
+pub on_then : {A B : Type 0} {E : Type 0} {P : A → Type 0} {Q : B → Type 0} {o : Outcome A} {f : A → Outcome B} → Onward E P o
+    → ((x : A) → P x → Onward E Q (f x)) → Onward E Q (o >>= f)
 on_then (early h) more = early h
 on_then (given h) more = more _ h
 on_then failed more = failed
@@ -37,7 +41,8 @@ on_within t (given h) = given h
 on_within t failed = failed
 
 -- either branch of a test
-pub on_if : {A : Type 0} {E : Type 0} {P : A → Type 0} (t : Bool) (x y : Outcome A) → (t ≡ true → Onward E P x) → (t ≡ false → Onward E P y) → Onward E P (if t then x else y)
+pub on_if : {A : Type 0} {E : Type 0} {P : A → Type 0} (t : Bool) (x y : Outcome A) → (t ≡ true → Onward E P x) → (t ≡ false → Onward E P y)
+    → Onward E P (if t then x else y)
 on_if true x y f g = f refl
 on_if false x y f g = g refl
 
@@ -60,13 +65,15 @@ must_not_is true f = failed
 must_not_is false f = given refl
 
 -- so many bytes are there, or it ends early
-on_bytes : {A : Type 0} {E : Type 0} {P : A → Type 0} (b : List ℕ) (n : ℕ) (o : Outcome A) → (length b < n → E) → (n ≤ length b → Onward E P o) → Onward E P (if nat_lt (length b) n then ends_early else o)
+on_bytes : {A : Type 0} {E : Type 0} {P : A → Type 0} (b : List ℕ) (n : ℕ) (o : Outcome A) → (length b < n → E) → (n ≤ length b → Onward E P o)
+    → Onward E P (if nat_lt (length b) n then ends_early else o)
 on_bytes b n o cut more = on_if (nat_lt (length b) n) ends_early o (λ short. early (cut (ltb-true _ _ short))) (λ long. more (ltb-false _ _ long))
 
 -- ---- an item's header
 
 -- one more code
-coded : (n m : ℕ) (u : TtlvType) (o : Option TtlvType) → code u ≡ m → ((t : TtlvType) → o ≡ Some t → code t ≡ n) → (t : TtlvType) → (if n == m then Some u else o) ≡ Some t → code t ≡ n
+coded : (n m : ℕ) (u : TtlvType) (o : Option TtlvType) → code u ≡ m → ((t : TtlvType) → o ≡ Some t → code t ≡ n) → (t : TtlvType)
+    → (if n == m then Some u else o) ≡ Some t → code t ≡ n
 coded n m u o is more t e = by_test (n == m) refl e
   where
     by_test : (x : Bool) → (n == m) ≡ x → (if x then Some u else o) ≡ Some t → code t ≡ n
@@ -88,7 +95,8 @@ pub type_is : {E : Type 0} (b : List ℕ) (p : ℕ) → (length b < p + 8 → E)
 unfolding type_there
 type_is b p cut = on_bytes b (p + 4) _ (λ short. cut (omega arith)) (λ _. on_map (λ x. x) (code-type_of (code_at b p)) (typed_is b p (type_of (code_at b p))))
 
-tagged_is : {E : Type 0} (name b : List ℕ) (p : ℕ) (t : TtlvType) (o : Option ℕ) → Onward E (λ _. (n : ℕ) × (o ≡ Some n) × ((n == tag_at b p) ≡ true)) (tagged name b p t o)
+tagged_is : {E : Type 0} (name b : List ℕ) (p : ℕ) (t : TtlvType) (o : Option ℕ) → Onward E (λ _. (n : ℕ) × (o ≡ Some n) × ((n == tag_at b p) ≡ true))
+    (tagged name b p t o)
 tagged_is name b p t None = failed
 tagged_is name b p t (Some n) = on_map (λ x. x) (λ _ is. (n, refl, is)) (must_is (n == tag_at b p) _)
 
@@ -133,13 +141,20 @@ pub record ContentAt (b : List ℕ) (p : ℕ) (t : TtlvType) (c : List ℕ) (q :
   pub there : p + size t (length_at b p) ≤ length b
 
 -- a place behind the padding of a length that was read
-end_is : {E : Type 0} (b : List ℕ) (p : ℕ) (t : TtlvType) (n : ℕ) → n ≡ length_at b p → (length b < p + size t (length_at b p) → E) → Onward E (ContentAt b p t (take n (drop (p + 8) b))) (end_there b p t n)
+end_is : {E : Type 0} (b : List ℕ) (p : ℕ) (t : TtlvType) (n : ℕ) → n ≡ length_at b p → (length b < p + size t (length_at b p) → E)
+    → Onward E (ContentAt b p t (take n (drop (p + 8) b))) (end_there b p t n)
 unfolding end_there
 end_is b p t n len cut =
     let same : p + size t n ≡ p + size t (length_at b p) = ap (λ (m : ℕ). p + size t m) len in
-    on_bytes b (p + size t n) _ (λ short. cut (omega (arith, same))) (λ long. given record { content = ap (λ (m : ℕ). take m (drop (p + 8) b)) len; behind = same; there = omega (arith, same) })
+    on_bytes b (p + size t n) _ (λ short. cut (omega (arith, same))) (λ long. given record {
+      content = ap (λ (m : ℕ). take m (drop (p + 8) b)) len;
+      behind =
+          same;
+      there = omega (arith, same);
+    })
 
-pub content_is : {E : Type 0} (b : List ℕ) (p : ℕ) (t : TtlvType) → (length b < p + size t (length_at b p) → E) → Onward E (λ c. ContentAt b p t c.0 c.1 × (is_valid t c.0 ≡ true)) (content_there b p t)
+pub content_is : {E : Type 0} (b : List ℕ) (p : ℕ) (t : TtlvType) → (length b < p + size t (length_at b p) → E)
+    → Onward E (λ c. ContentAt b p t c.0 c.1 × (is_valid t c.0 ≡ true)) (content_there b p t)
 unfolding content_there
 content_is b p t cut =
     on_then (length_is b p (λ short. cut (omega arith))) (λ n len.
@@ -154,18 +169,32 @@ pub record StructureAt (b : List ℕ) (p stop : ℕ) : Type 0 where
   pub content_there : p + 8 ≤ length b
   pub stops : stop ≡ p + 8 + length_at b p
 
-pub opened_is : {E : Type 0} (name b : List ℕ) (p : ℕ) → (length b < p + 8 → E) → Onward E (λ stop. (has_tag name (tag_at b p) ≡ true) × StructureAt b p stop) (opened name b p)
+pub opened_is : {E : Type 0} (name b : List ℕ) (p : ℕ) → (length b < p + 8 → E) → Onward E (λ stop. (has_tag name (tag_at b p) ≡ true) × StructureAt b p stop)
+    (opened name b p)
 unfolding opened
 opened_is name b p cut =
     on_then (type_is b p cut) (λ t typ.
     on_then (tag_is name b p t) (λ _ named_so.
     on_then (structure_is b p t) (λ _ is.
-    on_then (length_is b p cut) (λ n len. given (named_so, record { typ = ap code (sym is) ∙ typ; content_there = len.1; stops = ap (λ (m : ℕ). p + 8 + m) len.0 })))))
+    on_then (length_is b p cut) (λ n len. given (
+      named_so,
+      record {
+        typ = ap code (sym is) ∙ typ;
+        content_there = len.1;
+        stops =
+            ap (λ (m : ℕ). p + 8 + m) len.0;
+      },
+    )))))
 
 -- an item that is passed over: a leaf's content is valid
-pub item_end_is : {E : Type 0} (b : List ℕ) (p : ℕ) (t : TtlvType) → (length b < p + size t (length_at b p) → E) → Onward E (λ q. ContentAt b p t (content_at b p) q × ((is_structure t || is_valid t (content_at b p)) ≡ true)) (item_end b p t)
+pub item_end_is : {E : Type 0} (b : List ℕ) (p : ℕ) (t : TtlvType) → (length b < p + size t (length_at b p) → E)
+    → Onward E (λ q. ContentAt b p t (content_at b p) q × ((is_structure t || is_valid t (content_at b p)) ≡ true)) (item_end b p t)
 unfolding item_end
 item_end_is b p t cut =
     on_if (is_structure t) _ _
-    (λ yes. on_then (length_is b p (λ short. cut (omega arith))) (λ n len. on_map (λ x. x) (λ q at. (record { content = refl; behind = at.behind; there = at.there }, rw yes refl)) (end_is b p t n len.0 cut)))
-    (λ plain. on_then (content_is b p t cut) (λ c at. given (record { content = refl; behind = at.0.behind; there = at.0.there }, rw plain (subst (λ (x : List ℕ). is_valid t x ≡ true) at.0.content at.1))))
+    (λ yes. on_then (length_is b p (λ short. cut (omega arith)))
+    (λ n len. on_map (λ x. x) (λ q at. (record { content = refl; behind = at.behind; there = at.there }, rw yes refl)) (end_is b p t n len.0 cut)))
+    (λ plain. on_then (content_is b p t cut) (λ c at. given (
+      record { content = refl; behind = at.0.behind; there = at.0.there },
+      rw plain (subst (λ (x : List ℕ). is_valid t x ≡ true) at.0.content at.1),
+    )))

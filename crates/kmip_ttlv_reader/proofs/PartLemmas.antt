@@ -1,5 +1,6 @@
 -- What a rule says by its parts.
-use Rattle.std.proofs.Common.{◌≡◌, ℕ, List, [], ◌∷◌, map, Bool, true, false, cond, ◌||◌, Option, Some, None, option_map, option_and_then, refl, sym, ap, ◌∙◌, ◌==◌, codes, rules}
+use Rattle.std.proofs.Common.{◌≡◌, ℕ, List, [], ◌∷◌, map, Bool, true, false, cond, ◌||◌, Option, Some, None, option_map, option_and_then, refl, sym, ap, ◌∙◌}
+use Rattle.std.proofs.Common.{◌==◌, codes, rules}
 use Rattle.std.specs.Borrow.{Bor}
 use Rattle.std.specs.List.{list_any, slice_split}
 use Rattle.std.specs.Str.{bytes_eq, trim, trim_end, trim_start, chars}
@@ -8,17 +9,19 @@ use Rattle.std.proofs.lemmas.Slice.Eq.{bytes_eq-Decides}
 use Rattle.kmip_ttlv_types.specs.declared.typ.TtlvType.{TtlvType}
 use Rattle.kmip_ttlv_types.specs.Names.{after_prefix, number, tag_of}
 use Rattle.kmip_ttlv_reader.specs.TagValues.{TagValue, last}
-use Rattle.kmip_ttlv_reader.specs.Rules.{Choice, first_by, Verdict, fails, plain_verdict, needs, with_text, sides, in_brackets, type_name, by, equal, at_least, member, verdict, rule, refused}
+use Rattle.kmip_ttlv_reader.specs.Rules.{Choice, first_by, Verdict, fails, plain_verdict, needs, with_text, sides, in_brackets, type_name, by, equal, at_least}
+use Rattle.kmip_ttlv_reader.specs.Rules.{member, verdict, rule, refused}
 use Rattle.kmip_ttlv_base.specs.Errors.{invalid_rule}
 use Rattle.kmip_ttlv_reader.specs.Chosen.{if_holds}
-use Rattle.kmip_ttlv_reader.specs.RuleParts.{wants, texts_of, wanted, parts_of_equal, parts_of_member, parts_by, parts_of_body, parts_by_name, parts_of, equal_sides, AreParts}
+use Rattle.kmip_ttlv_reader.specs.RuleParts.{texts_verdict, texts_of, wanted, parts_of_equal, parts_of_member, parts_by, parts_of_body, parts_by_name, parts_of}
+use Rattle.kmip_ttlv_reader.specs.RuleParts.{equal_sides, AreParts}
 use Rattle.kmip_ttlv_reader.specs.declared.rules.RuleParts.{RuleParts}
 use Rattle.kmip_ttlv_reader.specs.declared.rules.RuleParts.TheVariants as parts
 
 -- what parts say, where there are some
-abbrev told_by : List TagValue → Option (ℕ × List (List ℕ)) → Verdict
-told_by ks None = fails
-told_by ks (Some p) = wants p.0 p.1 ks
+abbrev said_by : List TagValue → Option (ℕ × List (List ℕ)) → Verdict
+said_by ks None = fails
+said_by ks (Some p) = texts_verdict p.0 p.1 ks
 
 -- texts are equal in either order
 alike : (a b : List ℕ) → bytes_eq a b ≡ bytes_eq b a
@@ -34,7 +37,8 @@ or_none : (b : Bool) → b ≡ b || false
 or_none true = refl
 or_none false = refl
 
-one_text : (o : Option (List ℕ)) (x : List ℕ) → with_text o (λ text. plain_verdict (bytes_eq text x)) ≡ with_text o (λ text. plain_verdict (list_any (bytes_eq text) (x ∷ [])))
+one_text : (o : Option (List ℕ)) (x : List ℕ) → with_text o (λ text. plain_verdict (bytes_eq text x)) ≡ with_text o
+    (λ text. plain_verdict (list_any (bytes_eq text) (x ∷ [])))
 one_text None x = refl
 one_text (Some text) x = ap plain_verdict (or_none (bytes_eq text x))
 
@@ -42,42 +46,46 @@ trimmed : (text : List ℕ) (xs : List (List ℕ)) → list_any (λ m. bytes_eq 
 trimmed text [] = refl
 trimmed text (x ∷ xs) = ap (λ b. b || list_any (λ m. bytes_eq (trim m) text) xs) (alike (trim x) text) ∙ ap (λ b. bytes_eq text (trim x) || b) (trimmed text xs)
 
-some_texts : (o : Option (List ℕ)) (xs : List (List ℕ)) → with_text o (λ text. plain_verdict (list_any (λ m. bytes_eq (trim m) text) xs)) ≡ with_text o (λ text. plain_verdict (list_any (bytes_eq text) (map trim xs)))
+some_texts : (o : Option (List ℕ)) (xs : List (List ℕ)) → with_text o (λ text. plain_verdict (list_any (λ m. bytes_eq (trim m) text) xs)) ≡ with_text o
+    (λ text. plain_verdict (list_any (bytes_eq text) (map trim xs)))
 some_texts None xs = refl
 some_texts (Some text) xs = ap plain_verdict (trimmed text xs)
 
-equal_in_parts : (ks : List TagValue) (typ : TtlvType) (l x : List ℕ) (p : ℕ × List (List ℕ)) → parts_of_equal l x ≡ Some p → equal ks typ l x ≡ wants p.0 p.1 ks
+equal_in_parts : (ks : List TagValue) (typ : TtlvType) (l x : List ℕ) (p : ℕ × List (List ℕ)) → parts_of_equal l x ≡ Some p
+    → equal ks typ l x ≡ texts_verdict p.0 p.1 ks
 unfolding equal
 equal_in_parts ks typ l x p = go (bytes_eq l (codes "type")) (tag_of l)
   where
     go : (b : Bool) (o : Option ℕ) → cond b None (option_map (λ t. (t, x ∷ [])) o) ≡ Some p
-        → cond b (plain_verdict (bytes_eq x (type_name typ))) (with_text (option_and_then (last ks) o) (λ text. plain_verdict (bytes_eq text x))) ≡ wants p.0 p.1 ks
+        → cond b (plain_verdict (bytes_eq x (type_name typ))) (with_text (option_and_then (last ks) o) (λ text. plain_verdict (bytes_eq text x)))
+        ≡ texts_verdict p.0 p.1 ks
     go true o e = absurd (search rules)
     go false None e = absurd (search rules)
-    go false (Some t) e = one_text (last ks t) x ∙ ap (told_by ks) e
+    go false (Some t) e = one_text (last ks t) x ∙ ap (said_by ks) e
 
-member_in_parts : (ks : List TagValue) (l x : List ℕ) (p : ℕ × List (List ℕ)) → parts_of_member l x ≡ Some p → member ks l x ≡ wants p.0 p.1 ks
+member_in_parts : (ks : List TagValue) (l x : List ℕ) (p : ℕ × List (List ℕ)) → parts_of_member l x ≡ Some p → member ks l x ≡ texts_verdict p.0 p.1 ks
 unfolding member
 member_in_parts ks l x p = go (in_brackets x) (tag_of l)
   where
     go : (o : Option (List ℕ)) (n : Option ℕ) → option_and_then (λ all. option_map (λ t. (t, map trim (slice_split (λ c. c == 44) all))) n) o ≡ Some p
-        → with_text o (λ all. needs n l (λ t. with_text (last ks t) (λ text. plain_verdict (list_any (λ m. bytes_eq (trim m) text) (slice_split (λ c. c == 44) all))))) ≡ wants p.0 p.1 ks
+        → with_text o (λ all. needs n l
+        (λ t. with_text (last ks t) (λ text. plain_verdict (list_any (λ m. bytes_eq (trim m) text) (slice_split (λ c. c == 44) all))))) ≡ texts_verdict p.0 p.1 ks
     go None n e = absurd (search rules)
     go (Some all) None e = absurd (search rules)
-    go (Some all) (Some t) e = some_texts (last ks t) (slice_split (λ c. c == 44) all) ∙ ap (told_by ks) e
+    go (Some all) (Some t) e = some_texts (last ks t) (slice_split (λ c. c == 44) all) ∙ ap (said_by ks) e
 
 by_sides : (ks : List TagValue) (typ : TtlvType) (name : List ℕ) (a b c : Option (List ℕ × List ℕ)) (p : ℕ × List (List ℕ)) → parts_by a b c ≡ Some p
-    → by a (equal ks typ) (by b (at_least ks) (by c (member ks) (refused (invalid_rule name)))) ≡ wants p.0 p.1 ks
+    → by a (equal ks typ) (by b (at_least ks) (by c (member ks) (refused (invalid_rule name)))) ≡ texts_verdict p.0 p.1 ks
 by_sides ks typ name (Some x) b c p e = equal_in_parts ks typ x.0 x.1 p e
 by_sides ks typ name None (Some x) c p e = absurd (search rules)
 by_sides ks typ name None None (Some x) p e = member_in_parts ks x.0 x.1 p e
 by_sides ks typ name None None None p e = absurd (search rules)
 
-rule_by_name : (ks : List TagValue) (typ : TtlvType) (name : List ℕ) (p : ℕ × List (List ℕ)) → parts_by_name name ≡ Some p → rule name ks typ ≡ wants p.0 p.1 ks
+rule_by_name : (ks : List TagValue) (typ : TtlvType) (name : List ℕ) (p : ℕ × List (List ℕ)) → parts_by_name name ≡ Some p → rule name ks typ ≡ texts_verdict p.0 p.1 ks
 unfolding rule
 rule_by_name ks typ name p = go (after_prefix (codes "if ") name)
   where
-    go : (o : Option (List ℕ)) → option_and_then parts_of_body o ≡ Some p → verdict name o ks typ ≡ wants p.0 p.1 ks
+    go : (o : Option (List ℕ)) → option_and_then parts_of_body o ≡ Some p → verdict name o ks typ ≡ texts_verdict p.0 p.1 ks
     go None e = absurd (search rules)
     go (Some body) e = by_sides ks typ name (sides (codes "==") body) (sides (codes ">=") body) (sides (codes "in") body) p e
 
@@ -86,11 +94,12 @@ unfolding parts_of tag_of number sides in_brackets trim_end trim_start chars enc
 computed name = refl
 
 -- a rule that asks for a text says what its tag and texts say
-rule_in_parts : (ks : List TagValue) (typ : TtlvType) (name : List ℕ) (p : ℕ × List (List ℕ)) → parts_of name ≡ Some p → rule name ks typ ≡ wants p.0 p.1 ks
+rule_in_parts : (ks : List TagValue) (typ : TtlvType) (name : List ℕ) (p : ℕ × List (List ℕ)) → parts_of name ≡ Some p → rule name ks typ ≡ texts_verdict p.0 p.1 ks
 rule_in_parts ks typ name p e = rule_by_name ks typ name p (sym (computed name) ∙ e)
 
 -- whether the last text is one of some texts
-pub is_wanted : (ks : List TagValue) (t : ℕ) (texts : List (Bor (List ℕ))) (text : List ℕ) → Some text ≡ last ks t → plain_verdict (list_any (λ one. bytes_eq text one.now) texts) ≡ wants t (map (λ one. one.now) texts) ks
+pub is_wanted : (ks : List TagValue) (t : ℕ) (texts : List (Bor (List ℕ))) (text : List ℕ) → Some text ≡ last ks t
+    → plain_verdict (list_any (λ one. bytes_eq text one.now) texts) ≡ texts_verdict t (map (λ one. one.now) texts) ks
 is_wanted ks t texts text stored =
     ap plain_verdict (seen texts) ∙ ap (λ o. with_text o (λ s. plain_verdict (list_any (bytes_eq s) (map (λ one. one.now) texts)))) stored
   where
@@ -103,11 +112,13 @@ unfolding equal_sides sides trim_end trim_start chars encode
 sides_computed name = refl
 
 -- a rule that asks for a type says whether the item's type has that name
-typed : (ks : List TagValue) (typ asked : TtlvType) (name : List ℕ) → equal_sides name ≡ Some (codes "type", type_name asked) → rule name ks typ ≡ plain_verdict (bytes_eq (type_name asked) (type_name typ))
+typed : (ks : List TagValue) (typ asked : TtlvType) (name : List ℕ) → equal_sides name ≡ Some (codes "type", type_name asked)
+    → rule name ks typ ≡ plain_verdict (bytes_eq (type_name asked) (type_name typ))
 unfolding rule equal
 typed ks typ asked name e = go (after_prefix (codes "if ") name) (sym (sides_computed name) ∙ e)
   where
-    go : (o : Option (List ℕ)) → option_and_then (sides (codes "==")) o ≡ Some (codes "type", type_name asked) → verdict name o ks typ ≡ plain_verdict (bytes_eq (type_name asked) (type_name typ))
+    go : (o : Option (List ℕ)) → option_and_then (sides (codes "==")) o ≡ Some (codes "type", type_name asked)
+        → verdict name o ks typ ≡ plain_verdict (bytes_eq (type_name asked) (type_name typ))
     go None e = absurd (search rules)
     go (Some body) e = rw e refl
 
@@ -117,9 +128,10 @@ said_in_parts ks typ name (parts.Texts tag texts) are = rule_in_parts ks typ nam
 said_in_parts ks typ name (parts.Type asked) are = typed ks typ asked name are
 
 -- a rule holds where its parts do
-pub held_in_parts : (ks : List TagValue) (typ : TtlvType) (name : List ℕ) (p : RuleParts) (stored_text : Bool) → AreParts name (Some p) → plain_verdict stored_text ≡ wanted p ks typ → (c : Choice) → first_by (rule name ks typ) c ≡ if_holds stored_text c
-held_in_parts ks typ name p stored_text are verdict_by c = ap (λ v. first_by v c) (said_in_parts ks typ name p are ∙ sym verdict_by) ∙ by_held stored_text
+pub holds_in_parts : (ks : List TagValue) (typ : TtlvType) (name : List ℕ) (p : RuleParts) (stored_text : Bool) → AreParts name (Some p)
+    → plain_verdict stored_text ≡ wanted p ks typ → (c : Choice) → first_by (rule name ks typ) c ≡ if_holds stored_text c
+holds_in_parts ks typ name p stored_text are verdict_by c = ap (λ v. first_by v c) (said_in_parts ks typ name p are ∙ sym verdict_by) ∙ by_holding stored_text
   where
-    by_held : (b : Bool) → first_by (plain_verdict b) c ≡ if_holds b c
-    by_held true = refl
-    by_held false = refl
+    by_holding : (b : Bool) → first_by (plain_verdict b) c ≡ if_holds b c
+    by_holding true = refl
+    by_holding false = refl

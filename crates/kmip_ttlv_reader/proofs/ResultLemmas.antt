@@ -15,13 +15,14 @@ use Rattle.kmip_ttlv_reader.proofs.Founding.{found_root, whole_root}
 use Rattle.kmip_ttlv_reader.proofs.Giving.{given_root}
 use Rattle.kmip_ttlv_reader.proofs.Standing.{root_stands}
 
-pub result_found : {T A : Type 0} (s : Form) (b : List ℕ) (is_value : Value → T → Type 0) (r : Result T (Error A)) → AreBytes b → IsReadAs is_value (root_outcome s b) r → IfOk r (λ x. (v : Value) × Begins s b v × is_value v x)
+pub result_found : {T A : Type 0} (s : Form) (b : List ℕ) (is_value : Value → T → Type 0) (r : Result T (Error A)) → AreBytes b
+    → IsReadAs is_value (root_outcome s b) r → IfOk r (λ x. (v : Value) × Begins s b v × is_value v x)
 result_found s b is_value (Ok x) bytes h = (h.0, found_root s b h.0 bytes h.1, h.2)
 result_found s b is_value (Err e) bytes h = tt
 
 -- out of memory says nothing
 memory_sort : {A : Type 0} (e : Error A) → IsMemory e → sort_of e ≡ memory
-memory_sort e want = ap (λ k. sort_of_kind (view_of_kind k)) want.kind
+memory_sort e lack = ap (λ k. sort_of_kind (view_of_kind k)) lack.kind
 
 -- where a value is read, no other outcome comes
 not_ends : (v : Value) → ◌≡◌ {A = Outcome Value} ends_early (gives v) → ⊥
@@ -36,7 +37,8 @@ fault_stands s b x k of_bytes is = by_kind k of_bytes
   where
     never : (after : List ℕ) (v : Value) → Begins s (b ++ after) v → ⊥
     never after v begins =
-        let same : Stands (fails x) (root_outcome s (b ++ after)) = subst (λ (o : Outcome Value). Stands o (root_outcome s (b ++ after))) is (root_stands s b after) in
+        let same : Stands (fails x) (root_outcome s (b ++ after)) = subst (λ (o : Outcome Value). Stands o (root_outcome s (b ++ after))) is
+        (root_stands s b after) in
         not_fails x v (sym same ∙ given_root s (b ++ after) v begins)
 
     by_kind : (k : Kind) → IsOfBytes k → NothingBegins s b (sort_of_kind k)
@@ -46,12 +48,14 @@ fault_stands s b x k of_bytes is = by_kind k of_bytes
 
 error_stands : (s : Form) (b : List ℕ) (o : Outcome Value) (f : Fault) → root_outcome s b ≡ o → IsError o f → NothingBegins s b (sort_of_kind f.why)
 error_stands s b (gives v) f is h = absurd h
-error_stands s b ends_early f is h = subst (λ (g : Fault). NothingBegins s b (sort_of_kind g.why)) (sym h) (λ v begins. not_ends v (sym is ∙ given_root s b v begins))
+error_stands s b ends_early f is h = subst (λ (g : Fault). NothingBegins s b (sort_of_kind g.why)) (sym h)
+    (λ v begins. not_ends v (sym is ∙ given_root s b v begins))
 error_stands s b (fails x) f is h = fault_stands s b x f.why h.1 is
 
-pub result_stands : {T A : Type 0} (s : Form) (b : List ℕ) (is_value : Value → T → Type 0) (r : Result T (Error A)) → IsReadAs is_value (root_outcome s b) r → IfErr r (λ e. ErrorStands s b e)
+pub result_stands : {T A : Type 0} (s : Form) (b : List ℕ) (is_value : Value → T → Type 0) (r : Result T (Error A)) → IsReadAs is_value (root_outcome s b) r
+    → IfErr r (λ e. ErrorStands s b e)
 result_stands s b is_value (Ok x) h = tt
-result_stands s b is_value (Err e) (inl want) = subst (NothingBegins s b) (sym (memory_sort e want)) tt
+result_stands s b is_value (Err e) (inl lack) = subst (NothingBegins s b) (sym (memory_sort e lack)) tt
 result_stands s b is_value (Err e) (inr h) = error_stands s b (root_outcome s b) (seen e) refl h
 
 -- a fault of the bytes is no early end
@@ -65,7 +69,8 @@ error_whole s b (gives v) f is h whole early = absurd h
 error_whole s b ends_early f is h whole early = whole_root s b whole is
 error_whole s b (fails x) f is h whole early = not_early f.why h.1 early
 
-pub result_whole : {T A : Type 0} (s : Form) (b : List ℕ) (is_value : Value → T → Type 0) (r : Result T (Error A)) → IsReadAs is_value (root_outcome s b) r → IfErr r (λ e. BeginsWhole b → sort_of e ≡ early_end → ⊥)
+pub result_whole : {T A : Type 0} (s : Form) (b : List ℕ) (is_value : Value → T → Type 0) (r : Result T (Error A)) → IsReadAs is_value (root_outcome s b) r
+    → IfErr r (λ e. BeginsWhole b → sort_of e ≡ early_end → ⊥)
 result_whole s b is_value (Ok x) h = tt
-result_whole s b is_value (Err e) (inl want) = λ whole early. let no : memory ≡ early_end = sym (memory_sort e want) ∙ early in absurd cc
+result_whole s b is_value (Err e) (inl lack) = λ whole early. let no : memory ≡ early_end = sym (memory_sort e lack) ∙ early in absurd cc
 result_whole s b is_value (Err e) (inr h) = error_whole s b (root_outcome s b) (seen e) refl h

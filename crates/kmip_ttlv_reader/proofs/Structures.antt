@@ -42,8 +42,10 @@ field_is tag s read b o k p e plain leaf = rw (plain, leaf) (by_end (p == e))
     by_type (fails x) = refl
 
     by_end : (x : Bool)
-        → (if x then fails (in_struct e o (codes "missing field")) else (type_there b p >>= λ t. if has_tag (tag_text tag) (tag_at b p) then read b o k p e else (tag_wanted (tag_text tag) b p t >>= λ u. read b o k p e)))
-        ≡ ((if x then fails (in_struct e o (codes "missing field")) else (type_there b p >>= λ t. if has_tag (tag_text tag) (tag_at b p) then gives tt else tag_wanted (tag_text tag) b p t)) >>= λ u. read b o k p e)
+        → (if x then fails (in_struct e o (codes "missing field")) else (type_there b p >>= λ t. if has_tag (tag_text tag) (tag_at b p) then read b o k p e else
+        (tag_wanted (tag_text tag) b p t >>= λ u. read b o k p e)))
+        ≡ ((if x then fails (in_struct e o (codes "missing field")) else (type_there b p >>= λ t. if has_tag (tag_text tag) (tag_at b p) then gives tt else
+        tag_wanted (tag_text tag) b p t)) >>= λ u. read b o k p e)
     by_end true = refl
     by_end false = by_type (type_there b p)
 
@@ -66,6 +68,7 @@ optional_is tag s read b o k p e = by_end (p == e)
 
     by_end : (x : Bool)
         → (if x then reads none_value k p else (type_there b p >>= λ t. if has_tag (tag_text tag) (tag_at b p) then read b o k p e else reads none_value k p))
-        ≡ ((if x then gives false else (type_there b p >>= λ t. gives (has_tag (tag_text tag) (tag_at b p)))) >>= λ there. if there then read b o k p e else reads none_value k p)
+        ≡ ((if x then gives false else (type_there b p >>= λ t. gives (has_tag (tag_text tag) (tag_at b p)))) >>= λ there. if there then read b o k p e else
+        reads none_value k p)
     by_end true = refl
     by_end false = by_type (type_there b p)

@@ -1,5 +1,6 @@
 -- The rows of a table of an Enumeration's numbers.
-use Rattle.std.proofs.Common.{◌≡◌, ℕ, zero, suc, ◌<◌, ◌≤◌, true, false, cond, List, [], ◌∷◌, length, drop, slice_index_or, Some, None, refl, sym, ap, ◌∙◌, arith, codes}
+use Rattle.std.proofs.Common.{◌≡◌, ℕ, zero, suc, ◌<◌, ◌≤◌, true, false, cond, List, [], ◌∷◌, length, drop, slice_index_or, Some, None, refl, sym, ap, ◌∙◌}
+use Rattle.std.proofs.Common.{arith, codes}
 use Rattle.std.specs.Borrow.{Bor}
 use Rattle.std.specs.Str.{bytes_eq}
 use Rattle.std.proofs.lemmas.Slice.Eq.{bytes_eq-Decides}
@@ -37,7 +38,8 @@ rows_at name (r ∷ rows) zero row l e = ap (λ q. cond (bytes_eq q.0.now name) 
 rows_at name (r ∷ rows) (suc i) row l e = rows_at name rows i row (omega arith) e
 
 -- a row's value
-value_at : {T : Type 0} (own : List ℕ) (f : T → Value) (vs : Variants) (rows : List (Bor (List ℕ) × T)) (i : ℕ) (row : Bor (List ℕ) × T) → AreListed own f vs rows → i < length rows → row ≡ slice_index_or rows i row → f row.1 ≡ unit_variant_value own row.0.now
+value_at : {T : Type 0} (own : List ℕ) (f : T → Value) (vs : Variants) (rows : List (Bor (List ℕ) × T)) (i : ℕ) (row : Bor (List ℕ) × T)
+    → AreListed own f vs rows → i < length rows → row ≡ slice_index_or rows i row → f row.1 ≡ unit_variant_value own row.0.now
 value_at own f no_variants [] i row h l e = absurd (omega arith)
 value_at own f no_variants (r ∷ rows) i row h l e = absurd h
 value_at own f (variant name unit vs) [] i row h l e = absurd h
@@ -49,15 +51,20 @@ value_at own f (variant name (tuple ss) vs) [] i row h l e = absurd h
 value_at own f (variant name (tuple ss) vs) (r ∷ rows) i row h l e = absurd h
 
 -- the row whose name was looked for
-pub row_found : {T : Type 0} (own : List ℕ) (f : T → Value) (vs : Variants) (name : List ℕ) (rows : List (Bor (List ℕ) × T)) (i : ℕ) (row : Bor (List ℕ) × T) → AreListed own f vs rows → i < length rows → row ≡ slice_index_or rows i row → true ≡ bytes_eq row.0.now name
+pub row_found : {T : Type 0} (own : List ℕ) (f : T → Value) (vs : Variants) (name : List ℕ) (rows : List (Bor (List ℕ) × T)) (i : ℕ) (row : Bor (List ℕ) × T)
+    → AreListed own f vs rows → i < length rows → row ≡ slice_index_or rows i row → true ≡ bytes_eq row.0.now name
     → first_named name vs ≡ first_named name (units (drop i rows))
     → IsRowNamed own f name (first_named name vs) (Some row)
 row_found own f vs name rows i row h l e same left =
-    let alike : row.0.now ≡ name = (bytes_eq-Decides row.0.now name).0 (sym same) in
-    (left ∙ rows_at name rows i row l e ∙ ap (λ b. cond b (Some unit) (first_named name (units (drop (suc i) rows)))) (sym same), alike, value_at own f vs rows i row h l e ∙ ap (unit_variant_value own) alike)
+    let alike : row.0.now ≡ name = (bytes_eq-Decides row.0.now name).0 (sym same) in (
+      left ∙ rows_at name rows i row l e ∙ ap (λ b. cond b (Some unit) (first_named name (units (drop (suc i) rows)))) (sym same),
+      alike,
+      value_at own f vs rows i row h l e ∙ ap (unit_variant_value own) alike,
+    )
 
 -- it is a later one
-pub row_later : {T : Type 0} (vs : Variants) (name : List ℕ) (rows : List (Bor (List ℕ) × T)) (i : ℕ) (row : Bor (List ℕ) × T) → i < length rows → row ≡ slice_index_or rows i row → false ≡ bytes_eq row.0.now name
+pub row_later : {T : Type 0} (vs : Variants) (name : List ℕ) (rows : List (Bor (List ℕ) × T)) (i : ℕ) (row : Bor (List ℕ) × T) → i < length rows
+    → row ≡ slice_index_or rows i row → false ≡ bytes_eq row.0.now name
     → first_named name vs ≡ first_named name (units (drop i rows))
     → first_named name vs ≡ first_named name (units (drop (suc i) rows))
 row_later vs name rows i row l e other left =
@@ -80,7 +87,8 @@ no_rule_there : (name : List ℕ) (k : List TagValue) (t : TtlvType) → after_p
 unfolding rule
 no_rule_there name k t none = ap (λ body. verdict name body k t) none
 
-listed_choice : {T : Type 0} (own : List ℕ) (f : T → Value) (vs : Variants) (rows : List (Bor (List ℕ) × T)) (k : List TagValue) (t : TtlvType) → AreListed own f vs rows → choice vs k t ≡ number_decides
+listed_choice : {T : Type 0} (own : List ℕ) (f : T → Value) (vs : Variants) (rows : List (Bor (List ℕ) × T)) (k : List TagValue) (t : TtlvType)
+    → AreListed own f vs rows → choice vs k t ≡ number_decides
 listed_choice own f no_variants rows k t h = refl
 listed_choice own f (variant name unit vs) [] k t h = absurd h
 listed_choice own f (variant name unit vs) (row ∷ rows) k t h = rw (no_rule_there name k t h.1, listed_choice own f vs rows k t h.3) refl
@@ -89,7 +97,8 @@ listed_choice own f (variant name (wrapped s) vs) (row ∷ rows) k t h = absurd 
 listed_choice own f (variant name (tuple ss) vs) [] k t h = absurd h
 listed_choice own f (variant name (tuple ss) vs) (row ∷ rows) k t h = absurd h
 
-pub listed_is : {T : Type 0} (own : List ℕ) (f : T → Value) (vs : Variants) (rows : List (Bor (List ℕ) × T)) (b : List ℕ) (o : ℕ) (k : List TagValue) (p e : ℕ) → AreListed own f vs rows
+pub listed_is : {T : Type 0} (own : List ℕ) (f : T → Value) (vs : Variants) (rows : List (Bor (List ℕ) × T)) (b : List ℕ) (o : ℕ) (k : List TagValue) (p e : ℕ)
+    → AreListed own f vs rows
     → outcome (enum own vs) b o k p e ≡ (type_there b p >>= λ t. number_outcome own vs t b o k p e)
 unfolding outcome enum_outcome
 listed_is own f vs rows b o k p e h = by (type_there b p)

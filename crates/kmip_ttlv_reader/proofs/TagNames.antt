@@ -1,5 +1,6 @@
 -- The name of a tag's number is read as that number.
-use Rattle.std.proofs.Common.{◌≡◌, ◌≢◌, ℕ, ◌+◌, ◌/◌, ◌%◌, ◌<◌, ◌≤◌, ◌^◌, Bool, true, false, ◌&&◌, ◌==◌, cond, eqb, ltb, List, ◌∷◌, length, Some, refl, ap, sym, ◌∙◌, arith}
+use Rattle.std.proofs.Common.{◌≡◌, ◌≢◌, ℕ, ◌+◌, ◌/◌, ◌%◌, ◌<◌, ◌≤◌, ◌^◌, Bool, true, false, ◌&&◌, ◌==◌, cond, eqb, ltb, List, ◌∷◌, length, Some, refl, ap, sym}
+use Rattle.std.proofs.Common.{◌∙◌, arith}
 use Rattle.std.specs.Prelude.{option_and_then}
 use Rattle.std.specs.Char.{digit_value, is_digit}
 use Rattle.std.specs.Fmt.{digit_glyph}
@@ -15,7 +16,12 @@ digit_is d small = by (ltb d 10) refl
   where
     by : (b : Bool) → ltb d 10 ≡ b → digit_value (cond b (48 + d) (55 + d)) ≡ d
     by true e = let lt : d < 10 = ltb-true d 10 e in rw (le-ltb (48 + d) 48 (omega arith), lt-ltb (48 + d) 58 (omega arith)) (omega arith)
-    by false e = let le : 10 ≤ d = ltb-false d 10 e in rw (le-ltb (55 + d) 48 (omega arith), le-ltb (55 + d) 58 (omega arith), le-ltb (55 + d) 65 (omega arith), lt-ltb (55 + d) 91 (omega arith)) (omega arith)
+    by false e = let le : 10 ≤ d = ltb-false d 10 e in rw (
+      le-ltb (55 + d) 48 (omega arith),
+      le-ltb (55 + d) 58 (omega arith),
+      le-ltb (55 + d) 65 (omega arith),
+      lt-ltb (55 + d) 91 (omega arith),
+    ) (omega arith)
 
 -- a digit is one of sixteen
 is_hexadecimal : (d : ℕ) → d < 16 → is_digit (digit_glyph true d) 16 ≡ true
@@ -45,12 +51,20 @@ six_are_digits n =
 six_are_number : (n : ℕ) → n < 2 ^ 24 → digits_value 16 (six_digits n) ≡ n
 unfolding six_digits
 six_are_number n small =
-    rw (digit_is (n / 1048576 % 16) (omega arith), digit_is (n / 65536 % 16) (omega arith), digit_is (n / 4096 % 16) (omega arith), digit_is (n / 256 % 16) (omega arith), digit_is (n / 16 % 16) (omega arith), digit_is (n % 16) (omega arith)) (omega arith)
+    rw (
+      digit_is (n / 1048576 % 16) (omega arith),
+      digit_is (n / 65536 % 16) (omega arith),
+      digit_is (n / 4096 % 16) (omega arith),
+      digit_is (n / 256 % 16) (omega arith),
+      digit_is (n / 16 % 16) (omega arith),
+      digit_is (n % 16) (omega arith),
+    ) (omega arith)
 
 numeral_is : (ds : List ℕ) (n : ℕ) → 0 < length ds → all_digits 16 ds ≡ true → digits_value 16 ds ≡ n → n < 2 ^ 24 → numeral ds ≡ Some n
 numeral_is ds n some all is small = rw (lt-ltb 0 (length ds) some, all, is, lt-ltb n (2 ^ 32) (omega arith)) refl
 
-named : (a b n : ℕ) (ds : List ℕ) → a ≢ 43 → b ≢ 120 → all_digits 16 (a ∷ b ∷ ds) ≡ true → digits_value 16 (a ∷ b ∷ ds) ≡ n → n < 2 ^ 24 → tag_of (48 ∷ 120 ∷ a ∷ b ∷ ds) ≡ Some n
+named : (a b n : ℕ) (ds : List ℕ) → a ≢ 43 → b ≢ 120 → all_digits 16 (a ∷ b ∷ ds) ≡ true → digits_value 16 (a ∷ b ∷ ds) ≡ n → n < 2 ^ 24
+    → tag_of (48 ∷ 120 ∷ a ∷ b ∷ ds) ≡ Some n
 unfolding tag_of number
 named a b n ds plus x all is small =
     let plain : without_0x (a ∷ b ∷ ds) ≡ a ∷ b ∷ ds = rw (ne_eqb b 120 x, and_right (eqb a 48) false refl) refl in
@@ -60,9 +74,10 @@ named a b n ds plus x all is small =
     ∙ ap (option_and_then below_tag_limit) (numeral_is (a ∷ b ∷ ds) n (omega arith) all is small) ∙ rw (lt-ltb n (2 ^ 24) small) refl
 
 -- the name of a tag's number is that tag
-pub tag_of_text : (n : ℕ) → n < 2 ^ 24 → tag_of (tag_text n) ≡ Some n
+tag_of_text : (n : ℕ) → n < 2 ^ 24 → tag_of (tag_text n) ≡ Some n
 unfolding six_digits
-tag_of_text n small = named (digit_glyph true (n / 1048576 % 16)) (digit_glyph true (n / 65536 % 16)) n _ (no_sign (n / 1048576 % 16) (omega arith)).0 (no_sign (n / 65536 % 16) (omega arith)).1 (six_are_digits n) (six_are_number n small) small
+tag_of_text n small = named (digit_glyph true (n / 1048576 % 16)) (digit_glyph true (n / 65536 % 16)) n _ (no_sign (n / 1048576 % 16) (omega arith)).0
+    (no_sign (n / 65536 % 16) (omega arith)).1 (six_are_digits n) (six_are_number n small) small
 
 -- numbers of the same digits are written alike
 same_digits : (m n : ℕ)

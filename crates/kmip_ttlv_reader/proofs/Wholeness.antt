@@ -33,10 +33,12 @@ pub head_cut : (b : List ℕ) (p e : ℕ) → length b < p + 8 → NotWhole 1 b 
 head_cut b p e short w lt = let f = whole_first b p e lt w in omega (arith, f.at.there)
 
 -- the first item is there, and whole items follow it
-pub item_after : (b : List ℕ) (p e : ℕ) (t : TtlvType) → code t ≡ code_at b p → 1 + p ≤ e → AreWhole b p e → (p + size t (length_at b p) ≤ length b) × AreWhole b (p + size t (length_at b p)) e
+pub item_after : (b : List ℕ) (p e : ℕ) (t : TtlvType) → code t ≡ code_at b p → 1 + p ≤ e → AreWhole b p e → (p + size t (length_at b p) ≤ length b)
+    × AreWhole b (p + size t (length_at b p)) e
 item_after b p e t typ lt w =
     let f = whole_first b p e lt w in
-    subst (λ (u : TtlvType). (p + size u (length_at b p) ≤ length b) × AreWhole b (p + size u (length_at b p)) e) (code_one f.item.typ t (f.at.typ ∙ sym typ)) (f.at.there, f.after)
+    subst (λ (u : TtlvType). (p + size u (length_at b p) ≤ length b) × AreWhole b (p + size u (length_at b p)) e) (code_one f.item.typ t (f.at.typ ∙ sym typ))
+    (f.at.there, f.after)
 
 -- bytes that end before the first item does
 pub item_cut : (b : List ℕ) (p e : ℕ) (t : TtlvType) → code t ≡ code_at b p → length b < p + size t (length_at b p) → NotWhole 1 b p e
@@ -45,7 +47,8 @@ item_cut b p e t typ short w lt = let at = item_after b p e t typ lt w in omega 
 pub content_items : (b : List ℕ) (p : ℕ) (x : Raw) (zs : List Raw) → ItemAt b p x → Splits zs x.content → ItemsAt b (p + 8) (p + 8 + length_at b p) zs
 content_items b p x zs item s =
     let back = drop (length_at b p) (drop (p + 8) b) in
-    let parts : drop (p + 8) b ≡ x.content ++ back = sym (take-append-drop (length_at b p) (drop (p + 8) b)) ∙ ap (λ (c : List ℕ). c ++ back) (sym item.content) in
+    let parts : drop (p + 8) b ≡ x.content ++ back = sym (take-append-drop (length_at b p) (drop (p + 8) b))
+    ∙ ap (λ (c : List ℕ). c ++ back) (sym item.content) in
     items_at_splits b (p + 8) (p + 8 + length_at b p) zs back x.content (omega (arith, item.there)) parts (omega (arith, item.len)) s
 
 content_whole : (b : List ℕ) (p : ℕ) (x : Raw) → x.typ ≡ Structure → ItemAt b p x → SplitThroughout x → AreWhole b (p + 8) (p + 8 + length_at b p)
@@ -56,10 +59,12 @@ content_whole b p x is item (split_item {zs = zs} t z d) = record { items = zs; 
 pub structure_cut : (b : List ℕ) (p e stop : ℕ) → StructureAt b p stop → NotWhole 0 b (p + 8) stop → NotWhole 1 b p e
 structure_cut b p e stop at never w lt =
     let f = whole_first b p e lt w in
-    never (subst (λ (n : ℕ). AreWhole b (p + 8) n) (sym at.stops) (content_whole b p f.item (code_one f.item.typ Structure (f.at.typ ∙ sym at.typ)) f.at f.split)) (omega (arith, at.stops))
+    never (subst (λ (n : ℕ). AreWhole b (p + 8) n) (sym at.stops) (content_whole b p f.item (code_one f.item.typ Structure (f.at.typ ∙ sym at.typ)) f.at
+    f.split)) (omega (arith, at.stops))
 
 -- nor is the message that the bytes begin with
 pub message_cut : (b : List ℕ) → ((e : ℕ) → NotWhole 1 b 0 e) → BeginsWhole b → ⊥
 message_cut b never w =
     let at : ItemAt b 0 w.item = item_at_text b 0 w.item w.item_text w.after (omega arith) w.parts w.is_text in
-    never (0 + size w.item.typ (length_at b 0)) record { items = w.item ∷ []; are = (at, refl); split_throughout = more_split w.split_throughout none_split } (omega arith)
+    never (0 + size w.item.typ (length_at b 0)) record { items = w.item ∷ []; are = (at, refl); split_throughout = more_split w.split_throughout none_split }
+    (omega arith)

@@ -26,7 +26,7 @@ if_holds false c = past 1 c
 
 -- whether a rule holds, by its verdict
 abbrev pub IsVerdict : {A : Type 0} → Verdict → List ℕ → ℕ → TtlvType → Result Bool (Failure A) → Type 0
-IsVerdict v b p t (Ok it_holds) = (c : Choice) → first_by v c ≡ if_holds it_holds c
+IsVerdict v b p t (Ok holds) = (c : Choice) → first_by v c ≡ if_holds holds c
 IsVerdict v b p t (Err r) = (c : Choice) → IsFailure (picked (first_by v c) b p t) r
 
 -- what is read of variants: one that a rule chose, or nothing where no rule holds, or a failure

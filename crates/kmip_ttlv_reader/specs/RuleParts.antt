@@ -12,8 +12,8 @@ use Rattle.kmip_ttlv_reader.specs.declared.rules.RuleParts.{RuleParts}
 use Rattle.kmip_ttlv_reader.specs.declared.rules.RuleParts.TheVariants as parts
 
 -- the last text stored under a tag is one of these; not where there is no such tag
-abbrev pub wants : ℕ → List (List ℕ) → List TagValue → Verdict
-wants t texts ks = with_text (last ks t) (λ text. plain_verdict (list_any (bytes_eq text) texts))
+abbrev pub texts_verdict : ℕ → List (List ℕ) → List TagValue → Verdict
+texts_verdict t texts ks = with_text (last ks t) (λ text. plain_verdict (list_any (bytes_eq text) texts))
 
 -- the texts themselves
 abbrev pub texts_of : List (Bor (List ℕ)) → List (List ℕ)
@@ -21,7 +21,7 @@ texts_of texts = map (λ one. one.now) texts
 
 -- what a rule in parts says of the stored texts and of an item's type
 abbrev pub wanted : RuleParts → List TagValue → TtlvType → Verdict
-wanted (parts.Texts tag texts) ks typ = wants tag (texts_of texts.now) ks
+wanted (parts.Texts tag texts) ks typ = texts_verdict tag (texts_of texts.now) ks
 wanted (parts.Type asked) ks typ = plain_verdict (bytes_eq (type_name asked) (type_name typ))
 
 -- the tag and the one text of `==`, where it asks for no type

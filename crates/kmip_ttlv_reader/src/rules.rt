@@ -10,7 +10,7 @@ ghost use Rattle.kmip_ttlv_base.specs.Errors.{mismatch, view_of_serde};
 ghost use Rattle.kmip_ttlv_reader.specs.ReadFaults.{at_item};
 ghost use Rattle.kmip_ttlv_reader.specs.Results.{IsFailureOf};
 ghost use Rattle.kmip_ttlv_reader.specs.Rules.{rule, type_name, sides, in_brackets, equal, at_least, member, plain_verdict};
-ghost use Rattle.kmip_ttlv_reader.specs.RuleParts.{wants, texts_of, wanted};
+ghost use Rattle.kmip_ttlv_reader.specs.RuleParts.{texts_verdict, texts_of, wanted};
 ghost use Rattle.kmip_ttlv_reader.specs.Verdicts.{verdict_of, mismatch_of};
 
 use crate::failure::{Cause, Failure, at_item};
@@ -55,7 +55,7 @@ pub enum Verdict<'n> {
 ///   commas, each trimmed; not where the brackets are missing.
 ///
 /// A rule without operator is an error with the whole name. `>=`, and `in` with brackets, are
-/// refused with the first side where it is no tag; `>=` where a text is stored, with that text or
+/// an error with the first side where it is no tag; `>=` where a text is stored, with that text or
 /// else the second side, where it is no number.
 #[tactic(auto, unfolding(crate::specs::Rules::rule))]
 #[inline(always)]
@@ -105,15 +105,19 @@ pub fn parts_hold<'b, A: Allocator + Copy>(
     ensures { plain_verdict result ≡ wanted parts stored.now typ }
 {
     match parts {
-        RuleParts::Texts { tag, texts } => is_kept(tag, texts, stored),
+        RuleParts::Texts { tag, texts } => is_stored(tag, texts, stored),
         RuleParts::Type(asked) => type_name(asked) == type_name(typ),
     }
 }
 
 // Whether the last text stored under the tag is one of these.
 #[inline(always)]
-fn is_kept<'b, A: Allocator + Copy>(tag: u32, texts: &[&str], stored: &TagValueStore<'b, A>) -> bool
-    ensures { plain_verdict result ≡ wants tag (texts_of texts.now) stored.now }
+fn is_stored<'b, A: Allocator + Copy>(
+    tag: u32,
+    texts: &[&str],
+    stored: &TagValueStore<'b, A>,
+) -> bool
+    ensures { plain_verdict result ≡ texts_verdict tag (texts_of texts.now) stored.now }
 {
     match stored.last_under(tag) {
         Some(text) => is_among(text, texts),

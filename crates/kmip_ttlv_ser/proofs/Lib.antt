@@ -4,10 +4,10 @@ mod Parts
 mod Reaching
 mod Measuring
 mod Finding
-mod Refusing
+mod Failing
 mod Sending
 mod Outputs
-mod Telling
+mod Receiving
 mod Sound
 mod Rows
 mod Splitting

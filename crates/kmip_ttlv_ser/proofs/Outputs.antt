@@ -1,5 +1,6 @@
 -- What outputs got, piece after piece.
-use Rattle.std.proofs.Common.{◌≡◌, ℕ, Bool, true, false, ◌+◌, ◌≤◌, List, [], ◌++◌, length, take, Option, Some, None, refl, sym, ap, ◌∙◌, arith, append_assoc, append-nil, length-append, subst}
+use Rattle.std.proofs.Common.{◌≡◌, ℕ, Bool, true, false, ◌+◌, ◌≤◌, List, [], ◌++◌, length, take, Option, Some, None, refl, sym, ap, ◌∙◌, arith, append_assoc}
+use Rattle.std.proofs.Common.{append-nil, length-append, subst}
 use Rattle.std.proofs.Math.Seq.{take-append-add}
 use Rattle.std.specs.Option.{is_some}
 use Rattle.std.specs.Io.KnownBytes.{Appends}
@@ -27,7 +28,8 @@ front_after (Some xs0) (Some ys0) None xs ys first front = absurd front.appends
 front_after (Some xs0) (Some ys0) (Some zs0) xs ys first front = record {
   count = length xs + front.count;
   within = omega (arith, front.within, length-append xs ys);
-  appends = front.appends ∙ ap (λ zs. zs ++ take front.count ys) first ∙ append_assoc xs0 xs (take front.count ys) ∙ ap (λ zs. xs0 ++ zs) (sym (take-append-add xs ys front.count));
+  appends = front.appends ∙ ap (λ zs. zs ++ take front.count ys) first ∙ append_assoc xs0 xs (take front.count ys)
+      ∙ ap (λ zs. xs0 ++ zs) (sym (take-append-add xs ys front.count));
 }
 
 -- too little room for a piece, after others
@@ -37,34 +39,42 @@ tight_after (Some before) None xs ys used tight = absurd used
 tight_after (Some before) (Some after) xs ys used tight = omega (arith, used, tight, length-append xs ys)
 
 -- a sink that fails at this piece
-pub fails_now : (start : Before) (sent piece : List ℕ) (pending held' : Option (List ℕ)) (room : Option ℕ) (failure : Option Error) (failed : Bool) → failed ≡ is_some failure → failed ≡ false → IsGiven start sent pending room failure → AppendsFront pending held' piece → IsTight room (length piece)
+pub fails_now : (start : Before) (sent piece : List ℕ) (pending held' : Option (List ℕ)) (room : Option ℕ) (failure : Option Error) (failed : Bool)
+    → failed ≡ is_some failure → failed ≡ false → IsGiven start sent pending room failure → AppendsFront pending held' piece → IsTight room (length piece)
     → AppendsFront start.pending held' (sent ++ piece) × IsTight start.room (length (sent ++ piece))
 fails_now start sent piece pending held' room (Some e) failed is not given front tight = let k : true ≡ false = sym is ∙ not in absurd cc
-fails_now start sent piece pending held' room None failed is not given front tight = (front_after start.pending pending held' sent piece given.0 front, tight_after start.room room sent piece given.1 tight)
+fails_now start sent piece pending held' room None failed is not given front tight =
+    (front_after start.pending pending held' sent piece given.0 front, tight_after start.room room sent piece given.1 tight)
 
 -- a sink that got nothing yet
-pub given_nothing : (xs ys : List ℕ) (free room : ℕ) (failure : Option Error) → ys ≡ xs → free ≤ room → failure ≡ None → IsGiven record { pending = Some xs; room = Some free } [] (Some ys) (Some room) failure
+pub given_nothing : (xs ys : List ℕ) (free room : ℕ) (failure : Option Error) → ys ≡ xs → free ≤ room → failure ≡ None
+    → IsGiven record { pending = Some xs; room = Some free } [] (Some ys) (Some room) failure
 given_nothing xs ys free room (Some e) same le none = let k : Some e ≡ None = none in absurd cc
 given_nothing xs ys free room None same le none = (same ∙ sym (append-nil xs), omega (arith, le))
 
 -- there was room for what was measured
-pub never_fails : (o : Option (List Tree)) (p q : Place) (plan xs : List ℕ) (free : ℕ) (pending : Option (List ℕ)) (room : Option ℕ) (failure : Option Error) (e : Error) → (m : Measured o p q [] plan) → q.offset ≤ p.offset + free → failure ≡ Some e → IsGiven record { pending = Some xs; room = Some free } (bytes_all m.trees) pending room failure → ⊥
+pub never_fails : (o : Option (List Tree)) (p q : Place) (plan xs : List ℕ) (free : ℕ) (pending : Option (List ℕ)) (room : Option ℕ) (failure : Option Error)
+    (e : Error) → (m : Measured o p q [] plan) → q.offset ≤ p.offset + free → failure ≡ Some e → IsGiven record { pending = Some xs; room = Some free }
+    (bytes_all m.trees) pending room failure → ⊥
 never_fails o p q plan xs free pending room None e m fits is given = let k : None ≡ Some e = is in absurd cc
 never_fails o p q plan xs free pending room (Some f) e m fits is given = absurd (omega (arith, fits, given.1, place_len p q m.trees m.reached))
 
-pub gave_all : (start : Before) (sent xs ys : List ℕ) (room : Option ℕ) (failure : Option Error) → failure ≡ None → start.pending ≡ Some xs → IsGiven start sent (Some ys) room failure → ys ≡ xs ++ sent
+pub gave_all : (start : Before) (sent xs ys : List ℕ) (room : Option ℕ) (failure : Option Error) → failure ≡ None → start.pending ≡ Some xs
+    → IsGiven start sent (Some ys) room failure → ys ≡ xs ++ sent
 gave_all start sent xs ys room (Some e) is pending given = let k : Some e ≡ None = is in absurd cc
 gave_all start sent xs ys room None is pending given = let a : Appends (Some xs) (Some ys) sent = subst (λ h. Appends h (Some ys) sent) pending given.0 in a
 
 -- ---- a writer behind a buffer
 
 -- a write that fails
-pub write_fails : (before old new : Option (List ℕ)) (sent bytes : List ℕ) (failure : Option Error) (failed : Bool) → failed ≡ is_some failure → failed ≡ false → Reached before old sent failure → AppendsFront old new bytes → AppendsFront before new (sent ++ bytes)
+pub write_fails : (before old new : Option (List ℕ)) (sent bytes : List ℕ) (failure : Option Error) (failed : Bool) → failed ≡ is_some failure → failed ≡ false
+    → Reached before old sent failure → AppendsFront old new bytes → AppendsFront before new (sent ++ bytes)
 write_fails before old new sent bytes (Some e) failed is not reached front = let k : true ≡ false = sym is ∙ not in absurd cc
 write_fails before old new sent bytes None failed is not reached front = front_after before old new sent bytes reached front
 
 -- a piece that is buffered after the others
-pub waits_too : (start : Lent) (sent piece w w' : List ℕ) (name : GName) (contents : Option (List ℕ)) (failure : Option Error) → IsGathered start sent name contents w failure → w' ≡ w ++ piece → IsGathered start (sent ++ piece) name contents w' failure
+pub waits_too : (start : Lent) (sent piece w w' : List ℕ) (name : GName) (contents : Option (List ℕ)) (failure : Option Error)
+    → IsGathered start sent name contents w failure → w' ≡ w ++ piece → IsGathered start (sent ++ piece) name contents w' failure
 waits_too start sent piece w w' name contents failure g more = record {
   same = g.same;
   front = g.front;
@@ -73,7 +83,9 @@ waits_too start sent piece w w' name contents failure g more = record {
 }
 
 -- nothing is buffered any more
-pub flushed : (start : Lent) (sent w w' : List ℕ) (name name' : GName) (contents contents' : Option (List ℕ)) (failure failure' : Option Error) → IsGathered start sent name contents w failure → name' ≡ name → Sends contents contents' failure failure' w → w' ≡ [] → IsGathered start sent name' contents' w' failure'
+pub flushed : (start : Lent) (sent w w' : List ℕ) (name name' : GName) (contents contents' : Option (List ℕ)) (failure failure' : Option Error)
+    → IsGathered start sent name contents w failure → name' ≡ name → Sends contents contents' failure failure' w → w' ≡ []
+    → IsGathered start sent name' contents' w' failure'
 flushed start sent w w' name name' contents contents' failure failure' g same sends empty = record {
   same = same ∙ g.same;
   front = sent;
@@ -82,7 +94,9 @@ flushed start sent w w' name name' contents contents' failure failure' g same se
 }
 
 -- a piece that is written while nothing is buffered
-pub sent_too : (start : Lent) (sent piece w : List ℕ) (name : GName) (contents contents' : Option (List ℕ)) (failure failure' : Option Error) → IsGathered start sent name contents w failure → w ≡ [] → Sends contents contents' failure failure' piece → IsGathered start (sent ++ piece) name contents' w failure'
+pub sent_too : (start : Lent) (sent piece w : List ℕ) (name : GName) (contents contents' : Option (List ℕ)) (failure failure' : Option Error)
+    → IsGathered start sent name contents w failure → w ≡ [] → Sends contents contents' failure failure' piece
+    → IsGathered start (sent ++ piece) name contents' w failure'
 sent_too start sent piece w name contents contents' failure failure' g empty sends =
     let whole : sent ≡ g.front = g.parts ∙ ap (λ bs. g.front ++ bs) empty ∙ append-nil g.front in
     record {
@@ -96,12 +110,20 @@ appends_nothing : (a : Option (List ℕ)) → Appends a a []
 appends_nothing None = tt
 appends_nothing (Some xs) = sym (append-nil xs)
 
-pub gathered_nothing : (start : Lent) (name : GName) (contents : Option (List ℕ)) (w : List ℕ) (failure : Option Error) → name ≡ start.name → contents ≡ start.contents → w ≡ [] → failure ≡ None → IsGathered start [] name contents w failure
+pub gathered_nothing : (start : Lent) (name : GName) (contents : Option (List ℕ)) (w : List ℕ) (failure : Option Error) → name ≡ start.name
+    → contents ≡ start.contents → w ≡ [] → failure ≡ None → IsGathered start [] name contents w failure
 gathered_nothing start name contents w (Some e) same is empty none = let k : Some e ≡ None = none in absurd cc
-gathered_nothing start name contents w None same is empty none = record { same = same; front = []; parts = sym empty; reached = subst (λ c. Appends start.contents c []) (sym is) (appends_nothing start.contents) }
+gathered_nothing start name contents w None same is empty none = record {
+  same = same;
+  front = [];
+  parts = sym empty;
+  reached =
+      subst (λ c. Appends start.contents c []) (sym is) (appends_nothing start.contents);
+}
 
 -- if nothing is buffered, all was written
-pub whole_reached : (start : Lent) (sent w : List ℕ) (name : GName) (contents : Option (List ℕ)) (failure : Option Error) → IsGathered start sent name contents w failure → w ≡ [] → Reached start.contents contents sent failure
+pub whole_reached : (start : Lent) (sent w : List ℕ) (name : GName) (contents : Option (List ℕ)) (failure : Option Error)
+    → IsGathered start sent name contents w failure → w ≡ [] → Reached start.contents contents sent failure
 whole_reached start sent w name contents failure g empty =
     let whole : sent ≡ g.front = g.parts ∙ ap (λ bs. g.front ++ bs) empty ∙ append-nil g.front in
     subst (λ bs. Reached start.contents contents bs failure) (sym whole) g.reached
@@ -115,13 +137,17 @@ written_whole v p q plan here m = record {
   bytes_are = refl;
 }
 
-pub written_to : (v : Value) (p q : Place) (plan : List ℕ) (old new : Option (List ℕ)) (failure : Option Error) → p.offset ≡ 0 → (m : Measured (items v Nothing) p q [] plan) → Reached old new (bytes_all m.trees) failure → failure ≡ None → WrittenTo v old new
+pub written_to : (v : Value) (p q : Place) (plan : List ℕ) (old new : Option (List ℕ)) (failure : Option Error) → p.offset ≡ 0
+    → (m : Measured (items v Nothing) p q [] plan) → Reached old new (bytes_all m.trees) failure → failure ≡ None → WrittenTo v old new
 written_to v p q plan old new (Some e) here m reached is = let k : Some e ≡ None = is in absurd cc
 written_to v p q plan old new None here m reached is = record { bytes = bytes_all m.trees; written = written_whole v p q plan here m; appends = reached }
 
-pub partly_written : (v : Value) (p q : Place) (plan : List ℕ) (old new : Option (List ℕ)) (failure : Option Error) (e : Error) → p.offset ≡ 0 → (m : Measured (items v Nothing) p q [] plan) → Reached old new (bytes_all m.trees) failure → failure ≡ Some e → PartlyWritten v old new
+pub partly_written : (v : Value) (p q : Place) (plan : List ℕ) (old new : Option (List ℕ)) (failure : Option Error) (e : Error) → p.offset ≡ 0
+    → (m : Measured (items v Nothing) p q [] plan) → Reached old new (bytes_all m.trees) failure → failure ≡ Some e → PartlyWritten v old new
 partly_written v p q plan old new None e here m reached is = let k : None ≡ Some e = is in absurd cc
-partly_written v p q plan old new (Some f) e here m reached is = record { bytes = bytes_all m.trees; written = written_whole v p q plan here m; appends = reached }
+partly_written v p q plan old new (Some f) e here m reached is =
+    record { bytes = bytes_all m.trees; written = written_whole v p q plan here m; appends = reached }
 
-pub not_written : (v : Value) (old new : Option (List ℕ)) (kind : Kind) (location : Location) (e : IoKind) → kind ≡ io_error e → location ≡ unknown → PartlyWritten v old new → IsNotWritten v old new kind location
+pub not_written : (v : Value) (old new : Option (List ℕ)) (kind : Kind) (location : Location) (e : IoKind) → kind ≡ io_error e → location ≡ unknown
+    → PartlyWritten v old new → IsNotWritten v old new kind location
 not_written v old new kind location e is nowhere partly = subst (λ k. IsNotWritten v old new k location) (sym is) (nowhere, partly)

@@ -42,11 +42,13 @@ pub record Split (first : Option (List Tree)) (later : List Tree → Option (Lis
   pub later_is : later here ≡ Some after
   pub joined : more ≡ here ++ after
 
-split_at : (h : List Tree) (o : Option (List Tree)) (more : List Tree) → (o >>= λ r. Some (h ++ r)) ≡ Some more → (after : List Tree) × (o ≡ Some after) × (more ≡ h ++ after)
+split_at : (h : List Tree) (o : Option (List Tree)) (more : List Tree) → (o >>= λ r. Some (h ++ r)) ≡ Some more → (after : List Tree) × (o ≡ Some after)
+    × (more ≡ h ++ after)
 split_at h None more e = let k : None ≡ Some more = e in absurd cc
 split_at h (Some r) more e = (r, refl, sym (some_same (h ++ r) more e))
 
-pub split_of : (first : Option (List Tree)) (later : List Tree → Option (List Tree)) (more : List Tree) → followed first later ≡ Some more → Split first later more
+pub split_of : (first : Option (List Tree)) (later : List Tree → Option (List Tree)) (more : List Tree) → followed first later ≡ Some more
+    → Split first later more
 split_of None later more e = let k : None ≡ Some more = e in absurd cc
 split_of (Some h) later more e =
     let s = split_at h (later h) more e in

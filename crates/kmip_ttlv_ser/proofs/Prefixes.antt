@@ -12,12 +12,13 @@ use Rattle.std.proofs.lemmas.Str.Pattern.{starts_text}
 use Rattle.std.proofs.lemmas.Bool.{cases_Bool, ne_eqb}
 use Rattle.std.proofs.lemmas.Bool.Decides.{Decides-eqb}
 use Rattle.std.proofs.Math.ListN.{get_or-append}
-use Rattle.std.proofs.lemmas.List.{take-append-drop, drop_all, take_all, length-append}
+use Rattle.std.proofs.lemmas.List.{take-append-drop, drop_all, take_all}
 use Rattle.std.proofs.lemmas.Slice.Eq.{starts_is, bytes_eq-Decides}
 use Rattle.std.proofs.lemmas.Str.Parse.{without_leading_plus_none}
 use Rattle.kmip_ttlv_types.specs.Names.{after_prefix, without_0x, numeral, number}
 
-pub stripped : (p s : List ℕ) (r : Option (Bor (List ℕ))) → MatchOption r (FindsTextPrefix p s None) (λ x. StripsPrefix (FindsTextPrefix p) s x.now) → option_map (λ x. x.now) r ≡ after_prefix p s
+pub stripped : (p s : List ℕ) (r : Option (Bor (List ℕ))) → MatchOption r (FindsTextPrefix p s None) (λ x. StripsPrefix (FindsTextPrefix p) s x.now)
+    → option_map (λ x. x.now) r ≡ after_prefix p s
 stripped p s None h = let e : false ≡ starts_with eqb s p = starts_text false p s h in rw (← e)
 stripped p s (Some x) (n, found, is, len) =
     let b : IsCharBoundary s n = subst (IsCharBoundary s) (sym found.0) found.2 in
@@ -32,9 +33,6 @@ begun p s is =
 
 not_begun : (p s : List ℕ) → (s ≡ p ++ drop (length p) s → ⊥) → false ≡ starts_with eqb s p
 not_begun p s never = ⊎_elim (λ e. absurd (never ((starts_is Decides-eqb s p _ refl).0 e))) (λ e. sym e) (cases_Bool (starts_with eqb s p))
-
-pub too_short : (p s : List ℕ) → length s < length p → false ≡ starts_with eqb s p
-too_short p s short = not_begun p s (λ e. omega (arith, short, ap length e, length-append p (drop (length p) s)))
 
 pub differs_at : (p s : List ℕ) (i : ℕ) → i < length p → (get_or s i 0 ≡ get_or p i 0 → ⊥) → false ≡ starts_with eqb s p
 differs_at p s i within other =
@@ -55,9 +53,6 @@ whole_prefix true p s e same =
 whole_prefix false p s e same =
     let never : s ≡ p → ⊥ = λ is. true≢false (begun p s (ap (λ xs. take (length xs) s) (sym is) ∙ take_all (length s) s (omega arith) ∙ is) ∙ sym e) in
     ⊎_elim (λ t. absurd (never ((bytes_eq-Decides s p).0 t))) (λ f. sym f) (cases_Bool (bytes_eq s p))
-
-pub other_length : (p s : List ℕ) → (length s ≡ length p → ⊥) → false ≡ bytes_eq s p
-other_length p s other = ⊎_elim (λ t. absurd (other (ap length ((bytes_eq-Decides s p).0 t)))) (λ f. sym f) (cases_Bool (bytes_eq s p))
 
 -- ---- digits
 

@@ -5,7 +5,10 @@ use Rattle.kmip_ttlv_types.specs.Primitives.{sign_extended}
 use Rattle.kmip_ttlv_types.specs.Trees.{leaf_bytes, node_bytes}
 use Rattle.kmip_ttlv_ser.specs.WrittenItems.{take_tag, pending_after, some_item, enumeration, is_wrapper}
 use Rattle.kmip_ttlv_ser.specs.Faults.{place_after}
-use Rattle.kmip_ttlv_ser.specs.Rows.{a_transparent_newtype, an_overriding_wrapper, an_overriding_wrapper_over_two, a_doubled_prefix, an_unsigned_number_of_64_bits, a_date_time, a_date_time_before_1970, a_negative_big_integer, an_interval, an_empty_structure, an_empty_sequence, a_bare_field, a_bare_value, a_wrapper_over_nothing, a_variant_that_is_no_number, a_wrapper_in_a_wrapper, a_doubled_prefix_of_a_wrapper, a_wrapper_over_none, a_structure_named_transparent}
+use Rattle.kmip_ttlv_ser.specs.Rows.{a_transparent_newtype, an_overriding_wrapper, an_overriding_wrapper_over_two, a_doubled_prefix}
+use Rattle.kmip_ttlv_ser.specs.Rows.{an_unsigned_number_of_64_bits, a_date_time, a_date_time_before_1970, a_negative_big_integer, an_interval}
+use Rattle.kmip_ttlv_ser.specs.Rows.{an_empty_structure, an_empty_sequence, a_bare_field, a_bare_value, a_wrapper_over_nothing, a_variant_that_is_no_number}
+use Rattle.kmip_ttlv_ser.specs.Rows.{a_wrapper_in_a_wrapper, a_doubled_prefix_of_a_wrapper, a_wrapper_over_none, a_structure_named_transparent}
 
 pub a_transparent_newtype-holds : a_transparent_newtype
 unfolding take_tag transparent_name override_name tag_of number pending_after some_item enumeration is_wrapper sign_extended place_after leaf_bytes node_bytes

@@ -21,7 +21,3 @@ sizes_all ts = flat_map sizes ts
 pub record FitsAfter (n : ℕ) (ts : List Tree) : Type 0 where
   pub each : AllByRecursion Fits ts
   pub total : n + length (bytes_all ts) < 2 ^ 64
-
--- what fits from the first byte on
-abbrev pub FitsAll : List Tree → Type 0
-FitsAll ts = FitsAfter 0 ts

@@ -58,7 +58,7 @@ pub fn worked_values_have_bytes()
 {}
 
 /// Values that can't be encoded, with the kind and the offset of the error, computed on the definitions.
-pub fn worked_values_are_refused()
+pub fn worked_values_are_errors()
     ensures a_bare_field { a_bare_field }
     ensures a_bare_value { a_bare_value }
     ensures a_wrapper_over_nothing { a_wrapper_over_nothing }

@@ -51,7 +51,7 @@ pub struct Measurer<A: Allocator> {
 
 impl<A: Allocator> Measurer<A> {
     /// An error at the field that is `more` bytes after the place reached.
-    fn refuse(&mut self, cause: Cause, more: u64)
+    fn fail(&mut self, cause: Cause, more: u64)
         requires { self.old.encode_error ≡ SpecNone }
         ensures { known self.new ≡ halt_before (kind_of_cause cause) (self.old.place.offset + more) }
     {
@@ -69,7 +69,7 @@ impl<A: Allocator> Measurer<A> {
     {
         if self.pending.tag().is_none() {
             let waits = self.pending.len();
-            return self.refuse(Cause::NoTag(self.place.opened), waits);
+            return self.fail(Cause::NoTag(self.place.opened), waits);
         }
         if len as u64 > 0xFFFF_FFFF {
             self.encode_error = Some(EncodeError::LengthOverflow);
@@ -92,16 +92,16 @@ impl<A: Allocator> Measurer<A> {
     }
 
     /// A name that can't be taken: it is no tag, or a plain tag is pending.
-    fn refuse_name(&mut self, name: &'static str)
+    fn fail_name(&mut self, name: &'static str)
         requires { self.old.encode_error ≡ SpecNone }
         ensures { known self.new
             ≡ halt_at (name_kind (tag_of name.now) name.now) self.old.pending (going self.old) }
     {
         let waits = self.pending.len();
         if TtlvTag::from_name(name).is_none() {
-            return self.refuse(Cause::InvalidTag(name), waits);
+            return self.fail(Cause::InvalidTag(name), waits);
         }
-        self.refuse(Cause::TagUnused, waits)
+        self.fail(Cause::TagUnused, waits)
     }
 
     /// A unit variant: the leaf of its number, under its enum's tag.
@@ -112,11 +112,11 @@ impl<A: Allocator> Measurer<A> {
             ≡ after_unit (take_tag self.old.pending name.now) name.now variant.now (going self.old) }
     {
         let Some(tag) = self.pending.take(name) else {
-            return self.refuse_name(name);
+            return self.fail_name(name);
         };
         self.pending = PendingTag::Plain(tag);
         if number_of(variant).is_none() {
-            return self.refuse(Cause::InvalidVariant(variant), 3);
+            return self.fail(Cause::InvalidVariant(variant), 3);
         }
         self.item(4)
     }
@@ -129,7 +129,7 @@ impl<A: Allocator> Measurer<A> {
             ≡ into (take_tag self.old.pending name.now) name.now (going self.old)) }
     {
         if self.pending.take(name).is_none() {
-            self.refuse_name(name);
+            self.fail_name(name);
             return Ok(());
         }
         let Some(start) = self.place.offset.checked_add(8) else {
@@ -160,7 +160,7 @@ impl<A: Allocator> Measurer<A> {
     {
         match self.pending.take(name) {
             Some(tag) => self.pending = PendingTag::Plain(tag),
-            None => self.refuse_name(name),
+            None => self.fail_name(name),
         }
     }
 
@@ -193,7 +193,7 @@ impl<A: Allocator> Measurer<A> {
         }
         match self.pending.take(rest) {
             Some(tag) => self.pending = self.pending.over(name, tag),
-            None => self.refuse_name(rest),
+            None => self.fail_name(rest),
         }
         Ok(())
     }
@@ -206,8 +206,8 @@ impl<A: Allocator> Measurer<A> {
     {
         match self.pending {
             PendingTag::Nothing => {}
-            PendingTag::Plain(_) => self.refuse(Cause::TagUnused, 3),
-            PendingTag::Overriding(_) => self.refuse(Cause::TagUnused, 3),
+            PendingTag::Plain(_) => self.fail(Cause::TagUnused, 3),
+            PendingTag::Overriding(_) => self.fail(Cause::TagUnused, 3),
         }
     }
 
@@ -289,8 +289,8 @@ impl<A: Allocator> Visitor for Measurer<A> {
                 self.item(sign + bytes.len())
             }
             Leaf::UnitVariant { name, variant } => self.unit_variant(name, variant),
-            Leaf::Unsupported(name) => self.refuse(Cause::UnsupportedType(name), waits),
-            Leaf::None => self.refuse(Cause::UnsupportedType("None"), waits),
+            Leaf::Unsupported(name) => self.fail(Cause::UnsupportedType(name), waits),
+            Leaf::None => self.fail(Cause::UnsupportedType("None"), waits),
         }
         Ok(())
     }

@@ -8,7 +8,8 @@ use Rattle.kmip_ttlv_base.specs.Forms.{Form}
 use Rattle.kmip_ttlv_reader.specs.Steps.{Fault, Outcome, gives, ends_early, fails}
 use Rattle.kmip_ttlv_reader.specs.Outcomes.{root_outcome}
 use Rattle.kmip_ttlv_reader.specs.ReadResults.{IsReadAs, IsError, IsOfBytes, seen}
-use Rattle.kmip_ttlv_stream.specs.StreamMessages.{SliceResult, message_size, LackCause, no_memory, no_bytes, FailsToArrive, in_header, of_no_type, over_limit, in_body, untyped_kind, Ends, IsBySize}
+use Rattle.kmip_ttlv_stream.specs.StreamMessages.{SliceResult, message_size, LackCause, no_memory, no_bytes, FailsToArrive, in_header, of_no_type, over_limit}
+use Rattle.kmip_ttlv_stream.specs.StreamMessages.{in_body, untyped_kind, Ends, IsBySize}
 
 -- no error by size
 abbrev NotBySize : Kind → Type 0
@@ -29,7 +30,7 @@ error_other (fails x) f n h is = of_bytes_other f.why n h.1 is
 
 read_other : {T A : Type 0} (s : Form) (is_value : Value → T → Type 0) (b : List ℕ) (e : Error A) (n : ℕ)
     → IsReadAs is_value (root_outcome s b) (Err e) → view_of_kind (kind_of e) ≡ exceeds_limit n → ⊥
-read_other s is_value b e n (inl want) is = cc (ap view_of_kind want.kind)
+read_other s is_value b e n (inl lack) is = cc (ap view_of_kind lack.kind)
 read_other s is_value b e n (inr h) is = error_other (root_outcome s b) (seen e) n h is
 
 answered_other : {T A : Type 0} (s : Form) (is_value : Value → T → Type 0) (b : List ℕ) (e : Error A) (n : ℕ)
@@ -38,7 +39,7 @@ answered_other s is_value b e n a is = read_other s is_value b e n a.equals is
 
 lack_other : {A : Type 0} (can_fail : Bool) (old : Option (List ℕ)) (m : ℕ) (e : Error A) (n : ℕ)
     → LackCause can_fail old m e → view_of_kind (kind_of e) ≡ exceeds_limit n → ⊥
-lack_other can_fail old m e n (no_memory want) is = cc (ap view_of_kind want.kind)
+lack_other can_fail old m e n (no_memory lack) is = cc (ap view_of_kind lack.kind)
 lack_other can_fail old m e n (no_bytes fault io lacks) is = cc (ap view_of_kind io.kind)
 
 stops_by_size : {A : Type 0} (can_fail : Bool) (limit : Option ℕ) (old new reused : Option (List ℕ)) (e : Error A)

@@ -1,5 +1,6 @@
 -- If the bytes are known and reading them can't fail, the result is determined.
-use Rattle.std.proofs.Common.{◌≡◌, ℕ, ◌+◌, ◌<◌, ◌≤◌, Bool, false, List, [], ◌++◌, ◌⊎◌, inl, inr, Option, None, Some, Result, Ok, Err, sym, ap, ◌∙◌, subst, length, take, drop, refl, arith, length-append, drop_at, take_all}
+use Rattle.std.proofs.Common.{◌≡◌, ℕ, ◌+◌, ◌<◌, ◌≤◌, Bool, false, List, [], ◌++◌, ◌⊎◌, inl, inr, Option, None, Some, Result, Ok, Err, sym, ap, ◌∙◌, subst}
+use Rattle.std.proofs.Common.{length, take, drop, refl, arith, length-append, drop_at, take_all}
 use Rattle.std.proofs.lemmas.List.{take-append-le}
 use Rattle.std.specs.IoError.{error_kind}
 use Rattle.std.specs.declared.io.Error.{Error as IoFault}
@@ -11,10 +12,13 @@ use Rattle.kmip_ttlv_types.specs.Places.{code_at}
 use Rattle.kmip_ttlv_types.specs.Streams.{IsShort}
 use Rattle.kmip_ttlv_base.specs.declared.error.Error.{Error}
 use Rattle.kmip_ttlv_base.specs.declared.error.MalformedTtlvError.TheVariants as malformeds
-use Rattle.kmip_ttlv_base.specs.Errors.{Kind, Location, unknown, io_error, exceeds_limit, kind_of, view_of_kind, location_of, view_of_location, malformed, IsMemory}
+use Rattle.kmip_ttlv_base.specs.Errors.{Kind, Location, io_error, exceeds_limit, kind_of, view_of_kind, location_of, view_of_location, malformed}
+use Rattle.kmip_ttlv_base.specs.Errors.{IsMemory}
 use Rattle.kmip_ttlv_reader.specs.Steps.{Fault}
 use Rattle.kmip_ttlv_reader.specs.ReadResults.{seen, end_fault}
-use Rattle.kmip_ttlv_stream.specs.StreamMessages.{message_size, size_fault, type_fault, Forbids, HasSize, behind_header, behind_tag, ArrivesUntyped, IsIoFault, LackCause, no_memory, no_bytes, IsInBuffer, ArrivesOver, FailsToArrive, in_header, of_no_type, over_limit, in_body, Gives, Ends, OrMemory, TakesFirst, Exactly}
+use Rattle.kmip_ttlv_stream.specs.StreamMessages.{message_size, size_fault, type_fault, Forbids, HasSize, behind_header, behind_tag, ArrivesUntyped, IsIoFault}
+use Rattle.kmip_ttlv_stream.specs.StreamMessages.{LackCause, no_memory, no_bytes, IsInBuffer, ArrivesOver, FailsToArrive, in_header, of_no_type, over_limit}
+use Rattle.kmip_ttlv_stream.specs.StreamMessages.{in_body, Gives, Ends, OrMemory, TakesFirst, Exactly}
 use Rattle.kmip_ttlv_stream.proofs.Fronts.{SameHeader, same_header, SameHeader-sym, HasSize-along, HasSize-least, HasSize-one, HasSize-allowed, HasSize-typed}
 
 -- the bytes that were read, and those that are left
@@ -77,12 +81,12 @@ gives_exact answers limit bytes new reused r g =
 memory_exact : {T A : Type 0} (answers : List ℕ → Result T (Error A) → Type 0) (limit : Option ℕ) (bytes : List ℕ)
     (new reused : Option (List ℕ)) (e : Error A)
     → IsMemory e → Exactly answers limit bytes new reused (Err e)
-memory_exact answers limit bytes new reused e want = record {
-  in_header = λ low. inl want;
-  untyped = λ there none. (inl want, inl want);
-  over_limit = λ there t is over. (inl want, inl want);
-  in_body = λ there n due low. inl want;
-  whole = λ there n due enough. inl want;
+memory_exact answers limit bytes new reused e lack = record {
+  in_header = λ low. inl lack;
+  untyped = λ there none. (inl lack, inl lack);
+  over_limit = λ there t is over. (inl lack, inl lack);
+  in_body = λ there n due low. inl lack;
+  whole = λ there n due enough. inl lack;
 }
 
 -- an error of this kind and place
@@ -98,7 +102,7 @@ ends_early fault e io eof = inr (seen_is e end_fault (ap view_of_kind io.kind �
 
 lack_of : {A : Type 0} (a : Option (List ℕ)) (n : ℕ) (e : Error A) → LackCause false a n e
     → IsMemory e ⊎ ((fault : IoFault) × IsIoFault fault e × (error_kind fault ≡ UnexpectedEof) × IsShort a n)
-lack_of a n e (no_memory want) = inl want
+lack_of a n e (no_memory lack) = inl lack
 lack_of a n e (no_bytes fault io (inl fails)) = absurd (cc)
 lack_of a n e (no_bytes fault io (inr short)) = inr (fault, io, short.0, short.1)
 
@@ -107,7 +111,7 @@ header_exact : {T A : Type 0} (answers : List ℕ → Result T (Error A) → Typ
     → LackCause false (Some bytes) 8 e → Exactly answers limit bytes new reused (Err e)
 header_exact answers limit bytes new reused e cause =
     elim (lack_of (Some bytes) 8 e cause) [
-      | inl want ↦ memory_exact answers limit bytes new reused e want
+      | inl lack ↦ memory_exact answers limit bytes new reused e lack
       | inr w ↦
           let short : length bytes < 8 = w.3 in
           record {
@@ -141,7 +145,8 @@ over_exact answers limit bytes new reused head e comes k =
       untyped = λ there none. absurd (cc);
       over_limit = λ there t is h.
           let one : comes.over.typ ≡ t = cc in (
-            inr (seen_is e (size_fault bytes t) (ap view_of_kind comes.over.kind ∙ ap exceeds_limit (sym same.size)) (comes.over.place ∙ over_place bytes head comes.over.typ t same one)),
+            inr (seen_is e (size_fault bytes t) (ap view_of_kind comes.over.kind ∙ ap exceeds_limit (sym same.size)) (comes.over.place
+                ∙ over_place bytes head comes.over.typ t same one)),
             inr first.0,
           );
       in_body = λ there n due low. absurd (HasSize-allowed limit bytes comes.over.typ n typ due over);
@@ -165,7 +170,8 @@ untyped_exact answers limit bytes new reused head e comes k =
     record {
       in_header = λ low. absurd (omega arith);
       untyped = λ there is. (
-        inr (seen_is e (type_fault bytes) (comes.untyped.kind ∙ ap (λ (n : ℕ). malformed (malformeds.InvalidType n)) (sym same.code)) (comes.untyped.place ∙ untyped_place bytes head same)),
+        inr (seen_is e (type_fault bytes) (comes.untyped.kind ∙ ap (λ (n : ℕ). malformed (malformeds.InvalidType n)) (sym same.code)) (comes.untyped.place
+            ∙ untyped_place bytes head same)),
         inr first.0,
       );
       over_limit = λ there t is h. absurd (cc);
@@ -183,7 +189,7 @@ body_exact answers limit bytes new reused head mid n e taken eight size cause =
     let same = parts_header bytes head mid p (omega arith) in
     let all : HasSize limit bytes (8 + n) = HasSize-along limit head bytes _ (SameHeader-sym bytes head same) size in
     elim (lack_of mid n e cause) [
-      | inl want ↦ memory_exact answers limit bytes new reused e want
+      | inl lack ↦ memory_exact answers limit bytes new reused e lack
       | inr w ↦
           let short : length p.left < n = subst (λ (o : Option (List ℕ)). IsShort o n) p.is_left w.3 in
           record {

@@ -2,7 +2,8 @@
 use Rattle.std.proofs.Common.{◌≡◌, ℕ, ◌+◌, ◌-◌, ◌≤◌, Bool, List, [], Option, None, Some, Result, Ok, Err, subst, arith, refl, inl, inr}
 use Rattle.kmip_ttlv_types.specs.Streams.{Behind}
 use Rattle.kmip_ttlv_base.specs.declared.error.Error.{Error}
-use Rattle.kmip_ttlv_stream.specs.StreamMessages.{HasSize, IsUntyped, IsOver, FailsAtHeader, LacksBytes, Arrives, FailsToArrive, in_header, of_no_type, over_limit, in_body, Gives, Ends}
+use Rattle.kmip_ttlv_stream.specs.StreamMessages.{HasSize, IsUntyped, IsOver, FailsAtHeader, LacksBytes, Arrives, FailsToArrive, in_header, of_no_type}
+use Rattle.kmip_ttlv_stream.specs.StreamMessages.{over_limit, in_body, Gives, Ends}
 use Rattle.kmip_ttlv_stream.proofs.Fronts.{HasSize-least, header_came, comes_whole}
 
 stops_over : {A : Type 0} (can_fail : Bool) (limit : Option ℕ) (old new : Option (List ℕ))
@@ -81,26 +82,26 @@ ends_with answers can_fail limit old new message seen (Err e) comes same answer 
           same answer;
     }
 
-not_kept_stops : {A : Type 0} (can_fail : Bool) (limit : Option ℕ) (old new reused : Option (List ℕ)) (e : Error A)
+fresh_stops : {A : Type 0} (can_fail : Bool) (limit : Option ℕ) (old new reused : Option (List ℕ)) (e : Error A)
     → FailsToArrive can_fail limit old new reused e → FailsToArrive can_fail limit old new None e
-not_kept_stops can_fail limit old new reused e (in_header lacks) = in_header lacks
-not_kept_stops can_fail limit old new reused e (of_no_type head comes k) = of_no_type head comes tt
-not_kept_stops can_fail limit old new reused e (over_limit head comes k) = over_limit head comes tt
-not_kept_stops can_fail limit old new reused e (in_body head mid n taken long size lacks) =
+fresh_stops can_fail limit old new reused e (in_header lacks) = in_header lacks
+fresh_stops can_fail limit old new reused e (of_no_type head comes k) = of_no_type head comes tt
+fresh_stops can_fail limit old new reused e (over_limit head comes k) = over_limit head comes tt
+fresh_stops can_fail limit old new reused e (in_body head mid n taken long size lacks) =
     in_body head mid n taken long size lacks
 
-not_kept_gives : {T A : Type 0} (answers : List ℕ → Result T (Error A) → Type 0) (limit : Option ℕ)
+fresh_gives : {T A : Type 0} (answers : List ℕ → Result T (Error A) → Type 0) (limit : Option ℕ)
     (old new reused : Option (List ℕ)) (r : Result T (Error A)) → Gives answers limit old new reused r
     → Gives answers limit old new None r
-not_kept_gives answers limit old new reused r g =
+fresh_gives answers limit old new reused r g =
     record { message = g.message; comes = g.comes; is_in_buffer = tt; answer = g.answer }
 
 -- no buffer is kept
-pub ends_not_kept : {T A : Type 0} (answers : List ℕ → Result T (Error A) → Type 0) (can_fail : Bool) (limit : Option ℕ)
+pub ends_fresh : {T A : Type 0} (answers : List ℕ → Result T (Error A) → Type 0) (can_fail : Bool) (limit : Option ℕ)
     (old new reused : Option (List ℕ)) (r : Result T (Error A))
     → Ends answers can_fail limit old new reused r → Ends answers can_fail limit old new None r
-ends_not_kept answers can_fail limit old new reused (Ok x) g = not_kept_gives answers limit old new reused (Ok x) g
-ends_not_kept answers can_fail limit old new reused (Err e) (inl g) =
-    inl (not_kept_gives answers limit old new reused (Err e) g)
-ends_not_kept answers can_fail limit old new reused (Err e) (inr s) =
-    inr (not_kept_stops can_fail limit old new reused e s)
+ends_fresh answers can_fail limit old new reused (Ok x) g = fresh_gives answers limit old new reused (Ok x) g
+ends_fresh answers can_fail limit old new reused (Err e) (inl g) =
+    inl (fresh_gives answers limit old new reused (Err e) g)
+ends_fresh answers can_fail limit old new reused (Err e) (inr s) =
+    inr (fresh_stops can_fail limit old new reused e s)

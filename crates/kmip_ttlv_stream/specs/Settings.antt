@@ -2,7 +2,7 @@
 use Rattle.std.specs.Prelude.{◌≡◌, ℕ, List, Option, Some, None, is_some}
 use Rattle.kmip_ttlv_stream.specs.declared.config.Config.{Config}
 use Rattle.kmip_ttlv_stream.specs.declared.config.Buffer.{Buffer}
-use Rattle.kmip_ttlv_stream.specs.declared.config.Buffer.TheVariants.{Reused, Unkept}
+use Rattle.kmip_ttlv_stream.specs.declared.config.Buffer.TheVariants.{Reused, Fresh}
 
 -- the limit on the size of messages, and the bytes in the kept buffer, if there is one
 pub record Settings : Type 0 where
@@ -10,13 +10,13 @@ pub record Settings : Type 0 where
   pub reused : Option (List ℕ)
 
 -- the bytes in a buffer; none if it is an allocator alone
-abbrev pub held_by : {A : Type 0} → Buffer A → Option (List ℕ)
-held_by (Reused bytes) = Some bytes.items
-held_by (Unkept alloc) = None
+abbrev pub reused_bytes : {A : Type 0} → Buffer A → Option (List ℕ)
+reused_bytes (Reused bytes) = Some bytes.items
+reused_bytes (Fresh alloc) = None
 
 -- the settings of this configuration
 abbrev pub settings_of : {A : Type 0} → Config A → Settings
-settings_of c = record { limit = c.limit; reused = held_by c.buffer }
+settings_of c = record { limit = c.limit; reused = reused_bytes c.buffer }
 
 -- the limit stays, and there is a buffer if and only if there was one
 pub record KeepsSettings (old new : Settings) : Type 0 where

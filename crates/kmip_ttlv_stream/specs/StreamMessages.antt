@@ -3,7 +3,6 @@ use Rattle.std.specs.Prelude.{◌≡◌, ℕ, ◌+◌, ◌<◌, ◌≤◌, ◌�
 use Rattle.std.specs.Prelude.{IfSome, IfErr, IfOk, Result, Ok, Err}
 use Rattle.std.specs.Io.KnownBytes.{Consumes}
 use Rattle.std.specs.declared.io.Error.{Error as IoFault}
-use Rattle.std.specs.declared.io.ErrorKind.TheVariants.{UnexpectedEof}
 use Rattle.kmip_ttlv_types.specs.declared.typ.TtlvType.{TtlvType}
 use Rattle.kmip_ttlv_types.specs.ItemTypes.{type_of}
 use Rattle.kmip_ttlv_types.specs.Places.{tag_at, code_at, length_at}
@@ -11,7 +10,7 @@ use Rattle.kmip_ttlv_types.specs.Streams.{ConsumesUpTo, Lacks}
 use Rattle.kmip_ttlv_base.specs.declared.error.Error.{Error}
 use Rattle.kmip_ttlv_base.specs.declared.error.ErrorKind.TheVariants as kinds
 use Rattle.kmip_ttlv_base.specs.declared.error.MalformedTtlvError.TheVariants as malformeds
-use Rattle.kmip_ttlv_base.specs.Errors.{Kind, Location, unknown, io_error, exceeds_limit, malformed, kind_of}
+use Rattle.kmip_ttlv_base.specs.Errors.{Kind, Location, unknown, exceeds_limit, malformed, kind_of}
 use Rattle.kmip_ttlv_base.specs.Errors.{view_of_kind, location_of}
 use Rattle.kmip_ttlv_base.specs.Errors.{view_of_location, IsMemory}
 use Rattle.kmip_ttlv_base.specs.Values.{Value}

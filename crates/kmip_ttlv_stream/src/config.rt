@@ -21,7 +21,7 @@ pub struct Config<A: Allocator = Global> {
 #[derive(Drop)]
 pub(crate) enum Buffer<A: Allocator> {
     Reused(Vec<u8, A>),
-    Unkept(A),
+    Fresh(A),
 }
 
 impl<A: Allocator> Config<A> {
@@ -31,7 +31,7 @@ impl<A: Allocator> Config<A> {
     {
         Config {
             limit: None,
-            buffer: Buffer::Unkept(alloc),
+            buffer: Buffer::Fresh(alloc),
         }
     }
 
@@ -55,7 +55,7 @@ impl<A: Allocator> Config<A> {
     {
         match &self.buffer {
             Buffer::Reused(bytes) => Some(bytes),
-            Buffer::Unkept(_) => None,
+            Buffer::Fresh(_) => None,
         }
     }
 
@@ -90,7 +90,7 @@ impl<A: Allocator + Copy> Config<A> {
             limit: self.limit,
             buffer: match &self.buffer {
                 Buffer::Reused(bytes) => Buffer::Reused(Vec::new(*bytes.allocator())),
-                Buffer::Unkept(alloc) => Buffer::Unkept(*alloc),
+                Buffer::Fresh(alloc) => Buffer::Fresh(*alloc),
             },
         }
     }
@@ -105,7 +105,7 @@ fn emptied<A: Allocator>(buffer: Buffer<A>) -> Vec<u8, A>
             bytes.clear();
             bytes
         }
-        Buffer::Unkept(alloc) => Vec::new(alloc),
+        Buffer::Fresh(alloc) => Vec::new(alloc),
     }
 }
 

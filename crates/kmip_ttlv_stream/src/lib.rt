@@ -58,7 +58,7 @@ pub fn from_reader<T: Decode<A>, S: Source, A: Allocator + Copy>(
 {
     match &mut config.buffer {
         Buffer::Reused(bytes) => read_message(alloc, reader, config.limit, bytes),
-        Buffer::Unkept(_) => {
+        Buffer::Fresh(_) => {
             let mut bytes = Vec::new(alloc);
             read_message(alloc, reader, config.limit, &mut bytes)
         }

@@ -1,5 +1,6 @@
 -- Reading from memory and writing into it fail only because of the bytes or the room.
-use Rattle.std.proofs.Common.{◌≡◌, ℕ, ◌<◌, ◌≤◌, ◌^◌, List, ◌∷◌, true, false, Option, Some, None, Result, Ok, Err, IsOk, length, ap, sym, arith, refl, inl, inr, ◌⊎◌, Global, get_or, ◌∙◌}
+use Rattle.std.proofs.Common.{◌≡◌, ℕ, ◌<◌, ◌≤◌, ◌^◌, List, ◌∷◌, true, false, Option, Some, None, Result, Ok, Err, IsOk, length, ap, sym, arith, refl, inl, inr}
+use Rattle.std.proofs.Common.{◌⊎◌, Global, get_or, ◌∙◌}
 use Rattle.std.specs.Prelude.{MatchResult}
 use Rattle.kmip_ttlv_types.specs.declared.error.Error.{Error}
 use Rattle.kmip_ttlv_types.specs.declared.error.Error.TheVariants as errors

@@ -1,6 +1,6 @@
 -- The number of hexadecimal digits, read one by one.
 use Rattle.std.proofs.Common.{◌≡◌, ℕ, zero, suc, ◌+◌, ◌*◌, ◌^◌, ◌<◌, ◌≤◌, List, [], ◌∷◌, Bool, true, false, ◌&&◌, ltb, Some, None}
-use Rattle.std.proofs.Common.{length, take, get_or, refl, sym, ap, ◌∙◌, Decides, arith, subst}
+use Rattle.std.proofs.Common.{length, take, get_or, refl, Decides, arith}
 use Rattle.std.specs.Char.{digit_value}
 use Rattle.std.specs.Str.Parse.{AllDigits, IsNumeral, digits_value}
 use Rattle.std.proofs.lemmas.Bool.Decides.{Decides-and, Decides-ltb}
@@ -12,7 +12,8 @@ digits_decides : (ds : List ℕ) → Decides (all_digits 16 ds) (AllDigits 16 ds
 digits_decides [] = (λ _. tt, λ _. refl)
 digits_decides (c ∷ cs) = Decides-and _ _ (Decides-ltb (digit_value c) 16) (digits_decides cs)
 
-is_decides : (ds : List ℕ) → Decides (ltb 0 (length ds) && all_digits 16 ds && ltb (digits_value 16 ds) (2 ^ 32)) (IsNumeral 16 ds × (digits_value 16 ds < 2 ^ 32))
+is_decides : (ds : List ℕ) → Decides (ltb 0 (length ds) && all_digits 16 ds && ltb (digits_value 16 ds) (2 ^ 32)) (IsNumeral 16 ds
+    × (digits_value 16 ds < 2 ^ 32))
 is_decides ds = Decides-and _ _ (Decides-and _ _ (Decides-ltb 0 (length ds)) (digits_decides ds)) (Decides-ltb (digits_value 16 ds) (2 ^ 32))
 
 when_not : (b : Bool) {P : Type 0} → Decides b P → (P → ⊥) → b ≡ false
@@ -41,7 +42,8 @@ too_far ds i lt far = is_none ds (λ each small.
     absurd (omega (arith, far, small, digits_value_more 16 ds i lt, digits_value-take-le 16 ds (i + 1) (omega arith))))
 
 -- one more digit
-pub more_digits : (ds : List ℕ) (i value digit : ℕ) → i < length ds → digit < 16 → (digit < 16 → digit ≡ digit_value (get_or ds i 0)) → value ≡ digits_value 16 (take i ds) → AllDigits 16 (take i ds)
+pub more_digits : (ds : List ℕ) (i value digit : ℕ) → i < length ds → digit < 16 → (digit < 16 → digit ≡ digit_value (get_or ds i 0))
+    → value ≡ digits_value 16 (take i ds) → AllDigits 16 (take i ds)
     → (value * 16 + digit ≡ digits_value 16 (take (i + 1) ds)) × AllDigits 16 (take (i + 1) ds)
 more_digits ds i value digit lt small same is each =
     let d = same small in

@@ -10,7 +10,8 @@ take-eight n len b is small = take-replicate n 8 b (omega (arith, small)) ∙ ap
 
 pub length-sign_extended : (bytes : List ℕ) → length (sign_extended bytes) ≡ pad_len (length bytes) + length bytes
 unfolding sign_extended
-length-sign_extended bytes = length-append (replicate (pad_len (length bytes)) (sign_byte bytes)) bytes ∙ ap (λ n. n + length bytes) (length-replicate (pad_len (length bytes)) (sign_byte bytes))
+length-sign_extended bytes = length-append (replicate (pad_len (length bytes)) (sign_byte bytes)) bytes
+    ∙ ap (λ n. n + length bytes) (length-replicate (pad_len (length bytes)) (sign_byte bytes))
 
 -- sign bytes and the bytes
 pub signs_before : (bytes : List ℕ) (n s : ℕ) → n ≡ pad_len (length bytes) → n < 8 → s ≡ sign_byte bytes → take n (replicate 8 s) ++ bytes ≡ sign_extended bytes

@@ -1,5 +1,6 @@
 -- What is at an offset, and the items that split bytes.
-use Rattle.std.proofs.Common.{◌≡◌, ℕ, true, false, ◌&&◌, ltb, zero, suc, ◌+◌, ◌-◌, ◌^◌, ◌<◌, ◌≤◌, List, [], ◌∷◌, ◌++◌, length, get_or, take, drop, Some, refl, sym, ap, ◌∙◌, append_assoc, arith, add-zero}
+use Rattle.std.proofs.Common.{◌≡◌, ℕ, true, false, ◌&&◌, ltb, zero, suc, ◌+◌, ◌-◌, ◌^◌, ◌<◌, ◌≤◌, List, [], ◌∷◌, ◌++◌, length, get_or, take, drop, Some, refl}
+use Rattle.std.proofs.Common.{sym, ap, ◌∙◌, append_assoc, arith, add-zero}
 use Rattle.std.proofs.lemmas.Bool.{lt-ltb, ltb-true}
 use Rattle.std.proofs.Math.Seq.{take-add}
 use Rattle.std.specs.Int.{w32, to_be_bytes, from_be_bytes}
@@ -9,7 +10,8 @@ use Rattle.kmip_ttlv_types.specs.ItemTypes.{code, padding, type_of}
 use Rattle.kmip_ttlv_types.specs.Items.{IsTextOf, Raw, Splits, header}
 use Rattle.kmip_ttlv_types.specs.Places.{ItemAt, ItemsAt, all_below, is_plain, length_at, size, tag_at}
 use Rattle.kmip_ttlv_types.specs.declared.typ.TtlvType.{TtlvType}
-use Rattle.kmip_ttlv_types.specs.declared.typ.TtlvType.TheVariants.{BigInteger, Boolean, ByteString, DateTime, Enumeration, Integer, Interval, LongInteger, Structure, TextString}
+use Rattle.kmip_ttlv_types.specs.declared.typ.TtlvType.TheVariants.{BigInteger, Boolean, ByteString, DateTime, Enumeration, Integer, Interval, LongInteger}
+use Rattle.kmip_ttlv_types.specs.declared.typ.TtlvType.TheVariants.{Structure, TextString}
 
 -- an item's header
 abbrev pub header_of : Raw → List ℕ
@@ -24,7 +26,8 @@ pub text_length : (x : Raw) (text : List ℕ) → IsTextOf x text → length tex
 text_length x text t = ap length t.parts ∙ omega (arith, length-append x.content t.pad, t.pad_length)
 
 -- a number from the four bytes that encode it
-number_read : (a b c d n : ℕ) → n < 2 ^ 32 → a ≡ get_or (to_be_bytes w32 n) 0 0 → b ≡ get_or (to_be_bytes w32 n) 1 0 → c ≡ get_or (to_be_bytes w32 n) 2 0 → d ≡ get_or (to_be_bytes w32 n) 3 0 → from_be_bytes w32 (a ∷ b ∷ c ∷ d ∷ []) ≡ n
+number_read : (a b c d n : ℕ) → n < 2 ^ 32 → a ≡ get_or (to_be_bytes w32 n) 0 0 → b ≡ get_or (to_be_bytes w32 n) 1 0 → c ≡ get_or (to_be_bytes w32 n) 2 0
+    → d ≡ get_or (to_be_bytes w32 n) 3 0 → from_be_bytes w32 (a ∷ b ∷ c ∷ d ∷ []) ≡ n
 number_read a b c d n lt ea eb ec ed = rw (ea, eb, ec, ed) (from_be_bytes-to_be_bytes_4 n lt)
 
 -- a tag's top byte is zero
@@ -32,10 +35,12 @@ no_top_byte : (n : ℕ) → n < 2 ^ 24 → 0 ≡ get_or (to_be_bytes w32 n) 0 0
 no_top_byte n lt = omega arith
 
 -- content follows the header
-content_read : (w : List ℕ) (p n : ℕ) (h content pad rest : List ℕ) → drop p w ≡ (h ++ content ++ pad) ++ rest → length h ≡ 8 → length content ≡ n → take n (drop (p + 8) w) ≡ content
+content_read : (w : List ℕ) (p n : ℕ) (h content pad rest : List ℕ) → drop p w ≡ (h ++ content ++ pad) ++ rest → length h ≡ 8 → length content ≡ n
+    → take n (drop (p + 8) w) ≡ content
 content_read w p n h content pad rest e eight len =
     let grouped : (h ++ content ++ pad) ++ rest ≡ h ++ (content ++ (pad ++ rest)) = simp append_assoc in
-    let shifted : drop (p + 8) w ≡ content ++ (pad ++ rest) = sym (drop-drop 8 p w) ∙ ap (drop 8) (e ∙ grouped) ∙ drop_at h (content ++ (pad ++ rest)) 8 eight in
+    let shifted : drop (p + 8) w ≡ content ++ (pad ++ rest) = sym (drop-drop 8 p w) ∙ ap (drop 8) (e ∙ grouped)
+    ∙ drop_at h (content ++ (pad ++ rest)) 8 eight in
     rw shifted (take_at content (pad ++ rest) n len)
 
 -- one byte more
@@ -44,7 +49,11 @@ plain_both a bs lt e = rw (lt-ltb a 256 lt) e
 
 -- one byte and the others
 plain_split : (a : ℕ) (bs : List ℕ) → all_below (a ∷ bs) ≡ true → (a < 256) × (all_below bs ≡ true)
-plain_split a bs e = elim (ltb a 256) as (λ t. ltb a 256 ≡ t → (t && all_below bs) ≡ true → (a < 256) × (all_below bs ≡ true)) [ true ↦ λ t h. (ltb-true _ _ t, h) | false ↦ λ t h. absurd cc ] refl e
+plain_split a bs e = elim (ltb a 256) as (λ t. ltb a 256 ≡ t → (t && all_below bs) ≡ true → (a < 256) × (all_below bs ≡ true)) [
+  | true ↦
+      λ t h. (ltb-true _ _ t, h)
+  | false ↦ λ t h. absurd cc
+] refl e
 
 -- a code is a byte
 code_fits : (t : TtlvType) → code t < 256
@@ -60,12 +69,23 @@ code_fits DateTime = omega arith
 code_fits Interval = omega arith
 
 -- eight bytes
-plain_eight : (a b c d e f g h : ℕ) → a < 256 → b < 256 → c < 256 → d < 256 → e < 256 → f < 256 → g < 256 → h < 256 → all_below (a ∷ b ∷ c ∷ d ∷ e ∷ f ∷ g ∷ h ∷ []) ≡ true
-plain_eight a b c d e f g h ka kb kc kd ke kf kg kh = plain_both a (b ∷ c ∷ d ∷ e ∷ f ∷ g ∷ h ∷ []) ka (plain_both b (c ∷ d ∷ e ∷ f ∷ g ∷ h ∷ []) kb (plain_both c (d ∷ e ∷ f ∷ g ∷ h ∷ []) kc (plain_both d (e ∷ f ∷ g ∷ h ∷ []) kd (plain_both e (f ∷ g ∷ h ∷ []) ke (plain_both f (g ∷ h ∷ []) kf (plain_both g (h ∷ []) kg (plain_both h [] kh refl)))))))
+plain_eight : (a b c d e f g h : ℕ) → a < 256 → b < 256 → c < 256 → d < 256 → e < 256 → f < 256 → g < 256 → h < 256
+    → all_below (a ∷ b ∷ c ∷ d ∷ e ∷ f ∷ g ∷ h ∷ []) ≡ true
+plain_eight a b c d e f g h ka kb kc kd ke kf kg kh =
+    plain_both a (b ∷ c ∷ d ∷ e ∷ f ∷ g ∷ h ∷ []) ka
+    (plain_both b (c ∷ d ∷ e ∷ f ∷ g ∷ h ∷ []) kb
+    (plain_both c (d ∷ e ∷ f ∷ g ∷ h ∷ []) kc
+    (plain_both d (e ∷ f ∷ g ∷ h ∷ []) kd
+    (plain_both e (f ∷ g ∷ h ∷ []) ke (plain_both f (g ∷ h ∷ []) kf (plain_both g (h ∷ []) kg (plain_both h [] kh refl)))))))
 
 -- the header of an encoding is bytes
-plain_text : (w : List ℕ) (p : ℕ) (x : Raw) → get_or w p 0 ≡ get_or (header_of x) 0 0 → get_or w (p + 1) 0 ≡ get_or (header_of x) 1 0 → get_or w (p + 2) 0 ≡ get_or (header_of x) 2 0 → get_or w (p + 3) 0 ≡ get_or (header_of x) 3 0 → get_or w (p + 4) 0 ≡ get_or (header_of x) 4 0 → get_or w (p + 5) 0 ≡ get_or (header_of x) 5 0 → get_or w (p + 6) 0 ≡ get_or (header_of x) 6 0 → get_or w (p + 7) 0 ≡ get_or (header_of x) 7 0 → is_plain w p ≡ true
-plain_text w p x a b c d e f g h = plain_eight (get_or w p 0) (get_or w (p + 1) 0) (get_or w (p + 2) 0) (get_or w (p + 3) 0) (get_or w (p + 4) 0) (get_or w (p + 5) 0) (get_or w (p + 6) 0) (get_or w (p + 7) 0) (omega arith) (omega arith) (omega arith) (omega (arith, code_fits x.typ)) (omega arith) (omega arith) (omega arith) (omega arith)
+plain_text : (w : List ℕ) (p : ℕ) (x : Raw) → get_or w p 0 ≡ get_or (header_of x) 0 0 → get_or w (p + 1) 0 ≡ get_or (header_of x) 1 0
+    → get_or w (p + 2) 0 ≡ get_or (header_of x) 2 0 → get_or w (p + 3) 0 ≡ get_or (header_of x) 3 0 → get_or w (p + 4) 0 ≡ get_or (header_of x) 4 0
+    → get_or w (p + 5) 0 ≡ get_or (header_of x) 5 0 → get_or w (p + 6) 0 ≡ get_or (header_of x) 6 0 → get_or w (p + 7) 0 ≡ get_or (header_of x) 7 0
+    → is_plain w p ≡ true
+plain_text w p x a b c d e f g h = plain_eight (get_or w p 0) (get_or w (p + 1) 0) (get_or w (p + 2) 0) (get_or w (p + 3) 0) (get_or w (p + 4) 0)
+    (get_or w (p + 5) 0) (get_or w (p + 6) 0) (get_or w (p + 7) 0) (omega arith) (omega arith) (omega arith) (omega (arith, code_fits x.typ)) (omega arith)
+    (omega arith) (omega arith) (omega arith)
 
 -- the eight bytes, from the test
 record Plain (w : List ℕ) (p : ℕ) : Type 0 where
@@ -80,9 +100,12 @@ record Plain (w : List ℕ) (p : ℕ) : Type 0 where
 -- each of the eight is a byte
 plain_is : (w : List ℕ) (p : ℕ) → is_plain w p ≡ true → Plain w p
 plain_is w p e =
-    let k0 = plain_split (get_or w p 0) (get_or w (p + 1) 0 ∷ get_or w (p + 2) 0 ∷ get_or w (p + 3) 0 ∷ get_or w (p + 4) 0 ∷ get_or w (p + 5) 0 ∷ get_or w (p + 6) 0 ∷ get_or w (p + 7) 0 ∷ []) e in
-    let k1 = plain_split (get_or w (p + 1) 0) (get_or w (p + 2) 0 ∷ get_or w (p + 3) 0 ∷ get_or w (p + 4) 0 ∷ get_or w (p + 5) 0 ∷ get_or w (p + 6) 0 ∷ get_or w (p + 7) 0 ∷ []) k0.1 in
-    let k2 = plain_split (get_or w (p + 2) 0) (get_or w (p + 3) 0 ∷ get_or w (p + 4) 0 ∷ get_or w (p + 5) 0 ∷ get_or w (p + 6) 0 ∷ get_or w (p + 7) 0 ∷ []) k1.1 in
+    let k0 = plain_split (get_or w p 0) (get_or w (p + 1) 0 ∷ get_or w (p + 2) 0 ∷ get_or w (p + 3) 0 ∷ get_or w (p + 4) 0 ∷ get_or w (p + 5) 0 ∷ get_or w
+    (p + 6) 0 ∷ get_or w (p + 7) 0 ∷ []) e in
+    let k1 = plain_split (get_or w (p + 1) 0) (get_or w (p + 2) 0 ∷ get_or w (p + 3) 0 ∷ get_or w (p + 4) 0 ∷ get_or w (p + 5) 0 ∷ get_or w (p + 6) 0 ∷ get_or w
+    (p + 7) 0 ∷ []) k0.1 in
+    let k2 = plain_split (get_or w (p + 2) 0) (get_or w (p + 3) 0 ∷ get_or w (p + 4) 0 ∷ get_or w (p + 5) 0 ∷ get_or w (p + 6) 0 ∷ get_or w (p + 7) 0 ∷ []) k1.1
+    in
     let k3 = plain_split (get_or w (p + 3) 0) (get_or w (p + 4) 0 ∷ get_or w (p + 5) 0 ∷ get_or w (p + 6) 0 ∷ get_or w (p + 7) 0 ∷ []) k2.1 in
     let k4 = plain_split (get_or w (p + 4) 0) (get_or w (p + 5) 0 ∷ get_or w (p + 6) 0 ∷ get_or w (p + 7) 0 ∷ []) k3.1 in
     let k5 = plain_split (get_or w (p + 5) 0) (get_or w (p + 6) 0 ∷ get_or w (p + 7) 0 ∷ []) k4.1 in
@@ -92,14 +115,16 @@ plain_is w p e =
 
 -- the bytes of a list are below 256 at every offset
 pub plain_bytes : (w : List ℕ) (p : ℕ) → ((i : ℕ) → get_or w i 0 < 256) → is_plain w p ≡ true
-plain_bytes w p fits = plain_eight (get_or w p 0) (get_or w (p + 1) 0) (get_or w (p + 2) 0) (get_or w (p + 3) 0) (get_or w (p + 4) 0) (get_or w (p + 5) 0) (get_or w (p + 6) 0) (get_or w (p + 7) 0) (fits p) (fits (p + 1)) (fits (p + 2)) (fits (p + 3)) (fits (p + 4)) (fits (p + 5)) (fits (p + 6)) (fits (p + 7))
+plain_bytes w p fits = plain_eight (get_or w p 0) (get_or w (p + 1) 0) (get_or w (p + 2) 0) (get_or w (p + 3) 0) (get_or w (p + 4) 0) (get_or w (p + 5) 0)
+    (get_or w (p + 6) 0) (get_or w (p + 7) 0) (fits p) (fits (p + 1)) (fits (p + 2)) (fits (p + 3)) (fits (p + 4)) (fits (p + 5)) (fits (p + 6)) (fits (p + 7))
 
 -- the item whose encoding is at an offset is there
 pub item_at_text : (w : List ℕ) (p : ℕ) (x : Raw) (text rest : List ℕ) → p ≤ length w → drop p w ≡ text ++ rest → IsTextOf x text → ItemAt w p x
 item_at_text w p x text rest le e t =
     let r : drop p w ≡ (header_of x ++ x.content ++ t.pad) ++ rest = e ∙ ap (λ (s : List ℕ). s ++ rest) t.parts in
     let at = λ (i : ℕ). at_rest w p i _ r in
-    let tag-is : tag_at w p ≡ x.tag = number_read 0 _ _ _ x.tag (omega (arith, t.tag_fits)) (no_top_byte x.tag t.tag_fits) (rw add-zero at (at 0)) (at 1) (at 2) in
+    let tag-is : tag_at w p ≡ x.tag = number_read 0 _ _ _ x.tag (omega (arith, t.tag_fits)) (no_top_byte x.tag t.tag_fits) (rw add-zero at (at 0))
+    (at 1) (at 2) in
     let len-is : length_at w p ≡ length x.content = number_read _ _ _ _ (length x.content) t.length_fits (at 4) (at 5) (at 6) (at 7) in
     record {
       plain = plain_text w p x (rw add-zero at (at 0)) (at 1) (at 2) (at 3) (at 4) (at 5) (at 6) (at 7);
@@ -111,7 +136,8 @@ item_at_text w p x text rest le e t =
     }
 
 -- items whose encodings follow one another from an offset on are there
-pub items_at_splits : (w : List ℕ) (p e : ℕ) (xs : List Raw) (back : List ℕ) (bytes : List ℕ) → p ≤ length w → drop p w ≡ bytes ++ back → p + length bytes ≡ e → Splits xs bytes → ItemsAt w p e xs
+pub items_at_splits : (w : List ℕ) (p e : ℕ) (xs : List Raw) (back : List ℕ) (bytes : List ℕ) → p ≤ length w → drop p w ≡ bytes ++ back → p + length bytes ≡ e
+    → Splits xs bytes → ItemsAt w p e xs
 items_at_splits w p e [] back bytes le at len s = omega (arith, ap length s, len)
 items_at_splits w p e (x ∷ xs) back bytes le at len s =
     let text = s.0 in
@@ -120,11 +146,16 @@ items_at_splits w p e (x ∷ xs) back bytes le at len s =
     let here : drop p w ≡ text ++ (rest ++ back) = at ∙ ap (λ (b : List ℕ). b ++ back) s.3 ∙ append_assoc text rest back in
     let item = item_at_text w p x text (rest ++ back) le here t in
     let n-is : length text ≡ size x.typ (length_at w p) = text_length x text t ∙ ap (size x.typ) item.len in
-    let next : drop (p + size x.typ (length_at w p)) w ≡ rest ++ back = sym (drop-drop (size x.typ (length_at w p)) p w) ∙ ap (drop (size x.typ (length_at w p))) here ∙ drop_at text (rest ++ back) (size x.typ (length_at w p)) n-is in
-    (item, items_at_splits w (p + size x.typ (length_at w p)) e xs back rest item.there next (omega (arith, ap length s.3, length-append text rest, n-is, len)) s.4)
+    let next : drop (p + size x.typ (length_at w p)) w ≡ rest ++ back = sym (drop-drop (size x.typ (length_at w p)) p w)
+    ∙ ap (drop (size x.typ (length_at w p))) here ∙ drop_at text (rest ++ back) (size x.typ (length_at w p)) n-is in (
+      item,
+      items_at_splits w (p + size x.typ (length_at w p)) e xs back rest item.there next (omega (arith, ap length s.3, length-append text rest, n-is, len))
+          s.4,
+    )
 
 -- the first eight cells
-pub eight : (d : List ℕ) → 8 ≤ length d → take 8 d ≡ get_or d 0 0 ∷ get_or d 1 0 ∷ get_or d 2 0 ∷ get_or d 3 0 ∷ get_or d 4 0 ∷ get_or d 5 0 ∷ get_or d 6 0 ∷ get_or d 7 0 ∷ []
+pub eight : (d : List ℕ) → 8 ≤ length d → take 8 d ≡ get_or d 0 0 ∷ get_or d 1 0 ∷ get_or d 2 0 ∷ get_or d 3 0 ∷ get_or d 4 0 ∷ get_or d 5 0 ∷ get_or d 6 0 ∷
+    get_or d 7 0 ∷ []
 eight [] le = absurd (omega arith)
 eight (a ∷ []) le = absurd (omega arith)
 eight (a ∷ b ∷ []) le = absurd (omega arith)
@@ -142,9 +173,11 @@ four_fit a b c d ha hb hc hd (suc (suc zero)) = hc
 four_fit a b c d ha hb hc hd (suc (suc (suc zero))) = hd
 four_fit a b c d ha hb hc hd (suc (suc (suc (suc i)))) = omega arith
 
-cells_of_header : (x : Raw) (a b c t d e f g : ℕ) → to_be_bytes w32 x.tag ≡ 0 ∷ a ∷ b ∷ c ∷ [] → code x.typ ≡ t → to_be_bytes w32 (length x.content) ≡ d ∷ e ∷ f ∷ g ∷ [] → header_of x ≡ a ∷ b ∷ c ∷ t ∷ d ∷ e ∷ f ∷ g ∷ []
+cells_of_header : (x : Raw) (a b c t d e f g : ℕ) → to_be_bytes w32 x.tag ≡ 0 ∷ a ∷ b ∷ c ∷ [] → code x.typ ≡ t
+    → to_be_bytes w32 (length x.content) ≡ d ∷ e ∷ f ∷ g ∷ [] → header_of x ≡ a ∷ b ∷ c ∷ t ∷ d ∷ e ∷ f ∷ g ∷ []
 cells_of_header x a b c t d e f g h k l =
-    ap (λ (s : List ℕ). drop 1 s ++ code x.typ ∷ to_be_bytes w32 (length x.content)) h ∙ ap (λ (s : List ℕ). a ∷ b ∷ c ∷ code x.typ ∷ s) l ∙ ap (λ (n : ℕ). a ∷ b ∷ c ∷ n ∷ d ∷ e ∷ f ∷ g ∷ []) k
+    ap (λ (s : List ℕ). drop 1 s ++ code x.typ ∷ to_be_bytes w32 (length x.content)) h ∙ ap (λ (s : List ℕ). a ∷ b ∷ c ∷ code x.typ ∷ s) l
+    ∙ ap (λ (n : ℕ). a ∷ b ∷ c ∷ n ∷ d ∷ e ∷ f ∷ g ∷ []) k
 
 -- in order, and within the bytes
 pub items_in_order : (w : List ℕ) (p e : ℕ) (xs : List Raw) → p ≤ length w → ItemsAt w p e xs → (p ≤ e) × (e ≤ length w)
@@ -162,10 +195,23 @@ module _ (w : List ℕ) where
   header_at_item p x item =
       let k = plain_is w p item.plain in
       let long : 8 ≤ length (drop p w) = omega (arith, item.there, length-drop p w) in
-      let tag-bytes = be_bytes_4 (0 ∷ get_or w p 0 ∷ get_or w (p + 1) 0 ∷ get_or w (p + 2) 0 ∷ []) x.tag refl (four_fit _ _ _ _ (omega arith) k.b0 k.b1 k.b2) item.tag in
-      let len-bytes = be_bytes_4 (get_or w (p + 4) 0 ∷ get_or w (p + 5) 0 ∷ get_or w (p + 6) 0 ∷ get_or w (p + 7) 0 ∷ []) (length x.content) refl (four_fit _ _ _ _ k.b4 k.b5 k.b6 k.b7) item.len in
-      let cells = cells_of_header x (get_or w p 0) (get_or w (p + 1) 0) (get_or w (p + 2) 0) (get_or w (p + 3) 0) (get_or w (p + 4) 0) (get_or w (p + 5) 0) (get_or w (p + 6) 0) (get_or w (p + 7) 0) tag-bytes item.typ len-bytes in
-      eight (drop p w) long ∙ rw (get_or-drop p w 0 0, add-zero, get_or-drop p w 1 0, get_or-drop p w 2 0, get_or-drop p w 3 0, get_or-drop p w 4 0, get_or-drop p w 5 0, get_or-drop p w 6 0, get_or-drop p w 7 0) (sym cells)
+      let tag-bytes = be_bytes_4 (0 ∷ get_or w p 0 ∷ get_or w (p + 1) 0 ∷ get_or w (p + 2) 0 ∷ []) x.tag refl (four_fit _ _ _ _ (omega arith) k.b0 k.b1 k.b2)
+      item.tag in
+      let len-bytes = be_bytes_4 (get_or w (p + 4) 0 ∷ get_or w (p + 5) 0 ∷ get_or w (p + 6) 0 ∷ get_or w (p + 7) 0 ∷ []) (length x.content) refl
+      (four_fit _ _ _ _ k.b4 k.b5 k.b6 k.b7) item.len in
+      let cells = cells_of_header x (get_or w p 0) (get_or w (p + 1) 0) (get_or w (p + 2) 0) (get_or w (p + 3) 0) (get_or w (p + 4) 0) (get_or w (p + 5) 0)
+      (get_or w (p + 6) 0) (get_or w (p + 7) 0) tag-bytes item.typ len-bytes in
+      eight (drop p w) long ∙ rw (
+        get_or-drop p w 0 0,
+        add-zero,
+        get_or-drop p w 1 0,
+        get_or-drop p w 2 0,
+        get_or-drop p w 3 0,
+        get_or-drop p w 4 0,
+        get_or-drop p w 5 0,
+        get_or-drop p w 6 0,
+        get_or-drop p w 7 0,
+      ) (sym cells)
 
   pub text_at_item : (p : ℕ) (x : Raw) → ItemAt w p x → IsTextOf x (take (size x.typ (length_at w p)) (drop p w))
   text_at_item p x item =
@@ -179,8 +225,10 @@ module _ (w : List ℕ) where
         tag_fits = omega (arith, item.tag, k.b0, k.b1, k.b2);
         length_fits = omega (arith, item.len, k.b4, k.b5, k.b6, k.b7);
         pad = take (padding x.typ n) (drop (8 + n) d);
-        pad_length = length-take-le (padding x.typ n) (drop (8 + n) d) (omega (arith, item.there, length-drop (8 + n) d, length-drop p w)) ∙ ap (padding x.typ) (sym item.len);
-        parts = parts-1 ∙ ap (λ (s : List ℕ). s ++ take (padding x.typ n) (drop (8 + n) d)) (parts-2 ∙ ap (λ (s : List ℕ). take 8 d ++ s) content-is ∙ ap (λ (s : List ℕ). s ++ x.content) (header_at_item p x item));
+        pad_length = length-take-le (padding x.typ n) (drop (8 + n) d) (omega (arith, item.there, length-drop (8 + n) d, length-drop p w))
+            ∙ ap (padding x.typ) (sym item.len);
+        parts = parts-1 ∙ ap (λ (s : List ℕ). s ++ take (padding x.typ n) (drop (8 + n) d)) (parts-2 ∙ ap (λ (s : List ℕ). take 8 d ++ s) content-is
+            ∙ ap (λ (s : List ℕ). s ++ x.content) (header_at_item p x item));
       }
 
   pub splits_items_at : (p e : ℕ) (xs : List Raw) → p ≤ length w → ItemsAt w p e xs → Splits xs (take (e - p) (drop p w))
@@ -188,8 +236,14 @@ module _ (w : List ℕ) where
   splits_items_at p e (x ∷ xs) le items =
       let s = size x.typ (length_at w p) in
       let k = items_in_order w (p + s) e xs items.0.there items.1 in
-      let sum : e - p ≡ s + (e - (p + s)) = omega (arith, k.0) in
-      (take s (drop p w), take (e - (p + s)) (drop (p + s) w), text_at_item p x items.0, ap (λ (n : ℕ). take n (drop p w)) sum ∙ take-add s (e - (p + s)) (drop p w) ∙ ap (λ (r : List ℕ). take s (drop p w) ++ take (e - (p + s)) r) (drop-drop s p w), splits_items_at (p + s) e xs items.0.there items.1)
+      let sum : e - p ≡ s + (e - (p + s)) = omega (arith, k.0) in (
+        take s (drop p w),
+        take (e - (p + s)) (drop (p + s) w),
+        text_at_item p x items.0,
+        ap (λ (n : ℕ). take n (drop p w)) sum
+            ∙ take-add s (e - (p + s)) (drop p w) ∙ ap (λ (r : List ℕ). take s (drop p w) ++ take (e - (p + s)) r) (drop-drop s p w),
+        splits_items_at (p + s) e xs items.0.there items.1,
+      )
 
 -- at most one list of items is from one offset to another
 pub type_of-code : (t : TtlvType) → type_of (code t) ≡ Some t
@@ -211,13 +265,14 @@ code_one a b e =
     let kb = type_of-code b in
     cc
 
-pub same_raw : (m n : ℕ) (t u : TtlvType) (c d : List ℕ) → m ≡ n → t ≡ u → c ≡ d → raw_with m t c ≡ raw_with n u d
+same_raw : (m n : ℕ) (t u : TtlvType) (c d : List ℕ) → m ≡ n → t ≡ u → c ≡ d → raw_with m t c ≡ raw_with n u d
 same_raw m n t u c d e f g = cc
 
 pub item_one : (w : List ℕ) (p : ℕ) (x y : Raw) → ItemAt w p x → ItemAt w p y → x ≡ y
-item_one w p x y a b = same_raw x.tag y.tag x.typ y.typ x.content y.content (a.tag ∙ sym b.tag) (code_one x.typ y.typ (a.typ ∙ sym b.typ)) (a.content ∙ sym b.content)
+item_one w p x y a b = same_raw x.tag y.tag x.typ y.typ x.content y.content (a.tag ∙ sym b.tag) (code_one x.typ y.typ (a.typ ∙ sym b.typ)) (a.content
+    ∙ sym b.content)
 
-pub items_one : (w : List ℕ) (p e : ℕ) (xs ys : List Raw) → p ≤ length w → ItemsAt w p e xs → ItemsAt w p e ys → xs ≡ ys
+items_one : (w : List ℕ) (p e : ℕ) (xs ys : List Raw) → p ≤ length w → ItemsAt w p e xs → ItemsAt w p e ys → xs ≡ ys
 items_one w p e [] [] le a b = refl
 items_one w p e [] (y ∷ ys) le a b = absurd (omega (arith, a, (items_in_order w (p + size y.typ (length_at w p)) e ys b.0.there b.1).0))
 items_one w p e (x ∷ xs) [] le a b = absurd (omega (arith, b, (items_in_order w (p + size x.typ (length_at w p)) e xs a.0.there a.1).0))

@@ -1,12 +1,14 @@
 -- A value that was written is read back.
-use Rattle.std.proofs.Common.{◌≡◌, ◌≢◌, ℕ, ◌+◌, ◌^◌, ◌<◌, List, [], ◌∷◌, ◌++◌, Bool, true, false, Option, Some, None, Result, Ok, Err, IfSome, length, take, drop, replicate, sym, ap, ◌∙◌, subst, arith, refl, le_refl, length-append, take_all, append_assoc, inl, inr, Global}
+use Rattle.std.proofs.Common.{◌≡◌, ◌≢◌, ℕ, ◌+◌, ◌^◌, ◌<◌, List, [], ◌∷◌, ◌++◌, Bool, true, false, Option, Some, None, Result, Ok, Err, IfSome, length, take}
+use Rattle.std.proofs.Common.{drop, replicate, sym, ap, ◌∙◌, subst, arith, refl, le_refl, length-append, take_all, append_assoc, inl, inr, Global}
 use Rattle.std.proofs.lemmas.List.{take-append-le, length-replicate}
 use Rattle.std.specs.Prelude.{MatchResult}
 use Rattle.std.specs.Int.{w32, to_be_bytes}
 use Rattle.kmip_ttlv_types.specs.declared.error.Error.{Error}
 use Rattle.kmip_ttlv_types.specs.declared.error.Error.TheVariants as errors
 use Rattle.kmip_ttlv_types.specs.declared.typ.TtlvType.{TtlvType}
-use Rattle.kmip_ttlv_types.specs.declared.typ.TtlvType.TheVariants.{Structure, Integer, LongInteger, BigInteger, Enumeration, Boolean, TextString, ByteString, DateTime, Interval}
+use Rattle.kmip_ttlv_types.specs.declared.typ.TtlvType.TheVariants.{Structure, Integer, LongInteger, BigInteger, Enumeration, Boolean, TextString, ByteString}
+use Rattle.kmip_ttlv_types.specs.declared.typ.TtlvType.TheVariants.{DateTime, Interval}
 use Rattle.kmip_ttlv_types.specs.ItemTypes.{pad_len, fixed_length}
 use Rattle.kmip_ttlv_types.specs.Leaves.{is_valid}
 use Rattle.kmip_ttlv_types.specs.Laws.{FailsToRead, IsReadBack, ReadsWholeLeaves}
@@ -14,7 +16,7 @@ use Rattle.kmip_ttlv_types.specs.Primitives.{content_of, length_and_content, Can
 use Rattle.kmip_ttlv_types.proofs.LeafReading.{stated, length-valid}
 
 -- the content that is written is valid
-pub content-valid : (typ : TtlvType) (bytes : List ℕ) → is_valid typ bytes ≡ true → is_valid typ (content_of typ bytes) ≡ true
+content-valid : (typ : TtlvType) (bytes : List ℕ) → is_valid typ bytes ≡ true → is_valid typ (content_of typ bytes) ≡ true
 content-valid Structure bytes h = h
 content-valid Integer bytes h = h
 content-valid LongInteger bytes h = h
@@ -67,8 +69,10 @@ module _ {T : Type 0} (typ : TtlvType) (bytes_of : T → List ℕ) (tm : Bool) (
       sym (stated (length (bytes_of w)) ((bytes_of w ++ leaf.pad) ++ ys) leaf.fits) ∙ ap stated_length (sym leaf.consumes) ∙ n_is content zeros rest low in
       let parts : content ++ (zeros ++ rest) ≡ bytes_of w ++ (leaf.pad ++ ys) =
       sym (append_assoc content zeros rest) ∙ ap (drop 4) leaf.consumes ∙ append_assoc (bytes_of w) leaf.pad ys in
-      let pads : zeros ++ rest ≡ leaf.pad ++ ys = same_rest content (bytes_of w) _ _ (sym same_length) parts in
-      (sym (same_front content (bytes_of w) _ _ (sym same_length) parts), sym (same_rest zeros leaf.pad rest ys (padded ∙ ap pad_len (sym same_length) ∙ sym leaf.pad_length) pads))
+      let pads : zeros ++ rest ≡ leaf.pad ++ ys = same_rest content (bytes_of w) _ _ (sym same_length) parts in (
+        sym (same_front content (bytes_of w) _ _ (sym same_length) parts),
+        sym (same_rest zeros leaf.pad rest ys (padded ∙ ap pad_len (sym same_length) ∙ sym leaf.pad_length) pads),
+      )
 
   all_there : length there ≡ 4 + length content + pad_len (length content) + length rest
   all_there = omega (arith, padded, length-append content zeros, length-append (content ++ zeros) rest)
@@ -77,7 +81,8 @@ module _ {T : Type 0} (typ : TtlvType) (bytes_of : T → List ℕ) (tm : Bool) (
   not_cut (inl short) = omega (arith, short, all_there)
   not_cut (inr (can, inl short)) = omega (arith, short, all_there, n_is content zeros rest low)
   not_cut (inr (can, inr (good, short))) =
-      let low_by : length there < 4 + length content + pad_len (length content) = subst (λ n. length there < 4 + n + pad_len n) (n_is content zeros rest low) short in
+      let low_by : length there < 4 + length content + pad_len (length content) =
+      subst (λ n. length there < 4 + n + pad_len n) (n_is content zeros rest low) short in
       omega (arith, low_by, all_there)
 
   pub outcome : (cf : Bool) (new : Option (List ℕ)) (result : Result T (Error Global)) → ReadsLeaf typ bytes_of tm cf (Some there) new result
@@ -88,7 +93,8 @@ module _ {T : Type 0} (typ : TtlvType) (bytes_of : T → List ℕ) (tm : Bool) (
   outcome cf new (Err (errors.InvalidTtlvValueLength expected actual t)) (same, (long, is, fixed, differs), within) =
       absurd (wrong_length typ (length content) expected actual (length-valid typ content valid) (sym (n_is content zeros rest low) ∙ is) fixed differs)
   outcome cf new (Err (errors.InvalidTtlvValue t)) (same, (can, enough, invalid), within) =
-      let bad : is_valid typ content ≡ false = ap (is_valid typ) (sym (content_is content zeros rest low)) ∙ invalid in absurd (true_not_false (sym valid ∙ bad))
+      let bad : is_valid typ content ≡ false = ap (is_valid typ) (sym (content_is content zeros rest low)) ∙ invalid in
+      absurd (true_not_false (sym valid ∙ bad))
   outcome cf new (Err (errors.IoError e)) (inl fails, within) = fails
   outcome cf new (Err (errors.IoError e)) (inr (eof, cut), within) = absurd (not_cut cut)
   outcome cf new (Err errors.OutOfMemory) (takes, some, within) = (takes, omega (arith, some.1, n_is content zeros rest low))
@@ -105,7 +111,8 @@ unfolding length_and_content
 read_back typ bytes_of tm v valid low cf rest new result =
     let content : List ℕ = content_of typ (bytes_of v) in
     let zero : ℕ = 0 in
-    outcome typ bytes_of tm content (replicate (pad_len (length content)) zero) rest low (length-replicate (pad_len (length content)) zero) (content-valid typ (bytes_of v) valid) cf new result
+    outcome typ bytes_of tm content (replicate (pad_len (length content)) zero) rest low (length-replicate (pad_len (length content)) zero)
+    (content-valid typ (bytes_of v) valid) cf new result
 
 -- each whole leaf is read
 pub whole_leaves : {T : Type 0} (typ : TtlvType) (bytes_of : T → List ℕ) (tm : Bool) → ReadsWholeLeaves typ bytes_of tm

@@ -1,5 +1,6 @@
 -- What several reads or writes in a row do to known bytes.
-use Rattle.std.proofs.Common.{◌≡◌, ℕ, ◌+◌, ◌-◌, ◌<◌, ◌≤◌, List, ◌++◌, Option, None, Some, Result, Ok, Err, IfOk, length, take, drop, sym, ap, ◌∙◌, subst, arith, take-add, take_all, length-append, length-drop, append-nil, drop_at, refl, le_refl, Bool, inl, inr, take-append-drop}
+use Rattle.std.proofs.Common.{◌≡◌, ℕ, ◌+◌, ◌-◌, ◌<◌, ◌≤◌, List, ◌++◌, Option, None, Some, Result, Ok, Err, IfOk, length, take, drop, sym, ap, ◌∙◌, subst, arith}
+use Rattle.std.proofs.Common.{take-add, take_all, length-append, length-drop, append-nil, drop_at, refl, le_refl, Bool, inl, inr, take-append-drop}
 use Rattle.std.proofs.lemmas.List.{take-append-le, take-take}
 use Rattle.std.specs.Io.{ReadsAtMost}
 use Rattle.std.specs.Io.KnownBytes.{Appends, Consumes, IsAtEnd}
@@ -10,7 +11,8 @@ use Rattle.kmip_ttlv_types.specs.Streams.{IsShort, AppendsFront, ConsumesUpTo, L
 
 take-append_more : (xs ys : List ℕ) (n : ℕ) → take (length xs + n) (xs ++ ys) ≡ xs ++ take n ys
 take-append_more xs ys n =
-    take-add (length xs) n (xs ++ ys) ∙ ap (λ l. l ++ take n (drop (length xs) (xs ++ ys))) (take-append-le (length xs) xs ys (le_refl _) ∙ take_all (length xs) xs (le_refl _))
+    take-add (length xs) n (xs ++ ys) ∙ ap (λ l. l ++ take n (drop (length xs) (xs ++ ys))) (take-append-le (length xs) xs ys (le_refl _)
+    ∙ take_all (length xs) xs (le_refl _))
     ∙ ap (λ l. xs ++ take n l) (drop_at xs ys (length xs) refl)
 
 -- a list was filled up to f, and then by n more
@@ -57,7 +59,7 @@ AppendsFront-second a b c xs ys first front = record {
 }
 
 -- after other bytes were consumed, too few followed
-pub IsShort-after : (a b : Option (List ℕ)) (bs : List ℕ) (m n : ℕ) → Consumes a b bs → IsShort b m → length bs + m ≤ n → IsShort a n
+IsShort-after : (a b : Option (List ℕ)) (bs : List ℕ) (m n : ℕ) → Consumes a b bs → IsShort b m → length bs + m ≤ n → IsShort a n
 IsShort-after None b bs m n taken short low = tt
 IsShort-after (Some x) None bs m n taken short low = absurd taken
 IsShort-after (Some x) (Some y) bs m n taken short low = omega (arith, ap (λ (l : List ℕ). length l) taken, length-append bs y, short)
@@ -94,12 +96,12 @@ TakesMore-after T can_fail a b c xs ys zs m n k errors.InvalidStateMachineOperat
 TakesMore-after T can_fail a b c xs ys zs m n k errors.LengthOverflow first h low = absurd h
 
 -- the bytes that were there stay in front
-pub Behind-front : (a b : Option (List ℕ)) (xs ys : List ℕ) (m : ℕ) → Behind a b xs ys m → take (length xs) ys ≡ xs
+Behind-front : (a b : Option (List ℕ)) (xs ys : List ℕ) (m : ℕ) → Behind a b xs ys m → take (length xs) ys ≡ xs
 Behind-front a b xs ys m more = ap (take (length xs)) more.parts ∙ take-append-le (length xs) xs more.came (le_refl _) ∙ take_all (length xs) xs (le_refl _)
 
 -- and so they do if more is appended
-pub Behind-kept : (a b : Option (List ℕ)) (xs ys zs : List ℕ) (m : ℕ) → Behind a b xs ys m → take (length ys) zs ≡ ys → take (length xs) zs ≡ xs
-Behind-kept a b xs ys zs m more kept =
+pub Behind-stays : (a b : Option (List ℕ)) (xs ys zs : List ℕ) (m : ℕ) → Behind a b xs ys m → take (length ys) zs ≡ ys → take (length xs) zs ≡ xs
+Behind-stays a b xs ys zs m more kept =
     let short : length xs ≤ length ys = omega (arith, ap (λ (l : List ℕ). length l) more.parts, length-append xs more.came) in
     sym (take-take (length xs) (length ys) zs short) ∙ ap (take (length xs)) kept ∙ Behind-front a b xs ys m more
 

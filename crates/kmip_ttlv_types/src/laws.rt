@@ -79,42 +79,42 @@ pub fn equal_tags_hash_alike(a: TtlvTag, b: TtlvTag)
 {}
 
 /// Two values with the same bytes are the same.
-pub fn an_integer_is_told_by_its_bytes(a: TtlvInteger, b: TtlvInteger)
+pub fn an_integer_is_known_by_its_bytes(a: TtlvInteger, b: TtlvInteger)
     ensures { ⟦<TtlvInteger as SerializableTtlvType>⟧.value_bytes a
         ≡ ⟦<TtlvInteger as SerializableTtlvType>⟧.value_bytes b
         → a ≡ b }
 {}
 
 /// Two values with the same bytes are the same.
-pub fn a_long_integer_is_told_by_its_bytes(a: TtlvLongInteger, b: TtlvLongInteger)
+pub fn a_long_integer_is_known_by_its_bytes(a: TtlvLongInteger, b: TtlvLongInteger)
     ensures { ⟦<TtlvLongInteger as SerializableTtlvType>⟧.value_bytes a
         ≡ ⟦<TtlvLongInteger as SerializableTtlvType>⟧.value_bytes b
         → a ≡ b }
 {}
 
 /// Two values with the same bytes are the same.
-pub fn an_enumeration_is_told_by_its_bytes(a: TtlvEnumeration, b: TtlvEnumeration)
+pub fn an_enumeration_is_known_by_its_bytes(a: TtlvEnumeration, b: TtlvEnumeration)
     ensures { ⟦<TtlvEnumeration as SerializableTtlvType>⟧.value_bytes a
         ≡ ⟦<TtlvEnumeration as SerializableTtlvType>⟧.value_bytes b
         → a ≡ b }
 {}
 
 /// Two values with the same bytes are the same.
-pub fn a_boolean_is_told_by_its_bytes(a: TtlvBoolean, b: TtlvBoolean)
+pub fn a_boolean_is_known_by_its_bytes(a: TtlvBoolean, b: TtlvBoolean)
     ensures { ⟦<TtlvBoolean as SerializableTtlvType>⟧.value_bytes a
         ≡ ⟦<TtlvBoolean as SerializableTtlvType>⟧.value_bytes b
         → a ≡ b }
 {}
 
 /// Two values with the same bytes are the same.
-pub fn a_date_time_is_told_by_its_bytes(a: TtlvDateTime, b: TtlvDateTime)
+pub fn a_date_time_is_known_by_its_bytes(a: TtlvDateTime, b: TtlvDateTime)
     ensures { ⟦<TtlvDateTime as SerializableTtlvType>⟧.value_bytes a
         ≡ ⟦<TtlvDateTime as SerializableTtlvType>⟧.value_bytes b
         → a ≡ b }
 {}
 
 /// Two values with the same bytes are the same.
-pub fn an_interval_is_told_by_its_bytes(a: TtlvInterval, b: TtlvInterval)
+pub fn an_interval_is_known_by_its_bytes(a: TtlvInterval, b: TtlvInterval)
     ensures { ⟦<TtlvInterval as SerializableTtlvType>⟧.value_bytes a
         ≡ ⟦<TtlvInterval as SerializableTtlvType>⟧.value_bytes b
         → a ≡ b }

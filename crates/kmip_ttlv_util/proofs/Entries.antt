@@ -1,10 +1,12 @@
 -- Entries at offsets.
-use Rattle.std.proofs.Common.{Bor, ◌≡◌, ◌≢◌, ℕ, ◌+◌, ◌<◌, ◌≤◌, Bool, true, false, ◌&&◌, cond, eqb, leb, List, length, take, drop, get_or, Option, Some, None, refl, sym, ap, subst, ◌∙◌, arith, add-zero}
+use Rattle.std.proofs.Common.{Bor, ◌≡◌, ◌≢◌, ℕ, ◌+◌, ◌<◌, ◌≤◌, Bool, true, false, ◌&&◌, cond, eqb, leb, List, length, take, drop, get_or, Option, Some, None}
+use Rattle.std.proofs.Common.{refl, sym, ap, subst, ◌∙◌, arith, add-zero}
 use Rattle.std.specs.Int.{w32, from_be_bytes}
 use Rattle.std.proofs.lemmas.List.{get_or-take, get_or-drop, length-take-le, length-drop}
 use Rattle.std.proofs.lemmas.Bool.{le-leb, lt-leb}
 use Rattle.kmip_ttlv_types.specs.declared.typ.TtlvType.{TtlvType}
-use Rattle.kmip_ttlv_types.specs.declared.typ.TtlvType.TheVariants.{Structure, Integer, LongInteger, BigInteger, Enumeration, Boolean, TextString, ByteString, DateTime, Interval}
+use Rattle.kmip_ttlv_types.specs.declared.typ.TtlvType.TheVariants.{Structure, Integer, LongInteger, BigInteger, Enumeration, Boolean, TextString, ByteString}
+use Rattle.kmip_ttlv_types.specs.declared.typ.TtlvType.TheVariants.{DateTime, Interval}
 use Rattle.kmip_ttlv_types.specs.Leaves.{is_valid}
 use Rattle.kmip_ttlv_types.specs.Places.{tag_at, code_at, length_at, size}
 use Rattle.kmip_ttlv_types.specs.ItemTypes.{type_of}
@@ -70,21 +72,22 @@ fine_is DateTime n content ne len = ap (λ (m : ℕ). eqb m 8) (sym len)
 fine_is Interval n content ne len = ap (λ (m : ℕ). eqb m 4) (sym len)
 
 -- a value is kept only of an enumeration
-pub kept_none : (t : TtlvType) (d : Detail) → t ≢ Enumeration → detail_value t d ≡ None
-kept_none Structure d ne = refl
-kept_none Integer d ne = refl
-kept_none LongInteger d ne = refl
-kept_none BigInteger d ne = refl
-kept_none Enumeration d ne = absurd (ne refl)
-kept_none Boolean d ne = refl
-kept_none TextString d ne = refl
-kept_none ByteString d ne = refl
-kept_none DateTime d ne = refl
-kept_none Interval d ne = refl
+shown_none : (t : TtlvType) (d : Detail) → t ≢ Enumeration → detail_value t d ≡ None
+shown_none Structure d ne = refl
+shown_none Integer d ne = refl
+shown_none LongInteger d ne = refl
+shown_none BigInteger d ne = refl
+shown_none Enumeration d ne = absurd (ne refl)
+shown_none Boolean d ne = refl
+shown_none TextString d ne = refl
+shown_none ByteString d ne = refl
+shown_none DateTime d ne = refl
+shown_none Interval d ne = refl
 
 -- a valid enumeration's value is kept
-pub kept_enumeration : (content : List ℕ) → is_valid Enumeration content ≡ true → detail_value Enumeration (detail_of Enumeration content) ≡ Some (from_be_bytes w32 content)
-kept_enumeration content valid = rw valid refl
+pub shown_enumeration : (content : List ℕ) → is_valid Enumeration content ≡ true → detail_value Enumeration (detail_of Enumeration content) ≡ Some
+    (from_be_bytes w32 content)
+shown_enumeration content valid = rw valid refl
 
 -- a type is read if its bytes are there and its content is valid
 test_true : (a b : ℕ) (c : Bool) (t : TtlvType) → a ≤ b → c ≡ true → cond (leb a b && c) (Some t) None ≡ Some t
@@ -115,50 +118,58 @@ module _ (w : List ℕ) (p : ℕ) where
     where
       by : (o : Option TtlvType) → type_of (code_at w p) ≡ o → type_read (length w) p (entry_at w p) ≡ None
       by None e = read_at None e
-      by (Some t) e = read_at (Some t) e ∙ test_order (p + extent t (length_at (entry_at w p).header 0)) (length w) _ t (omega (arith, extent_least t (length_at (entry_at w p).header 0)))
+      by (Some t) e = read_at (Some t) e ∙ test_order (p + extent t (length_at (entry_at w p).header 0)) (length w) _ t
+          (omega (arith, extent_least t (length_at (entry_at w p).header 0)))
 
   -- nor one whose content isn't all there
-  pub read_missing : (t : TtlvType) (n : ℕ) → type_of (code_at w p) ≡ Some t → t ≢ Structure → n ≡ length_at w p → length w < p + size t n → type_read (length w) p (entry_at w p) ≡ None
+  pub read_missing : (t : TtlvType) (n : ℕ) → type_of (code_at w p) ≡ Some t → t ≢ Structure → n ≡ length_at w p → length w < p + size t n
+      → type_read (length w) p (entry_at w p) ≡ None
   read_missing t n code-is ne len lt =
       let same : extent t (length_at (entry_at w p).header 0) ≡ size t n = ap (extent t) (entry_length w p ∙ sym len) ∙ extent_leaf t n ne in
       read_at (Some t) code-is ∙ test_order (p + extent t (length_at (entry_at w p).header 0)) (length w) _ t (omega arith)
 
   -- what is kept of content that is there
-  pub detail_here : (t : TtlvType) (n : ℕ) → type_of (code_at w p) ≡ Some t → n ≡ length_at w p → p + size t n ≤ length w → (entry_at w p).detail ≡ detail_of t (take n (drop (p + 8) w))
+  pub detail_here : (t : TtlvType) (n : ℕ) → type_of (code_at w p) ≡ Some t → n ≡ length_at w p → p + size t n ≤ length w
+      → (entry_at w p).detail ≡ detail_of t (take n (drop (p + 8) w))
   unfolding entry_at
   detail_here t n code-is len le =
       let here : p + size t (length_at w p) ≤ length w = subst (λ (m : ℕ). p + size t m ≤ length w) len le in
       ap (detail_at w p) code-is ∙ rw (le-leb (p + size t (length_at w p)) (length w) here) (ap (λ (m : ℕ). detail_of t (take m (drop (p + 8) w))) (sym len))
 
   -- what is kept shows whether that content is valid
-  fine_here : (t : TtlvType) (n : ℕ) → type_of (code_at w p) ≡ Some t → t ≢ Structure → n ≡ length_at w p → p + size t n ≤ length w → is_fine t (length_at (entry_at w p).header 0) (entry_at w p).detail ≡ is_valid t (take n (drop (p + 8) w))
+  fine_here : (t : TtlvType) (n : ℕ) → type_of (code_at w p) ≡ Some t → t ≢ Structure → n ≡ length_at w p → p + size t n ≤ length w
+      → is_fine t (length_at (entry_at w p).header 0) (entry_at w p).detail ≡ is_valid t (take n (drop (p + 8) w))
   fine_here t n code-is ne len le =
       let long : n ≤ length (drop (p + 8) w) = omega (arith, length-drop (p + 8) w) in
       ap (is_fine t (length_at (entry_at w p).header 0)) (detail_here t n code-is len le)
       ∙ fine_is t (length_at (entry_at w p).header 0) (take n (drop (p + 8) w)) ne (length-take-le n (drop (p + 8) w) long ∙ len ∙ sym (entry_length w p))
 
   -- an entry with invalid content is not read
-  pub read_invalid : (t : TtlvType) (n : ℕ) → type_of (code_at w p) ≡ Some t → t ≢ Structure → n ≡ length_at w p → p + size t n ≤ length w → is_valid t (take n (drop (p + 8) w)) ≡ false → type_read (length w) p (entry_at w p) ≡ None
+  pub read_invalid : (t : TtlvType) (n : ℕ) → type_of (code_at w p) ≡ Some t → t ≢ Structure → n ≡ length_at w p → p + size t n ≤ length w
+      → is_valid t (take n (drop (p + 8) w)) ≡ false → type_read (length w) p (entry_at w p) ≡ None
   read_invalid t n code-is ne len le bad =
       read_at (Some t) code-is ∙ test_false _ _ t (fine_here t n code-is ne len le ∙ bad)
 
   -- a leaf with valid content that is all there is read
-  pub read_leaf : (t : TtlvType) (n : ℕ) → type_of (code_at w p) ≡ Some t → t ≢ Structure → n ≡ length_at w p → p + size t n ≤ length w → is_valid t (take n (drop (p + 8) w)) ≡ true → type_read (length w) p (entry_at w p) ≡ Some t
+  pub read_leaf : (t : TtlvType) (n : ℕ) → type_of (code_at w p) ≡ Some t → t ≢ Structure → n ≡ length_at w p → p + size t n ≤ length w
+      → is_valid t (take n (drop (p + 8) w)) ≡ true → type_read (length w) p (entry_at w p) ≡ Some t
   read_leaf t n code-is ne len le good =
       let same : extent t (length_at (entry_at w p).header 0) ≡ size t n = ap (extent t) (entry_length w p ∙ sym len) ∙ extent_leaf t n ne in
-      read_at (Some t) code-is ∙ test_true (p + extent t (length_at (entry_at w p).header 0)) (length w) _ t (omega arith) (fine_here t n code-is ne len le ∙ good)
+      read_at (Some t) code-is ∙ test_true (p + extent t (length_at (entry_at w p).header 0)) (length w) _ t (omega arith)
+      (fine_here t n code-is ne len le ∙ good)
 
   -- a structure is read if its header is there
   pub read_structure : type_of (code_at w p) ≡ Some Structure → p + 8 ≤ length w → type_read (length w) p (entry_at w p) ≡ Some Structure
   read_structure code-is le = read_at (Some Structure) code-is ∙ test_true (p + 8) (length w) true Structure le refl
 
   -- the item of a structure
-  pub item_structure : (tag n : ℕ) (t : TtlvType) (b : Bor (List ℕ)) → t ≡ Structure → type_of (code_at w p) ≡ Some t → p + 8 ≤ length w → tag ≡ tag_at w p → n ≡ length_at w p → IsItem w p record { tag = tag; typ = t; length = n; value = None; content = b; next = p + 8 }
+  pub item_structure : (tag n : ℕ) (t : TtlvType) (b : Bor (List ℕ)) → t ≡ Structure → type_of (code_at w p) ≡ Some t → p + 8 ≤ length w → tag ≡ tag_at w p
+      → n ≡ length_at w p → IsItem w p record { tag = tag; typ = t; length = n; value = None; content = b; next = p + 8 }
   item_structure tag n t b is code-is le tag-is len = record {
     typ = read_structure (code-is ∙ ap Some is) le ∙ ap Some (sym is);
     tag = tag-is ∙ sym (entry_tag w p);
     len = len ∙ sym (entry_length w p);
-    value = sym (kept_none t (entry_at w p).detail (λ h. let k : Structure ≡ Enumeration = sym is ∙ h in cc));
+    value = sym (shown_none t (entry_at w p).detail (λ h. let k : Structure ≡ Enumeration = sym is ∙ h in cc));
     next = ap (λ (u : TtlvType). p + extent u n) (sym is);
     within = le;
     content = λ ne. absurd (ne is);
@@ -166,7 +177,9 @@ module _ (w : List ℕ) (p : ℕ) where
   }
 
   -- the item of a leaf, with the value of an enumeration
-  pub item_leaf : (tag n next : ℕ) (t : TtlvType) (b : Bor (List ℕ)) (v : Option ℕ) → type_of (code_at w p) ≡ Some t → t ≢ Structure → tag ≡ tag_at w p → n ≡ length_at w p → b.now ≡ take n (drop (p + 8) w) → next ≡ p + size t n → next ≤ length w → is_valid t b.now ≡ true → v ≡ detail_value t (detail_of t b.now) → IsItem w p record { tag = tag; typ = t; length = n; value = v; content = b; next = next }
+  pub item_leaf : (tag n next : ℕ) (t : TtlvType) (b : Bor (List ℕ)) (v : Option ℕ) → type_of (code_at w p) ≡ Some t → t ≢ Structure → tag ≡ tag_at w p
+      → n ≡ length_at w p → b.now ≡ take n (drop (p + 8) w) → next ≡ p + size t n → next ≤ length w → is_valid t b.now ≡ true
+      → v ≡ detail_value t (detail_of t b.now) → IsItem w p record { tag = tag; typ = t; length = n; value = v; content = b; next = next }
   item_leaf tag n next t b v code-is ne tag-is len content-is next-is within good detail_value-is =
       let le : p + size t n ≤ length w = omega arith in
       record {

@@ -1,5 +1,6 @@
 -- Beginnings of texts.
-use Rattle.std.proofs.Common.{◌≡◌, ℕ, zero, suc, ◌+◌, ◌-◌, ◌*◌, ◌<◌, ◌≤◌, Bool, true, false, cond, ltb, leb, List, [], ◌∷◌, ◌++◌, length, take, drop, get_or, Some, None, refl, sym, ap, subst, ◌∙◌, arith}
+use Rattle.std.proofs.Common.{◌≡◌, ℕ, zero, suc, ◌+◌, ◌-◌, ◌*◌, ◌<◌, ◌≤◌, Bool, true, false, cond, ltb, leb, List, [], ◌∷◌, ◌++◌, length, take, drop, get_or}
+use Rattle.std.proofs.Common.{Some, None, refl, sym, ap, subst, ◌∙◌, arith}
 use Rattle.std.proofs.Common.{◌⊎◌, inl, inr}
 use Rattle.std.specs.List.{prefix_len}
 use Rattle.std.specs.Str.{IsUtf8, IsAscii, IsCharBoundary}
@@ -18,10 +19,16 @@ hex_ascii d h = by (cases_lt d 128)
   where
     by : (d < 128) ⊎ (128 ≤ d) → d < 128
     by (inl lt) = lt
-    by (inr le) = let k : is_hex d ≡ false = rw (lt-leb d 57 (omega arith), lt-leb d 70 (omega arith), and_right (leb 48 d) false refl, and_right (leb 65 d) false refl) refl in absurd cc
+    by (inr le) = let k : is_hex d ≡ false = rw (
+      lt-leb d 57 (omega arith),
+      lt-leb d 70 (omega arith),
+      and_right (leb 48 d) false refl,
+      and_right (leb 65 d) false refl,
+    ) refl in absurd cc
 
 -- one more leading digit
-ascii_step : (d : ℕ) (s : List ℕ) (n : ℕ) (b : Bool) → is_hex d ≡ b → ((i : ℕ) → get_or (take n s) i 0 < 128) → (i : ℕ) → get_or (take (cond b (1 + n) 0) (d ∷ s)) i 0 < 128
+ascii_step : (d : ℕ) (s : List ℕ) (n : ℕ) (b : Bool) → is_hex d ≡ b → ((i : ℕ) → get_or (take n s) i 0 < 128) → (i : ℕ)
+    → get_or (take (cond b (1 + n) 0) (d ∷ s)) i 0 < 128
 ascii_step d s n false h more i = omega arith
 ascii_step d s n true h more zero = let e : 1 + n ≡ suc n = omega arith in rw e (hex_ascii d h)
 ascii_step d s n true h more (suc i) = let e : 1 + n ≡ suc n = omega arith in rw e (more i)
@@ -43,7 +50,8 @@ front_within q (d ∷ s) = within_step (prefix_len q s) (length s) (q d) (front_
 
 -- a text can be cut after its leading digits
 pub hex_boundary : (s : List ℕ) (n : ℕ) → IsUtf8 s → n ≡ prefix_len is_hex s → IsCharBoundary s n
-hex_boundary s n utf8 is = subst (λ (m : ℕ). IsCharBoundary s m) (sym is) (IsCharBoundary-from_take s (prefix_len is_hex s) utf8 (front_within is_hex s) (IsUtf8-from_ascii (take (prefix_len is_hex s) s) (front_ascii s)))
+hex_boundary s n utf8 is = subst (λ (m : ℕ). IsCharBoundary s m) (sym is) (IsCharBoundary-from_take s (prefix_len is_hex s) utf8 (front_within is_hex s)
+    (IsUtf8-from_ascii (take (prefix_len is_hex s) s) (front_ascii s)))
 
 -- a type's letter is ASCII
 letter_ascii : (c : ℕ) (t : TtlvType) → type_of_letter c ≡ Some t → c < 128
@@ -52,7 +60,18 @@ letter_ascii c t h = by (cases_lt c 128)
     by : (c < 128) ⊎ (128 ≤ c) → c < 128
     by (inl lt) = lt
     by (inr le) =
-        let k : type_of_letter c ≡ None = rw (ne_eqb c 91 (omega arith), ne_eqb c 105 (omega arith), ne_eqb c 108 (omega arith), ne_eqb c 73 (omega arith), ne_eqb c 101 (omega arith), ne_eqb c 98 (omega arith), ne_eqb c 116 (omega arith), ne_eqb c 111 (omega arith), ne_eqb c 100 (omega arith), ne_eqb c 110 (omega arith)) refl in
+        let k : type_of_letter c ≡ None = rw (
+          ne_eqb c 91 (omega arith),
+          ne_eqb c 105 (omega arith),
+          ne_eqb c 108 (omega arith),
+          ne_eqb c 73 (omega arith),
+          ne_eqb c 101 (omega arith),
+          ne_eqb c 98 (omega arith),
+          ne_eqb c 116 (omega arith),
+          ne_eqb c 111 (omega arith),
+          ne_eqb c 100 (omega arith),
+          ne_eqb c 110 (omega arith),
+        ) refl in
         absurd cc
 
 -- a text can be cut after a letter
@@ -90,7 +109,8 @@ indent_parts (suc d) (suc n) lt =
 front_levels : (d n : ℕ) → d ≤ n → take (2 * d) (indent n) ≡ indent d
 front_levels zero n le = refl
 front_levels (suc d) zero le = absurd (omega arith)
-front_levels (suc d) (suc n) le = let e : 2 * suc d ≡ suc (suc (2 * d)) = omega arith in rw e (ap (λ (s : List ℕ). 32 ∷ 32 ∷ s) (front_levels d n (omega arith)))
+front_levels (suc d) (suc n) le = let e : 2 * suc d ≡ suc (suc (2 * d)) = omega arith in
+    rw e (ap (λ (s : List ℕ). 32 ∷ 32 ∷ s) (front_levels d n (omega arith)))
 
 -- so up to sixteen levels are the beginning of the table of spaces
 pub spaces_front : (d : ℕ) → d ≤ 16 → take (2 * d) SPACES ≡ indent d

@@ -1,5 +1,7 @@
 -- The last hexadecimal digits of a number, and all of them.
-use Rattle.std.proofs.Common.{◌≡◌, ℕ, zero, suc, ◌+◌, ◌-◌, ◌*◌, ◌/◌, ◌%◌, ◌^◌, ◌<◌, ◌≤◌, Bool, true, false, ◌&&◌, T, eqb, eqb→eq, cond, ltb, List, [], ◌∷◌, ◌++◌, length, take, drop, get_or, refl, sym, ap, ◌∙◌, arith, append_assoc, append-nil, length-append, length-drop, take_all, inl, inr}
+use Rattle.std.proofs.Common.{◌≡◌, ℕ, zero, suc, ◌+◌, ◌-◌, ◌*◌, ◌/◌, ◌%◌, ◌^◌, ◌<◌, ◌≤◌, Bool, true, false, ◌&&◌, T, eqb, eqb→eq, cond, ltb, List, [], ◌∷◌}
+use Rattle.std.proofs.Common.{◌++◌, length, take, drop, get_or, refl, sym, ap, ◌∙◌, arith, append_assoc, append-nil, length-append, length-drop, take_all, inl}
+use Rattle.std.proofs.Common.{inr}
 use Rattle.std.specs.Prelude.{replicate}
 use Rattle.std.specs.Fmt.{digit_glyph, digits, digits_onto}
 use Rattle.std.specs.Str.{IsAscii}
@@ -31,7 +33,7 @@ below (suc n) b t h =
     ]
 
 -- so the two digits of a byte are in it
-pub PAIRS_at : (b : ℕ) → b < 256 → (get_or PAIRS (b * 2) 0 ≡ digit_glyph true (b / 16)) × (get_or PAIRS (b * 2 + 1) 0 ≡ digit_glyph true (b % 16))
+PAIRS_at : (b : ℕ) → b < 256 → (get_or PAIRS (b * 2) 0 ≡ digit_glyph true (b / 16)) × (get_or PAIRS (b * 2 + 1) 0 ≡ digit_glyph true (b % 16))
 PAIRS_at b h = below 256 b tt h
 
 -- as a list
@@ -39,7 +41,8 @@ pub pairs_two : (b : ℕ) → b < 256 → get_or PAIRS (b * 2) 0 ∷ get_or PAIR
 pairs_two b small = let p = PAIRS_at b small in rw (p.0, p.1) refl
 
 -- a list of eight numbers
-eight_same : (a b c d e f g h i j k l m n o p : ℕ) → a ≡ i → b ≡ j → c ≡ k → d ≡ l → e ≡ m → f ≡ n → g ≡ o → h ≡ p → a ∷ b ∷ c ∷ d ∷ e ∷ f ∷ g ∷ h ∷ [] ≡ i ∷ j ∷ k ∷ l ∷ m ∷ n ∷ o ∷ p ∷ []
+eight_same : (a b c d e f g h i j k l m n o p : ℕ) → a ≡ i → b ≡ j → c ≡ k → d ≡ l → e ≡ m → f ≡ n → g ≡ o → h ≡ p
+    → a ∷ b ∷ c ∷ d ∷ e ∷ f ∷ g ∷ h ∷ [] ≡ i ∷ j ∷ k ∷ l ∷ m ∷ n ∷ o ∷ p ∷ []
 eight_same a b c d e f g h i j k l m n o p p1 p2 p3 p4 p5 p6 p7 p8 = cc
 
 digit_at : (x m n : ℕ) → x ≡ digit_glyph true m → m ≡ n → x ≡ digit_glyph true n
@@ -47,8 +50,10 @@ digit_at x m n e h = e ∙ ap (digit_glyph true) h
 
 -- the digits of four bytes are those of their number
 pub pairs_eight : (n : ℕ) → n < 2 ^ 32
-    → get_or PAIRS (n / 16777216 * 2) 0 ∷ get_or PAIRS (n / 16777216 * 2 + 1) 0 ∷ get_or PAIRS (n / 65536 % 256 * 2) 0 ∷ get_or PAIRS (n / 65536 % 256 * 2 + 1) 0
-    ∷ get_or PAIRS (n / 256 % 256 * 2) 0 ∷ get_or PAIRS (n / 256 % 256 * 2 + 1) 0 ∷ get_or PAIRS (n % 256 * 2) 0 ∷ get_or PAIRS (n % 256 * 2 + 1) 0 ∷ [] ≡ last_digits 8 n
+    → get_or PAIRS (n / 16777216 * 2) 0 ∷ get_or PAIRS (n / 16777216 * 2 + 1) 0 ∷ get_or PAIRS (n / 65536 % 256 * 2) 0 ∷ get_or PAIRS
+    (n / 65536 % 256 * 2 + 1) 0
+    ∷ get_or PAIRS (n / 256 % 256 * 2) 0 ∷ get_or PAIRS (n / 256 % 256 * 2 + 1) 0 ∷ get_or PAIRS (n % 256 * 2) 0 ∷ get_or PAIRS (n % 256 * 2 + 1) 0 ∷ []
+    ≡ last_digits 8 n
 unfolding last_digits
 pairs_eight n small =
     let a = PAIRS_at (n / 16777216) (omega arith) in
@@ -87,7 +92,8 @@ pub last_drop : (w m n : ℕ) → m ≤ w → drop (w - m) (last_digits w n) ≡
 unfolding last_digits
 last_drop zero zero n le = refl
 last_drop (suc w) zero n le =
-    let all : length (last_digits w (n / 16) ++ (digit_glyph true (n % 16) ∷ [])) ≤ suc w - 0 = omega (arith, last_length w (n / 16), length-append (last_digits w (n / 16)) (digit_glyph true (n % 16) ∷ [])) in
+    let all : length (last_digits w (n / 16) ++ (digit_glyph true (n % 16) ∷ [])) ≤ suc w - 0 =
+    omega (arith, last_length w (n / 16), length-append (last_digits w (n / 16)) (digit_glyph true (n % 16) ∷ [])) in
     none_left (suc w - 0) _ all
   where
     none_left : (i : ℕ) (xs : List ℕ) → length xs ≤ i → drop i xs ≡ []
@@ -98,7 +104,8 @@ last_drop (suc w) zero n le =
 last_drop zero (suc m) n le = absurd (omega arith)
 last_drop (suc w) (suc m) n le =
     let e : suc w - suc m ≡ w - m = omega arith in
-    rw (e, drop-append-le (w - m) (last_digits w (n / 16)) (digit_glyph true (n % 16) ∷ []) (omega (arith, last_length w (n / 16)))) (ap (λ (s : List ℕ). s ++ (digit_glyph true (n % 16) ∷ [])) (last_drop w m (n / 16) (omega arith)))
+    rw (e, drop-append-le (w - m) (last_digits w (n / 16)) (digit_glyph true (n % 16) ∷ []) (omega (arith, last_length w (n / 16))))
+    (ap (λ (s : List ℕ). s ++ (digit_glyph true (n % 16) ∷ [])) (last_drop w m (n / 16) (omega arith)))
 
 -- so the end of the eight digits
 pub end_of : (start size n : ℕ) (eight : List ℕ) → start + size ≡ 8 → eight ≡ last_digits 8 n → take size (drop start eight) ≡ last_digits size n
@@ -153,14 +160,15 @@ onto (suc i) (suc j) n acc lt lo hi =
     let low : 16 ^ suc j ≤ n = lo (omega arith) in
     let one : 0 < 16 ^ j = pow_some j in
     let e : eqb (n / 16) 0 ≡ false = ne_eqb (n / 16) 0 (λ h. omega (arith, pow-suc 16 j)) in
-    rw e (onto i j (n / 16) (digit_glyph true (n % 16) ∷ acc) (omega arith) (λ h. omega (arith, pow-suc 16 j)) (omega (arith, pow-suc 16 (suc j))) ∙ sym (append_assoc (last_digits (suc j) (n / 16)) (digit_glyph true (n % 16) ∷ []) acc))
+    rw e (onto i j (n / 16) (digit_glyph true (n % 16) ∷ acc) (omega arith) (λ h. omega (arith, pow-suc 16 j)) (omega (arith, pow-suc 16 (suc j)))
+    ∙ sym (append_assoc (last_digits (suc j) (n / 16)) (digit_glyph true (n % 16) ∷ []) acc))
   where
     pow_some : (k : ℕ) → 0 < 16 ^ k
     pow_some zero = omega arith
     pow_some (suc k) = omega (arith, pow_some k, pow-suc 16 k)
 
 -- all digits of a number are its last ones, of that count
-pub hex_is : (j n : ℕ) → j < 64 → (0 < j → 16 ^ j ≤ n) → n < 16 ^ suc j → hex_upper n ≡ last_digits (suc j) n
+hex_is : (j n : ℕ) → j < 64 → (0 < j → 16 ^ j ≤ n) → n < 16 ^ suc j → hex_upper n ≡ last_digits (suc j) n
 unfolding digits
 hex_is j n lt lo hi = onto 64 j n [] lt lo hi ∙ append-nil (last_digits (suc j) n)
 
@@ -176,7 +184,7 @@ pub record Digits (n : ℕ) : Type 0 where
   pub high : n < 16 ^ suc more
 
 -- a four-byte number has at most eight
-pub has_digits : (n : ℕ) → n < 2 ^ 32 → Digits n
+has_digits : (n : ℕ) → n < 2 ^ 32 → Digits n
 has_digits n small =
     elim (cases_lt n 16) [
       | inl h ↦ record { more = 0; few = omega arith; low = λ z. omega arith; high = h }
@@ -196,7 +204,11 @@ has_digits n small =
                                   elim (cases_lt n 16777216) [
                                     | inl h ↦ record { more = 5; few = omega arith; low = λ z. e; high = h }
                                     | inr f ↦
-                                        elim (cases_lt n 268435456) [ inl h ↦ record { more = 6; few = omega arith; low = λ z. f; high = h } | inr g ↦ record { more = 7; few = omega arith; low = λ z. g; high = small } ]
+                                        elim (cases_lt n 268435456) [
+                                          | inl h ↦ record { more = 6; few = omega arith; low = λ z. f; high = h }
+                                          | inr g ↦
+                                              record { more = 7; few = omega arith; low = λ z. g; high = small }
+                                        ]
                                   ]
                             ]
                       ]
@@ -207,7 +219,8 @@ has_digits n small =
 -- ---- what is written of a number
 
 -- the digits of a number, with leading zeros up to a width
-pub shown_digits : (least total n : ℕ) → n < 2 ^ 32 → (length (hex_upper n) < least → total ≡ least) → (least ≤ length (hex_upper n) → total ≡ length (hex_upper n)) → last_digits total n ≡ at_least least (hex_upper n)
+pub shown_digits : (least total n : ℕ) → n < 2 ^ 32 → (length (hex_upper n) < least → total ≡ least)
+    → (least ≤ length (hex_upper n) → total ≡ length (hex_upper n)) → last_digits total n ≡ at_least least (hex_upper n)
 unfolding at_least
 shown_digits least total n small short long =
     let d = has_digits n small in
@@ -216,7 +229,8 @@ shown_digits least total n small short long =
     elim (cases_lt (length (hex_upper n)) least) [
       | inl lt ↦
           ap (λ (k : ℕ). last_digits k n) (short lt) ∙ sym (padded least (suc d.more) n (omega (arith, count, lt)) d.high)
-          ∙ ap (λ (k : ℕ). replicate (least - k) 48 ++ last_digits (suc d.more) n) count ∙ ap (λ (s : List ℕ). replicate (least - length (hex_upper n)) 48 ++ s) (sym is)
+          ∙ ap (λ (k : ℕ). replicate (least - k) 48 ++ last_digits (suc d.more) n) count
+          ∙ ap (λ (s : List ℕ). replicate (least - length (hex_upper n)) 48 ++ s) (sym is)
       | inr ge ↦
           let none : least - length (hex_upper n) ≡ 0 = omega arith in
           ap (λ (k : ℕ). last_digits k n) (long ge ∙ sym count) ∙ sym is ∙ ap (λ (k : ℕ). replicate k 48 ++ hex_upper n) (sym none)
@@ -235,13 +249,15 @@ last_split zero (suc j) n le = absurd (omega arith)
 last_split (suc w) (suc j) n le =
     let a : suc w - suc j ≡ w - j = omega arith in
     let b : n / 16 ^ suc j ≡ n / 16 / 16 ^ j = ap (λ (k : ℕ). n / k) (pow-succ' 16 j) ∙ sym (div-div-eq-div-mul n 16 (16 ^ j)) in
-    rw (a, b) (ap (λ (s : List ℕ). s ++ (digit_glyph true (n % 16) ∷ [])) (last_split w j (n / 16) (omega arith)) ∙ append_assoc (last_digits (w - j) (n / 16 / 16 ^ j)) (last_digits j (n / 16)) (digit_glyph true (n % 16) ∷ []))
+    rw (a, b) (ap (λ (s : List ℕ). s ++ (digit_glyph true (n % 16) ∷ [])) (last_split w j (n / 16) (omega arith))
+    ∙ append_assoc (last_digits (w - j) (n / 16 / 16 ^ j)) (last_digits j (n / 16)) (digit_glyph true (n % 16) ∷ []))
 
 -- the last eight are those of the last four bytes
 last_low : (n : ℕ) → last_digits 8 (n % 4294967296) ≡ last_digits 8 n
 unfolding last_digits
 last_low n =
-    eight_same _ _ _ _ _ _ _ _ _ _ _ _ _ _ _ _ (ap (digit_glyph true) (omega arith)) (ap (digit_glyph true) (omega arith)) (ap (digit_glyph true) (omega arith)) (ap (digit_glyph true) (omega arith))
+    eight_same _ _ _ _ _ _ _ _ _ _ _ _ _ _ _ _ (ap (digit_glyph true) (omega arith)) (ap (digit_glyph true) (omega arith)) (ap (digit_glyph true) (omega arith))
+    (ap (digit_glyph true) (omega arith))
     (ap (digit_glyph true) (omega arith)) (ap (digit_glyph true) (omega arith)) (ap (digit_glyph true) (omega arith)) (ap (digit_glyph true) (omega arith))
 
 -- the digits of a number that needs more than four bytes
@@ -258,14 +274,18 @@ wide_digits n low high =
     let rest : suc (k + 8) - 8 ≡ suc k = omega arith in
     let c1 = hex_count k hi (omega (arith, d.few)) d.low d.high in
     let c2 = hex_count (k + 8) n (omega (arith, d.few)) (λ z. below) above in
-    ap (λ (s : List ℕ). s ++ last_digits 8 (n % 4294967296)) (not_padded 1 (hex_upper hi) (omega (arith, c1)) ∙ first) ∙ ap (λ (s : List ℕ). last_digits (suc k) hi ++ s) (last_low n)
-    ∙ ap (λ (j : ℕ). last_digits j (n / 4294967296) ++ last_digits 8 n) (sym rest) ∙ sym (last_split (suc (k + 8)) 8 n (omega arith)) ∙ sym all ∙ sym (not_padded 6 (hex_upper n) (omega (arith, c2)))
+    ap (λ (s : List ℕ). s ++ last_digits 8 (n % 4294967296)) (not_padded 1 (hex_upper hi) (omega (arith, c1)) ∙ first)
+    ∙ ap (λ (s : List ℕ). last_digits (suc k) hi ++ s) (last_low n)
+    ∙ ap (λ (j : ℕ). last_digits j (n / 4294967296) ++ last_digits 8 n) (sym rest) ∙ sym (last_split (suc (k + 8)) 8 n (omega arith)) ∙ sym all
+    ∙ sym (not_padded 6 (hex_upper n) (omega (arith, c2)))
 
 -- ---- parsing digits
 
 -- one more leading digit of a text
-pub front_more : (s : List ℕ) (n number value : ℕ) → n < length s → value < 16 → digit_glyph true value ≡ get_or s n 0 → (n ≤ 8 → take n s ≡ last_digits n number) → (n ≤ 8 → number < 16 ^ n) → n + 1 ≤ 8
-    → (take (n + 1) s ≡ last_digits (n + 1) ((number * 16 % 4294967296 + value) % 4294967296)) × ((number * 16 % 4294967296 + value) % 4294967296 < 16 ^ (n + 1))
+pub front_more : (s : List ℕ) (n number value : ℕ) → n < length s → value < 16 → digit_glyph true value ≡ get_or s n 0
+    → (n ≤ 8 → take n s ≡ last_digits n number) → (n ≤ 8 → number < 16 ^ n) → n + 1 ≤ 8
+    → (take (n + 1) s ≡ last_digits (n + 1) ((number * 16 % 4294967296 + value) % 4294967296))
+    × ((number * 16 % 4294967296 + value) % 4294967296 < 16 ^ (n + 1))
 unfolding last_digits
 front_more s n number value lt small is before fits few =
     let seven : n ≤ 7 = omega arith in
@@ -277,8 +297,11 @@ front_more s n number value lt small is before fits few =
     let end : (number * 16 + value) % 16 ≡ value = omega arith in
     let text : take (n + 1) s ≡ last_digits (suc n) (number * 16 + value) =
     take_more s n 0 lt ∙ ap (λ (t : List ℕ). t ++ (get_or s n 0 ∷ [])) (before (omega arith)) ∙ ap (λ (d : ℕ). last_digits n number ++ (d ∷ [])) (sym is)
-    ∙ ap (λ (k : ℕ). last_digits n k ++ (digit_glyph true value ∷ [])) (sym front) ∙ ap (λ (d : ℕ). last_digits n ((number * 16 + value) / 16) ++ (digit_glyph true d ∷ [])) (sym end) in
-    (text ∙ ap (λ (k : ℕ). last_digits k (number * 16 + value)) (sym next) ∙ ap (last_digits (n + 1)) (sym all), omega (arith, all, within, pow-suc 16 n, ap (λ (k : ℕ). 16 ^ k) next))
+    ∙ ap (λ (k : ℕ). last_digits n k ++ (digit_glyph true value ∷ [])) (sym front)
+    ∙ ap (λ (d : ℕ). last_digits n ((number * 16 + value) / 16) ++ (digit_glyph true d ∷ [])) (sym end) in (
+      text ∙ ap (λ (k : ℕ). last_digits k (number * 16 + value)) (sym next) ∙ ap (last_digits (n + 1)) (sym all),
+      omega (arith, all, within, pow-suc 16 n, ap (λ (k : ℕ). 16 ^ k) next),
+    )
 
 -- a number has at least one digit
 pub one_digit : (n : ℕ) → n < 2 ^ 32 → at_least 1 (hex_upper n) ≡ hex_upper n
@@ -286,7 +309,8 @@ one_digit n small = let d = has_digits n small in not_padded 1 (hex_upper n) (om
 
 -- the two digits of a byte are ASCII
 pub two_ascii : (b : ℕ) → b < 256 → IsAscii (digit_glyph true (b / 16) ∷ digit_glyph true (b % 16) ∷ [])
-two_ascii b small = IsAscii-cons (digit_glyph true (b / 16)) (digit_glyph true (b % 16) ∷ []) (glyph_ascii (b / 16) (omega arith)) (IsAscii-cons (digit_glyph true (b % 16)) [] (glyph_ascii (b % 16) (omega arith)) IsAscii-nil)
+two_ascii b small = IsAscii-cons (digit_glyph true (b / 16)) (digit_glyph true (b % 16) ∷ []) (glyph_ascii (b / 16) (omega arith))
+    (IsAscii-cons (digit_glyph true (b % 16)) [] (glyph_ascii (b % 16) (omega arith)) IsAscii-nil)
 
 -- `0x` and six digits are ASCII
 pub prefixed_ascii : (n : ℕ) → IsAscii (48 ∷ 120 ∷ last_digits 6 n)
@@ -297,4 +321,6 @@ pub tagged_ascii : (n : ℕ) → IsAscii (84 ∷ 97 ∷ 103 ∷ 58 ∷ 32 ∷ 48
 tagged_ascii n = IsAscii-append (84 ∷ 97 ∷ 103 ∷ 58 ∷ 32 ∷ []) (48 ∷ 120 ∷ last_digits 6 n) front (prefixed_ascii n)
   where
     front : IsAscii (84 ∷ 97 ∷ 103 ∷ 58 ∷ 32 ∷ [])
-    front = IsAscii-cons 84 (97 ∷ 103 ∷ 58 ∷ 32 ∷ []) (omega arith) (IsAscii-cons 97 (103 ∷ 58 ∷ 32 ∷ []) (omega arith) (IsAscii-cons 103 (58 ∷ 32 ∷ []) (omega arith) (IsAscii-cons 58 (32 ∷ []) (omega arith) (IsAscii-cons 32 [] (omega arith) IsAscii-nil))))
+    front = IsAscii-cons 84 (97 ∷ 103 ∷ 58 ∷ 32 ∷ []) (omega arith)
+        (IsAscii-cons 97 (103 ∷ 58 ∷ 32 ∷ []) (omega arith)
+        (IsAscii-cons 103 (58 ∷ 32 ∷ []) (omega arith) (IsAscii-cons 58 (32 ∷ []) (omega arith) (IsAscii-cons 32 [] (omega arith) IsAscii-nil))))

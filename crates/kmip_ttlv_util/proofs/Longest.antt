@@ -1,20 +1,24 @@
 -- Any text is read back as its longest list of parts.
-use Rattle.std.proofs.Common.{◌≡◌, ◌≢◌, ℕ, zero, suc, ◌+◌, ◌<◌, Bool, true, false, not, ◌&&◌, cond, eqb, ltb, List, [], ◌∷◌, ◌++◌, length, take, drop, Option, Some, None, refl, sym, ap, subst, ◌∙◌, arith, append_assoc, length-append}
+use Rattle.std.proofs.Common.{◌≡◌, ◌≢◌, ℕ, zero, suc, ◌+◌, ◌<◌, Bool, true, false, not, ◌&&◌, cond, eqb, ltb, List, [], ◌∷◌, ◌++◌, length, take, drop, Option}
+use Rattle.std.proofs.Common.{Some, None, refl, sym, ap, subst, ◌∙◌, arith, append_assoc, length-append}
 use Rattle.std.specs.Prelude.{Result, Ok, Err, IfOk, string_bytes}
 use Rattle.std.proofs.Common.{String}
 use Rattle.std.specs.List.{prefix_len}
 use Rattle.std.proofs.lemmas.Bool.{ne_eqb, eqb-true, eqb-false, lt-ltb, ltb-true}
 use Rattle.std.proofs.lemmas.List.{take-append-drop, length-take-le}
 use Rattle.kmip_ttlv_types.specs.declared.typ.TtlvType.{TtlvType}
-use Rattle.kmip_ttlv_types.specs.declared.typ.TtlvType.TheVariants.{Structure, Integer, LongInteger, BigInteger, Enumeration, Boolean, TextString, ByteString, DateTime, Interval}
+use Rattle.kmip_ttlv_types.specs.declared.typ.TtlvType.TheVariants.{Structure, Integer, LongInteger, BigInteger, Enumeration, Boolean, TextString, ByteString}
+use Rattle.kmip_ttlv_types.specs.declared.typ.TtlvType.TheVariants.{DateTime, Interval}
 use Rattle.kmip_ttlv_types.specs.Names.{tag_of}
 use Rattle.kmip_ttlv_util.specs.Letters.{letter}
 use Rattle.kmip_ttlv_util.specs.Lines.{tag_part, typ_part}
 use Rattle.kmip_ttlv_util.specs.Letters.{is_hex, type_of_letter}
 use Rattle.kmip_ttlv_util.specs.Lines.{line, hidden}
-use Rattle.kmip_ttlv_util.specs.Undiag.{Step, reads_on, stops_with, close_step, value_step, data_step, type_step, letter_step, tag_step, digits_step, step, undiag_from, undiag_lines, undiag}
+use Rattle.kmip_ttlv_util.specs.Undiag.{Step, reads_on, stops_with, close_step, value_step, data_step, type_step, letter_step, tag_step, digits_step, step}
+use Rattle.kmip_ttlv_util.specs.Undiag.{undiag_from, undiag_lines, undiag}
 use Rattle.kmip_ttlv_util.specs.ReadBack.{close_part, item_part}
-use Rattle.kmip_ttlv_util.specs.ReadBack.{Part, NoColon, IsPartTail, tag_in_front, typ_in_front, IsPartAt, depth_behind, part_line, part_lines, unfinished, Longest, ReadsLongest}
+use Rattle.kmip_ttlv_util.specs.ReadBack.{Part, NoColon, IsPartTail, tag_in_front, typ_in_front, IsPartAt, depth_behind, part_line, part_lines, unfinished}
+use Rattle.kmip_ttlv_util.specs.ReadBack.{Longest, ReadsLongest}
 use Rattle.kmip_ttlv_util.proofs.Reading.{Shorter, step_shorter, lines_of}
 use Rattle.kmip_ttlv_util.proofs.ReadBack.{letter_back}
 use Rattle.kmip_ttlv_util.proofs.Letters.{letter_type}
@@ -41,7 +45,9 @@ at_colon : (xs : List ℕ) → prefix_len other xs < length xs → drop (prefix_
 at_colon [] lt = absurd (omega arith)
 at_colon (x ∷ xs) lt = by (eqb x 58) refl (at_colon xs) lt
   where
-    by : (b : Bool) → eqb x 58 ≡ b → (prefix_len other xs < length xs → drop (prefix_len other xs) xs ≡ 58 ∷ drop (prefix_len other xs + 1) xs) → cond (not b) (1 + prefix_len other xs) 0 < length (x ∷ xs) → drop (cond (not b) (1 + prefix_len other xs) 0) (x ∷ xs) ≡ 58 ∷ drop (cond (not b) (1 + prefix_len other xs) 0 + 1) (x ∷ xs)
+    by : (b : Bool) → eqb x 58 ≡ b → (prefix_len other xs < length xs → drop (prefix_len other xs) xs ≡ 58 ∷ drop (prefix_len other xs + 1) xs)
+        → cond (not b) (1 + prefix_len other xs) 0 < length (x ∷ xs) → drop (cond (not b) (1 + prefix_len other xs) 0) (x ∷ xs) ≡ 58 ∷ drop
+        (cond (not b) (1 + prefix_len other xs) 0 + 1) (x ∷ xs)
     by true e more h = ap (λ (c : ℕ). c ∷ xs) (eqb-true x 58 e)
     by false e more h =
         let one : 1 + prefix_len other xs ≡ suc (prefix_len other xs) = omega arith in
@@ -55,23 +61,23 @@ span (d ∷ ds) s all = let k = span ds s all.1 in rw (ne_eqb d 58 all.0) (omega
 
 module _ (beginning : ℕ → ℕ → List ℕ) (prefix : List ℕ) where
   -- what a step shows of the next part
-  abbrev pub Tells : ℕ → List ℕ → Step → Type 0
-  Tells depth s (reads_on w d r) = (p : Part) × IsPartAt prefix depth s p r × (d ≡ depth_behind depth p) × (w ≡ part_line beginning depth p)
-  Tells depth s (stops_with w) = ((p : Part) (more : List ℕ) → IsPartAt prefix depth s p more → ⊥) × (w ≡ unfinished beginning prefix depth s)
+  abbrev pub StepIs : ℕ → List ℕ → Step → Type 0
+  StepIs depth s (reads_on w d r) = (p : Part) × IsPartAt prefix depth s p r × (d ≡ depth_behind depth p) × (w ≡ part_line beginning depth p)
+  StepIs depth s (stops_with w) = ((p : Part) (more : List ℕ) → IsPartAt prefix depth s p more → ⊥) × (w ≡ unfinished beginning prefix depth s)
 
   -- of a text that doesn't begin with `]`
   module _ (depth : ℕ) (s : List ℕ) (open_ : (r : List ℕ) → s ≡ 93 ∷ r → ⊥) where
     abbrev digits_end : ℕ
     digits_end = prefix_len is_hex s
 
-    no_tag : tag_in_front prefix s ≡ None → Tells depth s (stops_with [])
+    no_tag : tag_in_front prefix s ≡ None → StepIs depth s (stops_with [])
     no_tag none = (by, rw none refl)
       where
         by : (p : Part) (more : List ℕ) → IsPartAt prefix depth s p more → ⊥
         by close_part more h = open_ more h.1
         by (item_part tag typ shown) more h = let k = h.1 in absurd cc
 
-    no_letter : (tag : ℕ) → tag_in_front prefix s ≡ Some tag → typ_in_front (drop digits_end s) ≡ None → Tells depth s (stops_with (beginning depth tag))
+    no_letter : (tag : ℕ) → tag_in_front prefix s ≡ Some tag → typ_in_front (drop digits_end s) ≡ None → StepIs depth s (stops_with (beginning depth tag))
     no_letter tag some none = (by, rw (some, none) refl)
       where
         by : (p : Part) (more : List ℕ) → IsPartAt prefix depth s p more → ⊥
@@ -80,7 +86,8 @@ module _ (beginning : ℕ → ℕ → List ℕ) (prefix : List ℕ) where
             let k : typ_in_front (drop digits_end s) ≡ Some typ = ap typ_in_front h.2 ∙ letter_back beginning typ in
             absurd cc
 
-    no_data : (tag : ℕ) (typ : TtlvType) (c : ℕ) (r : List ℕ) → tag_in_front prefix s ≡ Some tag → drop digits_end s ≡ c ∷ r → type_of_letter c ≡ Some typ → ((shown more : List ℕ) → IsPartTail typ r shown more → ⊥) → Tells depth s (stops_with (typ_part beginning depth tag typ))
+    no_data : (tag : ℕ) (typ : TtlvType) (c : ℕ) (r : List ℕ) → tag_in_front prefix s ≡ Some tag → drop digits_end s ≡ c ∷ r → type_of_letter c ≡ Some typ
+        → ((shown more : List ℕ) → IsPartTail typ r shown more → ⊥) → StepIs depth s (stops_with (typ_part beginning depth tag typ))
     no_data tag typ c r some at is never = (by, rw (some, at, is) refl)
       where
         by : (p : Part) (more : List ℕ) → IsPartAt prefix depth s p more → ⊥
@@ -93,8 +100,15 @@ module _ (beginning : ℕ → ℕ → List ℕ) (prefix : List ℕ) where
             let same : u ≡ typ = cc in
             never shown more (subst (λ (v : TtlvType). IsPartTail v r shown more) same (subst (λ (a : List ℕ). IsPartTail u a shown more) left h.3))
 
-    whole : (tag : ℕ) (typ : TtlvType) (c : ℕ) (r shown more : List ℕ) (d : ℕ) → tag_in_front prefix s ≡ Some tag → drop digits_end s ≡ c ∷ r → type_of_letter c ≡ Some typ → IsPartTail typ r shown more → d ≡ depth_behind depth (item_part tag typ shown) → Tells depth s (reads_on (line beginning depth tag typ shown) d more)
-    whole tag typ c r shown more d some at is behind deep = (item_part tag typ shown, (r, some, at ∙ ap (λ (x : ℕ). x ∷ r) (letter_type c typ is), behind), deep, refl)
+    whole : (tag : ℕ) (typ : TtlvType) (c : ℕ) (r shown more : List ℕ) (d : ℕ) → tag_in_front prefix s ≡ Some tag → drop digits_end s ≡ c ∷ r
+        → type_of_letter c ≡ Some typ → IsPartTail typ r shown more → d ≡ depth_behind depth (item_part tag typ shown)
+        → StepIs depth s (reads_on (line beginning depth tag typ shown) d more)
+    whole tag typ c r shown more d some at is behind deep = (
+      item_part tag typ shown,
+      (r, some, at ∙ ap (λ (x : ℕ). x ∷ r) (letter_type c typ is), behind),
+      deep,
+      refl,
+    )
 
     -- at the end of the text nothing follows a letter
     none_behind : (typ : TtlvType) (shown more : List ℕ) → IsPartTail typ [] shown more → ⊥
@@ -110,64 +124,75 @@ module _ (beginning : ℕ → ℕ → List ℕ) (prefix : List ℕ) where
     none_behind Interval shown more h = omega (arith, ap length h.1, h.2)
 
     -- no value of an enumeration
-    no_value : (r : List ℕ) → (ltb 0 (prefix_len other r) && ltb (prefix_len other r) (length r)) ≡ false → (shown more : List ℕ) → IsPartTail Enumeration r shown more → ⊥
+    no_value : (r : List ℕ) → (ltb 0 (prefix_len other r) && ltb (prefix_len other r) (length r)) ≡ false → (shown more : List ℕ)
+        → IsPartTail Enumeration r shown more → ⊥
     no_value r off shown more h =
         let n-is : prefix_len other r ≡ length shown = ap (prefix_len other) h.2 ∙ span shown more h.1 in
         let a : ltb 0 (prefix_len other r) ≡ true = lt-ltb 0 (prefix_len other r) (omega (arith, h.0)) in
-        let b : ltb (prefix_len other r) (length r) ≡ true = lt-ltb (prefix_len other r) (length r) (omega (arith, ap length h.2, length-append shown (58 ∷ more))) in
+        let b : ltb (prefix_len other r) (length r) ≡ true =
+        lt-ltb (prefix_len other r) (length r) (omega (arith, ap length h.2, length-append shown (58 ∷ more))) in
         let both : (ltb 0 (prefix_len other r) && ltb (prefix_len other r) (length r)) ≡ true = rw (a, b) refl in
         absurd cc
 
-    some_value : (r : List ℕ) → 0 < prefix_len other r → prefix_len other r < length r → IsPartTail Enumeration r (take (prefix_len other r) r) (drop (prefix_len other r + 1) r)
+    some_value : (r : List ℕ) → 0 < prefix_len other r → prefix_len other r < length r → IsPartTail Enumeration r (take (prefix_len other r) r)
+        (drop (prefix_len other r + 1) r)
     some_value r some lt =
-        let split : r ≡ take (prefix_len other r) r ++ (58 ∷ drop (prefix_len other r + 1) r) = sym (take-append-drop (prefix_len other r) r) ∙ ap (λ (t : List ℕ). take (prefix_len other r) r ++ t) (at_colon r lt) in
+        let split : r ≡ take (prefix_len other r) r ++ (58 ∷ drop (prefix_len other r + 1) r) = sym (take-append-drop (prefix_len other r) r)
+        ∙ ap (λ (t : List ℕ). take (prefix_len other r) r ++ t) (at_colon r lt) in
         (omega (arith, length-take-le (prefix_len other r) r (omega arith)), no_colon r, split)
 
-    value_tells : (tag c : ℕ) (r : List ℕ) → tag_in_front prefix s ≡ Some tag → drop digits_end s ≡ c ∷ r → type_of_letter c ≡ Some Enumeration → Tells depth s (value_step beginning depth tag r (prefix_len other r))
-    value_tells tag c r some at is = by (ltb 0 (prefix_len other r)) (ltb (prefix_len other r) (length r)) refl refl
+    value_determines : (tag c : ℕ) (r : List ℕ) → tag_in_front prefix s ≡ Some tag → drop digits_end s ≡ c ∷ r → type_of_letter c ≡ Some Enumeration
+        → StepIs depth s (value_step beginning depth tag r (prefix_len other r))
+    value_determines tag c r some at is = by (ltb 0 (prefix_len other r)) (ltb (prefix_len other r) (length r)) refl refl
       where
-        stop : (ltb 0 (prefix_len other r) && ltb (prefix_len other r) (length r)) ≡ false → Tells depth s (stops_with (typ_part beginning depth tag Enumeration))
+        stop : (ltb 0 (prefix_len other r) && ltb (prefix_len other r) (length r)) ≡ false
+            → StepIs depth s (stops_with (typ_part beginning depth tag Enumeration))
         stop off = no_data tag Enumeration c r some at is (no_value r off)
 
-        by : (a b : Bool) → ltb 0 (prefix_len other r) ≡ a → ltb (prefix_len other r) (length r) ≡ b → Tells depth s (cond (a && b) (reads_on (line beginning depth tag Enumeration (take (prefix_len other r) r)) depth (drop (prefix_len other r + 1) r)) (stops_with (typ_part beginning depth tag Enumeration)))
-        by true true e f = whole tag Enumeration c r (take (prefix_len other r) r) (drop (prefix_len other r + 1) r) depth some at is (some_value r (ltb-true _ _ e) (ltb-true _ _ f)) refl
+        by : (a b : Bool) → ltb 0 (prefix_len other r) ≡ a → ltb (prefix_len other r) (length r) ≡ b
+            → StepIs depth s (cond (a && b) (reads_on (line beginning depth tag Enumeration (take (prefix_len other r) r)) depth
+            (drop (prefix_len other r + 1) r)) (stops_with (typ_part beginning depth tag Enumeration)))
+        by true true e f = whole tag Enumeration c r (take (prefix_len other r) r) (drop (prefix_len other r + 1) r) depth some at is
+            (some_value r (ltb-true _ _ e) (ltb-true _ _ f)) refl
         by true false e f = stop (rw (e, f) refl)
         by false true e f = stop (rw e refl)
         by false false e f = stop (rw e refl)
 
-    data_tells : (tag : ℕ) (typ : TtlvType) (c : ℕ) (r : List ℕ) → tag_in_front prefix s ≡ Some tag → drop digits_end s ≡ c ∷ r → type_of_letter c ≡ Some typ → Tells depth s (data_step beginning depth tag typ r)
-    data_tells tag Structure c [] some at is = no_data tag Structure c [] some at is (none_behind Structure)
-    data_tells tag Integer c [] some at is = no_data tag Integer c [] some at is (none_behind Integer)
-    data_tells tag LongInteger c [] some at is = no_data tag LongInteger c [] some at is (none_behind LongInteger)
-    data_tells tag BigInteger c [] some at is = no_data tag BigInteger c [] some at is (none_behind BigInteger)
-    data_tells tag Enumeration c [] some at is = no_data tag Enumeration c [] some at is (none_behind Enumeration)
-    data_tells tag Boolean c [] some at is = no_data tag Boolean c [] some at is (none_behind Boolean)
-    data_tells tag TextString c [] some at is = no_data tag TextString c [] some at is (none_behind TextString)
-    data_tells tag ByteString c [] some at is = no_data tag ByteString c [] some at is (none_behind ByteString)
-    data_tells tag DateTime c [] some at is = no_data tag DateTime c [] some at is (none_behind DateTime)
-    data_tells tag Interval c [] some at is = no_data tag Interval c [] some at is (none_behind Interval)
-    data_tells tag Structure c (e ∷ r) some at is = whole tag Structure c (e ∷ r) [] (e ∷ r) (suc depth) some at is (refl, refl, omega arith) refl
-    data_tells tag Integer c (e ∷ r) some at is = whole tag Integer c (e ∷ r) hidden (e ∷ r) depth some at is (refl, refl, omega arith) refl
-    data_tells tag LongInteger c (e ∷ r) some at is = whole tag LongInteger c (e ∷ r) hidden (e ∷ r) depth some at is (refl, refl, omega arith) refl
-    data_tells tag BigInteger c (e ∷ r) some at is = whole tag BigInteger c (e ∷ r) hidden (e ∷ r) depth some at is (refl, refl, omega arith) refl
-    data_tells tag Enumeration c (e ∷ r) some at is = value_tells tag c (e ∷ r) some at is
-    data_tells tag Boolean c (e ∷ r) some at is = whole tag Boolean c (e ∷ r) hidden (e ∷ r) depth some at is (refl, refl, omega arith) refl
-    data_tells tag TextString c (e ∷ r) some at is = whole tag TextString c (e ∷ r) hidden (e ∷ r) depth some at is (refl, refl, omega arith) refl
-    data_tells tag ByteString c (e ∷ r) some at is = whole tag ByteString c (e ∷ r) hidden (e ∷ r) depth some at is (refl, refl, omega arith) refl
-    data_tells tag DateTime c (e ∷ r) some at is = whole tag DateTime c (e ∷ r) hidden (e ∷ r) depth some at is (refl, refl, omega arith) refl
-    data_tells tag Interval c (e ∷ r) some at is = whole tag Interval c (e ∷ r) hidden (e ∷ r) depth some at is (refl, refl, omega arith) refl
+    data_determines : (tag : ℕ) (typ : TtlvType) (c : ℕ) (r : List ℕ) → tag_in_front prefix s ≡ Some tag → drop digits_end s ≡ c ∷ r → type_of_letter c ≡ Some typ
+        → StepIs depth s (data_step beginning depth tag typ r)
+    data_determines tag Structure c [] some at is = no_data tag Structure c [] some at is (none_behind Structure)
+    data_determines tag Integer c [] some at is = no_data tag Integer c [] some at is (none_behind Integer)
+    data_determines tag LongInteger c [] some at is = no_data tag LongInteger c [] some at is (none_behind LongInteger)
+    data_determines tag BigInteger c [] some at is = no_data tag BigInteger c [] some at is (none_behind BigInteger)
+    data_determines tag Enumeration c [] some at is = no_data tag Enumeration c [] some at is (none_behind Enumeration)
+    data_determines tag Boolean c [] some at is = no_data tag Boolean c [] some at is (none_behind Boolean)
+    data_determines tag TextString c [] some at is = no_data tag TextString c [] some at is (none_behind TextString)
+    data_determines tag ByteString c [] some at is = no_data tag ByteString c [] some at is (none_behind ByteString)
+    data_determines tag DateTime c [] some at is = no_data tag DateTime c [] some at is (none_behind DateTime)
+    data_determines tag Interval c [] some at is = no_data tag Interval c [] some at is (none_behind Interval)
+    data_determines tag Structure c (e ∷ r) some at is = whole tag Structure c (e ∷ r) [] (e ∷ r) (suc depth) some at is (refl, refl, omega arith) refl
+    data_determines tag Integer c (e ∷ r) some at is = whole tag Integer c (e ∷ r) hidden (e ∷ r) depth some at is (refl, refl, omega arith) refl
+    data_determines tag LongInteger c (e ∷ r) some at is = whole tag LongInteger c (e ∷ r) hidden (e ∷ r) depth some at is (refl, refl, omega arith) refl
+    data_determines tag BigInteger c (e ∷ r) some at is = whole tag BigInteger c (e ∷ r) hidden (e ∷ r) depth some at is (refl, refl, omega arith) refl
+    data_determines tag Enumeration c (e ∷ r) some at is = value_determines tag c (e ∷ r) some at is
+    data_determines tag Boolean c (e ∷ r) some at is = whole tag Boolean c (e ∷ r) hidden (e ∷ r) depth some at is (refl, refl, omega arith) refl
+    data_determines tag TextString c (e ∷ r) some at is = whole tag TextString c (e ∷ r) hidden (e ∷ r) depth some at is (refl, refl, omega arith) refl
+    data_determines tag ByteString c (e ∷ r) some at is = whole tag ByteString c (e ∷ r) hidden (e ∷ r) depth some at is (refl, refl, omega arith) refl
+    data_determines tag DateTime c (e ∷ r) some at is = whole tag DateTime c (e ∷ r) hidden (e ∷ r) depth some at is (refl, refl, omega arith) refl
+    data_determines tag Interval c (e ∷ r) some at is = whole tag Interval c (e ∷ r) hidden (e ∷ r) depth some at is (refl, refl, omega arith) refl
 
-    letter_tells : (tag : ℕ) (rest : List ℕ) → tag_in_front prefix s ≡ Some tag → drop digits_end s ≡ rest → Tells depth s (letter_step beginning depth tag rest)
-    letter_tells tag [] some at = no_letter tag some (ap typ_in_front at)
-    letter_tells tag (c ∷ r) some at = by (type_of_letter c) refl
+    letter_determines : (tag : ℕ) (rest : List ℕ) → tag_in_front prefix s ≡ Some tag → drop digits_end s ≡ rest
+        → StepIs depth s (letter_step beginning depth tag rest)
+    letter_determines tag [] some at = no_letter tag some (ap typ_in_front at)
+    letter_determines tag (c ∷ r) some at = by (type_of_letter c) refl
       where
-        by : (o : Option TtlvType) → type_of_letter c ≡ o → Tells depth s (type_step beginning depth tag r o)
+        by : (o : Option TtlvType) → type_of_letter c ≡ o → StepIs depth s (type_step beginning depth tag r o)
         by None e = no_letter tag some (ap typ_in_front at ∙ e)
-        by (Some typ) e = data_tells tag typ c r some at e
+        by (Some typ) e = data_determines tag typ c r some at e
 
-    tag_tells : (o : Option ℕ) (rest : List ℕ) → tag_in_front prefix s ≡ o → drop digits_end s ≡ rest → Tells depth s (tag_step beginning depth rest o)
-    tag_tells None rest is at = no_tag is
-    tag_tells (Some tag) rest is at = letter_tells tag rest is at
+    tag_determines : (o : Option ℕ) (rest : List ℕ) → tag_in_front prefix s ≡ o → drop digits_end s ≡ rest → StepIs depth s (tag_step beginning depth rest o)
+    tag_determines None rest is at = no_tag is
+    tag_determines (Some tag) rest is at = letter_determines tag rest is at
 
   -- there is no part at the end of a text
   no_end : (depth : ℕ) (p : Part) (more : List ℕ) → IsPartAt prefix depth [] p more → ⊥
@@ -184,26 +209,29 @@ module _ (beginning : ℕ → ℕ → List ℕ) (prefix : List ℕ) where
   no_shut c s e (item_part tag typ shown) more h = let k = h.1 in let l = shut_none c s e in absurd cc
 
   -- what a step at `]` shows
-  close_tells : (depth c : ℕ) (s : List ℕ) → eqb c 93 ≡ true → Tells depth (c ∷ s) (close_step depth s)
-  close_tells zero c s e = (no_shut c s e, rw (shut_none c s e) refl)
-  close_tells (suc d) c s e = (close_part, (omega arith, ap (λ (x : ℕ). x ∷ s) (eqb-true c 93 e)), omega arith, refl)
+  close_determines : (depth c : ℕ) (s : List ℕ) → eqb c 93 ≡ true → StepIs depth (c ∷ s) (close_step depth s)
+  close_determines zero c s e = (no_shut c s e, rw (shut_none c s e) refl)
+  close_determines (suc d) c s e = (close_part, (omega arith, ap (λ (x : ℕ). x ∷ s) (eqb-true c 93 e)), omega arith, refl)
 
   -- what any step shows
-  pub tells : (depth : ℕ) (s : List ℕ) → Tells depth s (step beginning prefix depth s)
+  pub step_is : (depth : ℕ) (s : List ℕ) → StepIs depth s (step beginning prefix depth s)
   unfolding step
-  tells depth [] = (no_end depth, refl)
-  tells depth (c ∷ s) = by (eqb c 93) refl
+  step_is depth [] = (no_end depth, refl)
+  step_is depth (c ∷ s) = by (eqb c 93) refl
     where
-      by : (b : Bool) → eqb c 93 ≡ b → Tells depth (c ∷ s) (cond b (close_step depth s) (digits_step beginning prefix depth (c ∷ s) (prefix_len is_hex (c ∷ s))))
-      by true e = close_tells depth c s e
+      by : (b : Bool) → eqb c 93 ≡ b → StepIs depth (c ∷ s)
+          (cond b (close_step depth s) (digits_step beginning prefix depth (c ∷ s) (prefix_len is_hex (c ∷ s))))
+      by true e = close_determines depth c s e
       by false e =
           let ne : c ≢ 93 = eqb-false c 93 e in
-          tag_tells depth (c ∷ s) (λ r h. let k : c ≡ 93 = cc in ne k) (tag_of (48 ∷ 120 ∷ (prefix ++ take (prefix_len is_hex (c ∷ s)) (c ∷ s)))) (drop (prefix_len is_hex (c ∷ s)) (c ∷ s)) (rw e refl) refl
+          tag_determines depth (c ∷ s) (λ r h. let k : c ≡ 93 = cc in ne k) (tag_of (48 ∷ 120 ∷ (prefix ++ take (prefix_len is_hex (c ∷ s)) (c ∷ s))))
+          (drop (prefix_len is_hex (c ∷ s)) (c ∷ s)) (rw e refl) refl
 
   -- ---- the whole text
 
   -- one more part before others
-  more_parts : (depth : ℕ) (s w : List ℕ) (d : ℕ) (r text : List ℕ) → Tells depth s (reads_on w d r) → Longest beginning prefix d r text → Longest beginning prefix depth s (w ++ text)
+  more_parts : (depth : ℕ) (s w : List ℕ) (d : ℕ) (r text : List ℕ) → StepIs depth s (reads_on w d r) → Longest beginning prefix d r text
+      → Longest beginning prefix depth s (w ++ text)
   more_parts depth s w d r text t k =
       let l = subst (λ (n : ℕ). Longest beginning prefix n r text) t.2 k in
       record {
@@ -212,24 +240,38 @@ module _ (beginning : ℕ → ℕ → List ℕ) (prefix : List ℕ) where
         rest = l.rest;
         stand = (r, t.1, l.stand);
         no_more = l.no_more;
-        written = ap (λ (x : List ℕ). x ++ text) t.3 ∙ ap (λ (x : List ℕ). part_line beginning depth t.0 ++ x) l.written ∙ sym (append_assoc (part_line beginning depth t.0) (part_lines beginning (depth_behind depth t.0) l.parts) (unfinished beginning prefix l.deep l.rest));
+        written = ap (λ (x : List ℕ). x ++ text) t.3 ∙ ap (λ (x : List ℕ). part_line beginning depth t.0 ++ x) l.written
+            ∙ sym (append_assoc (part_line beginning depth t.0) (part_lines beginning (depth_behind depth t.0) l.parts)
+            (unfinished beginning prefix l.deep l.rest));
       }
 
   -- what is written are the lines of the longest list of parts
   longest : (most depth : ℕ) (s : List ℕ) → length s < most → Longest beginning prefix depth s (undiag_from beginning most prefix depth s)
   longest zero depth s lt = absurd (omega arith)
-  longest (suc most) depth s lt = by (step beginning prefix depth s) refl (tells depth s) (step_shorter beginning prefix depth s) (λ d r le. longest most d r le)
+  longest (suc most) depth s lt = by (step beginning prefix depth s) refl (step_is depth s) (step_shorter beginning prefix depth s)
+      (λ d r le. longest most d r le)
     where
-      by : (t : Step) → step beginning prefix depth s ≡ t → Tells depth s t → Shorter beginning depth s t → ((d : ℕ) (r : List ℕ) → length r < most → Longest beginning prefix d r (undiag_from beginning most prefix d r)) → Longest beginning prefix depth s (undiag_from beginning (suc most) prefix depth s)
-      by (reads_on w d r) e t sh more = subst (λ (x : List ℕ). Longest beginning prefix depth s x) (sym (lines_of beginning most prefix depth s (reads_on w d r) e)) (more_parts depth s w d r (undiag_from beginning most prefix d r) t (more d r (omega (arith, sh.0))))
-      by (stops_with w) e t sh more = subst (λ (x : List ℕ). Longest beginning prefix depth s x) (sym (lines_of beginning most prefix depth s (stops_with w) e)) record { parts = []; deep = depth; rest = s; stand = (refl, refl); no_more = t.0; written = t.1 }
+      by : (t : Step) → step beginning prefix depth s ≡ t → StepIs depth s t → Shorter beginning depth s t
+          → ((d : ℕ) (r : List ℕ) → length r < most → Longest beginning prefix d r (undiag_from beginning most prefix d r))
+          → Longest beginning prefix depth s (undiag_from beginning (suc most) prefix depth s)
+      by (reads_on w d r) e t sh more = subst (λ (x : List ℕ). Longest beginning prefix depth s x)
+          (sym (lines_of beginning most prefix depth s (reads_on w d r) e)) (more_parts depth s w d r (undiag_from beginning most prefix d r) t
+          (more d r (omega (arith, sh.0))))
+      by (stops_with w) e t sh more = subst (λ (x : List ℕ). Longest beginning prefix depth s x) (sym (lines_of beginning most prefix depth s (stops_with w) e))
+          record { parts = []; deep = depth; rest = s; stand = (refl, refl); no_more = t.0; written = t.1 }
 
 -- so is the trimmed result
 reads_longest : (names : ℕ → Option (List ℕ)) (prefix s answer : List ℕ) → answer ≡ undiag names prefix s → ReadsLongest names prefix s answer
 unfolding undiag undiag_lines
-reads_longest names prefix s answer is = (undiag_from (tag_part names) (suc (length s)) prefix 0 s, longest (tag_part names) prefix (suc (length s)) 0 s (omega arith), is)
+reads_longest names prefix s answer is = (
+  undiag_from (tag_part names) (suc (length s)) prefix 0 s,
+  longest (tag_part names) prefix (suc (length s)) 0 s
+      (omega arith),
+  is,
+)
 
 -- and what a call returns
-pub longest_ok : {A E : Type 0} (names : ℕ → Option (List ℕ)) (prefix given s : List ℕ) (r : Result (String A) E) → given ≡ prefix → IfOk r (λ x. string_bytes x ≡ undiag names given s) → IfOk r (λ x. ReadsLongest names prefix s (string_bytes x))
+pub longest_ok : {A E : Type 0} (names : ℕ → Option (List ℕ)) (prefix given s : List ℕ) (r : Result (String A) E) → given ≡ prefix
+    → IfOk r (λ x. string_bytes x ≡ undiag names given s) → IfOk r (λ x. ReadsLongest names prefix s (string_bytes x))
 longest_ok names prefix given s (Ok x) same is = reads_longest names prefix s (string_bytes x) (is ∙ ap (λ (p : List ℕ). undiag names p s) same)
 longest_ok names prefix given s (Err e) same is = tt

@@ -20,4 +20,5 @@ entries_same ((a, b) ∷ xs) ((c, d) ∷ ys) h =
 
 -- so the names are the same
 pub names_same : (m n : NameMap) → IsClone (λ a b. b ≡ a) (λ a b. b ≡ a) m n → name_in n ≡ name_in m
-names_same m n h = ap (λ (es : List (ℕ × Bor (List ℕ))). λ (tag : ℕ). option_map (λ (s : Bor (List ℕ)). s.now) (lookup (λ (k : ℕ). tag == k) es)) (entries_same m.entries n.entries h)
+names_same m n h = ap (λ (es : List (ℕ × Bor (List ℕ))). λ (tag : ℕ). option_map (λ (s : Bor (List ℕ)). s.now) (lookup (λ (k : ℕ). tag == k) es))
+    (entries_same m.entries n.entries h)

@@ -1,5 +1,6 @@
 -- The diagnostic of a well-formed message.
-use Rattle.std.proofs.Common.{◌≡◌, ℕ, suc, ◌+◌, ◌-◌, ◌<◌, ◌≤◌, ◌^◌, Bool, true, false, List, [], ◌∷◌, ◌++◌, length, get_or, None, refl, sym, ap, subst, ◌∙◌, arith}
+use Rattle.std.proofs.Common.{◌≡◌, ℕ, suc, ◌+◌, ◌-◌, ◌<◌, ◌≤◌, ◌^◌, Bool, true, false, List, [], ◌∷◌, ◌++◌, length, get_or, None, refl, sym, ap, subst, ◌∙◌}
+use Rattle.std.proofs.Common.{arith}
 use Rattle.std.proofs.Common.{◌⊎◌, inl, inr}
 use Rattle.std.specs.Prelude.{◌↔◌, Result, Ok, Err, IfOk, string_bytes}
 use Rattle.std.proofs.Common.{String}
@@ -7,7 +8,8 @@ use Rattle.std.specs.Int.{w32, from_be_bytes}
 use Rattle.std.proofs.lemmas.List.{get_or_append_left, get_or-append_right, get_or_past}
 use Rattle.std.proofs.lemmas.Bool.{cases_lt}
 use Rattle.kmip_ttlv_types.specs.declared.typ.TtlvType.{TtlvType}
-use Rattle.kmip_ttlv_types.specs.declared.typ.TtlvType.TheVariants.{Structure, Integer, LongInteger, BigInteger, Enumeration, Boolean, TextString, ByteString, DateTime, Interval}
+use Rattle.kmip_ttlv_types.specs.declared.typ.TtlvType.TheVariants.{Structure, Integer, LongInteger, BigInteger, Enumeration, Boolean, TextString, ByteString}
+use Rattle.kmip_ttlv_types.specs.declared.typ.TtlvType.TheVariants.{DateTime, Interval}
 use Rattle.kmip_ttlv_types.specs.Items.{Raw, IsTextOf}
 use Rattle.kmip_ttlv_types.specs.Leaves.{is_valid}
 use Rattle.kmip_ttlv_types.specs.Trees.{Tree, Trees, leaf, node, no_trees, tree, IsTreeText, AreTreeTexts, HasNoEmpty, IsStructure}
@@ -20,37 +22,43 @@ use Rattle.kmip_ttlv_util.specs.PrintResults.{IsExact}
 use Rattle.kmip_ttlv_util.specs.Walks.{IsItem}
 use Rattle.kmip_ttlv_util.proofs.Unique.{diag_one}
 use Rattle.kmip_ttlv_types.proofs.PlaceLemmas.{raw_with, header_of}
-use Rattle.kmip_ttlv_util.proofs.Entries.{kept_enumeration}
-use Rattle.kmip_ttlv_util.proofs.Walked.{Drawing, Draws, drawn, drawn_all, message_told, leaf_not}
+use Rattle.kmip_ttlv_util.proofs.Entries.{shown_enumeration}
+use Rattle.kmip_ttlv_util.proofs.Walked.{Drawing, Draws, drawn, drawn_all, message_determined, leaf_not}
 
 -- what is kept of a leaf is its value in the outline
-kept_is : (typ : TtlvType) (content : List ℕ) → is_valid typ content ≡ true → detail_value typ (detail_of typ content) ≡ value_of typ content
-kept_is Structure content valid = refl
-kept_is Integer content valid = refl
-kept_is LongInteger content valid = refl
-kept_is BigInteger content valid = refl
-kept_is Enumeration content valid = kept_enumeration content valid
-kept_is Boolean content valid = refl
-kept_is TextString content valid = refl
-kept_is ByteString content valid = refl
-kept_is DateTime content valid = refl
-kept_is Interval content valid = refl
+shown_is : (typ : TtlvType) (content : List ℕ) → is_valid typ content ≡ true → detail_value typ (detail_of typ content) ≡ value_of typ content
+shown_is Structure content valid = refl
+shown_is Integer content valid = refl
+shown_is LongInteger content valid = refl
+shown_is BigInteger content valid = refl
+shown_is Enumeration content valid = shown_enumeration content valid
+shown_is Boolean content valid = refl
+shown_is TextString content valid = refl
+shown_is ByteString content valid = refl
+shown_is DateTime content valid = refl
+shown_is Interval content valid = refl
 
 -- ---- the text
 
 -- an item's mark is what the style writes for its entry
-pub item_mark : (prefix bytes : List ℕ) (depth p : ℕ) (i : Item) → IsItem bytes p i → mark prefix i.tag i.typ i.value ≡ (diag_style prefix).item depth p (entry_at bytes p) i.typ
+pub item_mark : (prefix bytes : List ℕ) (depth p : ℕ) (i : Item) → IsItem bytes p i → mark prefix i.tag i.typ i.value ≡ (diag_style prefix).item depth p
+    (entry_at bytes p) i.typ
 item_mark prefix bytes depth p i item = rw (item.tag, item.value) refl
 
 -- what a diagnostic has for leaves and for openings of structures
 diag_drawing : List ℕ → Drawing
-diag_drawing prefix = record { of_leaf = λ depth tag typ content. mark prefix tag typ (value_of typ content); of_node = λ depth tag. mark prefix tag Structure None }
+diag_drawing prefix = record {
+  of_leaf = λ depth tag typ content. mark prefix tag typ (value_of typ content);
+  of_node =
+      λ depth tag. mark prefix tag Structure None;
+}
 
 -- its style writes that
 diag_draws : (prefix : List ℕ) (closed : Bool) (w : List ℕ) → Draws (diag_style prefix) (diag_drawing prefix) closed w
 unfolding diag_drawing
 diag_draws prefix closed w = record {
-  leafs = λ depth p tag typ content h. let value-is : detail_value typ (entry_at w p).detail ≡ value_of typ content = ap (detail_value typ) h.detail_is ∙ kept_is typ content h.valid in rw (h.tag_is, value-is) refl;
+  leafs = λ depth p tag typ content h. let value-is : detail_value typ (entry_at w p).detail ≡ value_of typ content = ap (detail_value typ) h.detail_is
+      ∙ shown_is typ content h.valid in rw (h.tag_is, value-is) refl;
   nodes = λ depth p tag h. rw h.tag_is refl;
 }
 
@@ -65,12 +73,15 @@ mutual
   -- and of several outlines
   drawn_diags : (prefix : List ℕ) (depth : ℕ) (ts : Trees) → drawn_all (diag_drawing prefix) (93 ∷ []) depth ts ≡ diag_all prefix (outlines_of ts)
   drawn_diags prefix depth no_trees = refl
-  drawn_diags prefix depth (tree t ts) = ap (λ (r : List ℕ). r ++ drawn_all (diag_drawing prefix) (93 ∷ []) depth ts) (drawn_diag prefix depth t) ∙ ap (λ (r : List ℕ). diag prefix (outline_of t) ++ r) (drawn_diags prefix depth ts)
+  drawn_diags prefix depth (tree t ts) = ap (λ (r : List ℕ). r ++ drawn_all (diag_drawing prefix) (93 ∷ []) depth ts) (drawn_diag prefix depth t)
+      ∙ ap (λ (r : List ℕ). diag prefix (outline_of t) ++ r) (drawn_diags prefix depth ts)
 
 -- the diagnostic of a well-formed message is that of its outline
-pub message_text : (prefix : List ℕ) (closed : Bool) (w : List ℕ) (t : Tree) → IsTreeText t w → IsStructure t → (closed ≡ false → HasNoEmpty t) → hostile prefix closed (length w) (trace closed w) ≡ diag prefix (outline_of t)
+pub message_text : (prefix : List ℕ) (closed : Bool) (w : List ℕ) (t : Tree) → IsTreeText t w → IsStructure t → (closed ≡ false → HasNoEmpty t)
+    → hostile prefix closed (length w) (trace closed w) ≡ diag prefix (outline_of t)
 unfolding hostile
-message_text prefix closed w t h root none = message_told (diag_style prefix) (diag_drawing prefix) closed w (diag_draws prefix closed w) t h root none ∙ drawn_diag prefix 0 t
+message_text prefix closed w t h root none = message_determined (diag_style prefix) (diag_drawing prefix) closed w (diag_draws prefix closed w) t h root none
+    ∙ drawn_diag prefix 0 t
 
 -- ---- the outline of bytes
 
@@ -88,7 +99,8 @@ bytes_left xs ys all i = by (cases_lt i (length xs))
 -- and so is what follows
 bytes_right : (xs ys : List ℕ) → AreBytes (xs ++ ys) → AreBytes ys
 bytes_right xs ys all i =
-    let e : get_or (xs ++ ys) (length xs + i) 0 ≡ get_or ys (length xs + i - length xs) 0 = get_or-append_right xs ys (length xs) (length xs + i) 0 refl (omega arith) in
+    let e : get_or (xs ++ ys) (length xs + i) 0 ≡ get_or ys (length xs + i - length xs) 0 = get_or-append_right xs ys (length xs) (length xs + i) 0 refl
+    (omega arith) in
     let j : length xs + i - length xs ≡ i = omega arith in
     let k : get_or ys (length xs + i - length xs) 0 ≡ get_or ys i 0 = ap (λ (m : ℕ). get_or ys m 0) j in
     omega (arith, all (length xs + i), e, k)
@@ -102,22 +114,22 @@ value_small : (content : List ℕ) → AreBytes content → from_be_bytes w32 co
 value_small content all = omega (arith, all 0, all 1, all 2, all 3)
 
 -- what is kept of a leaf fits an outline
-kept_fits : (typ : TtlvType) (content : List ℕ) → is_valid typ content ≡ true → AreBytes content → IsShown typ (value_of typ content)
-kept_fits Structure content valid all = leaf_not Structure content valid refl
-kept_fits Integer content valid all = tt
-kept_fits LongInteger content valid all = tt
-kept_fits BigInteger content valid all = tt
-kept_fits Enumeration content valid all = value_small content all
-kept_fits Boolean content valid all = tt
-kept_fits TextString content valid all = tt
-kept_fits ByteString content valid all = tt
-kept_fits DateTime content valid all = tt
-kept_fits Interval content valid all = tt
+shown_fits : (typ : TtlvType) (content : List ℕ) → is_valid typ content ≡ true → AreBytes content → IsShown typ (value_of typ content)
+shown_fits Structure content valid all = leaf_not Structure content valid refl
+shown_fits Integer content valid all = tt
+shown_fits LongInteger content valid all = tt
+shown_fits BigInteger content valid all = tt
+shown_fits Enumeration content valid all = value_small content all
+shown_fits Boolean content valid all = tt
+shown_fits TextString content valid all = tt
+shown_fits ByteString content valid all = tt
+shown_fits DateTime content valid all = tt
+shown_fits Interval content valid all = tt
 
 mutual
   -- a message's outline is an outline
   is_outline : (t : Tree) (text : List ℕ) → IsTreeText t text → AreBytes text → IsOutline (outline_of t)
-  is_outline (leaf tag typ content) text h all = (h.1.tag_fits, kept_fits typ content h.0 (content_bytes (raw_with tag typ content) text h.1 all))
+  is_outline (leaf tag typ content) text h all = (h.1.tag_fits, shown_fits typ content h.0 (content_bytes (raw_with tag typ content) text h.1 all))
   is_outline (node tag ts) text h all = (h.1.tag_fits, are_outlines ts h.0 h.2 (content_bytes (raw_with tag Structure h.0) text h.1 all))
 
   -- and so are those in it
@@ -128,7 +140,8 @@ mutual
       (is_outline t h.0 h.3 (bytes_left h.0 h.1 both), are_outlines ts h.1 h.4 (bytes_right h.0 h.1 both))
 
 -- the diagnostic is that of one outline and of no other
-pub exact : (prefix : List ℕ) (closed : Bool) (w text : List ℕ) → AreBytes w → text ≡ hostile prefix closed (length w) (trace closed w) → IsExact prefix closed w text
+pub exact : (prefix : List ℕ) (closed : Bool) (w text : List ℕ) → AreBytes w → text ≡ hostile prefix closed (length w) (trace closed w)
+    → IsExact prefix closed w text
 exact prefix closed w text all is t h root none =
     let e : text ≡ diag prefix (outline_of t) = is ∙ message_text prefix closed w t h root none in
     record {
@@ -137,8 +150,10 @@ exact prefix closed w text all is t h root none =
     }
 
 -- so is what a call returns
-pub exact_ok : {A E : Type 0} (prefix given : List ℕ) (closed : Bool) (w : List ℕ) (r : Result (String A × ℕ) E) → AreBytes w → given ≡ prefix → IfOk r (λ x. string_bytes x.0 ≡ hostile given closed (length w) (trace closed w)) → IfOk r (λ x. IsExact prefix closed w (string_bytes x.0))
-exact_ok prefix given closed w (Ok x) all same is = exact prefix closed w (string_bytes x.0) all (is ∙ ap (λ (p : List ℕ). hostile p closed (length w) (trace closed w)) same)
+pub exact_ok : {A E : Type 0} (prefix given : List ℕ) (closed : Bool) (w : List ℕ) (r : Result (String A × ℕ) E) → AreBytes w → given ≡ prefix
+    → IfOk r (λ x. string_bytes x.0 ≡ hostile given closed (length w) (trace closed w)) → IfOk r (λ x. IsExact prefix closed w (string_bytes x.0))
+exact_ok prefix given closed w (Ok x) all same is =
+    exact prefix closed w (string_bytes x.0) all (is ∙ ap (λ (p : List ℕ). hostile p closed (length w) (trace closed w)) same)
 exact_ok prefix given closed w (Err e) all same is = tt
 
 -- if every number is below 256, the list is bytes
@@ -150,9 +165,12 @@ each_byte bs each i = by (cases_lt i (length bs))
     by (inr le) = let e : get_or bs i 0 ≡ 0 = get_or_past bs i 0 le in omega (arith, e)
 
 -- two messages' diagnostics
-pub tells_outlines : (prefix : List ℕ) (closed : Bool) (a b : List ℕ) (t u : Tree) → AreBytes a → AreBytes b → IsTreeText t a → IsTreeText u b → IsStructure t → IsStructure u → (closed ≡ false → HasNoEmpty t) → (closed ≡ false → HasNoEmpty u)
+pub determine_outlines : (prefix : List ℕ) (closed : Bool) (a b : List ℕ) (t u : Tree) → AreBytes a → AreBytes b → IsTreeText t a → IsTreeText u b → IsStructure t
+    → IsStructure u → (closed ≡ false → HasNoEmpty t) → (closed ≡ false → HasNoEmpty u)
     → (hostile prefix closed (length a) (trace closed a) ≡ hostile prefix closed (length b) (trace closed b)) ↔ (outline_of t ≡ outline_of u)
-tells_outlines prefix closed a b t u bytes-a bytes-b text-a text-b root-t root-u none-t none-u =
+determine_outlines prefix closed a b t u bytes-a bytes-b text-a text-b root-t root-u none-t none-u =
     let one = message_text prefix closed a t text-a root-t none-t in
-    let two = message_text prefix closed b u text-b root-u none-u in
-    ((λ e. diag_one prefix (outline_of t) (outline_of u) (is_outline t a text-a bytes-a) (is_outline u b text-b bytes-b) (sym one ∙ e ∙ two)), (λ e. one ∙ ap (diag prefix) e ∙ sym two))
+    let two = message_text prefix closed b u text-b root-u none-u in (
+      (λ e. diag_one prefix (outline_of t) (outline_of u) (is_outline t a text-a bytes-a) (is_outline u b text-b bytes-b) (sym one ∙ e ∙ two)),
+      (λ e. one ∙ ap (diag prefix) e ∙ sym two),
+    )

@@ -6,7 +6,7 @@ use Rattle.std.specs.Fmt.{padded_integral, format_spec, char_count, digits, Appe
 use Rattle.kmip_ttlv_util.specs.Lines.{at_least}
 
 -- the padded form is zeros, then digits
-pub padded_zeros : (width : ℕ) (ds : List ℕ) → padded_integral (format_spec 32 0 4 width (2 ^ 64 - 1)) false [] ds ≡ at_least width ds
+padded_zeros : (width : ℕ) (ds : List ℕ) → padded_integral (format_spec 32 0 4 width (2 ^ 64 - 1)) false [] ds ≡ at_least width ds
 unfolding padded_integral char_count at_least
 padded_zeros width ds =
     let short : width - length ds - 0 - 0 ≡ width - length ds = omega arith in

@@ -1,11 +1,13 @@
 -- The next part of a text that is read back.
-use Rattle.std.proofs.Common.{◌≡◌, ◌≢◌, ℕ, zero, suc, ◌-◌, ◌<◌, Bool, true, false, cond, eqb, List, [], ◌∷◌, length, drop, Option, Some, None, refl, ap, ◌∙◌, arith}
+use Rattle.std.proofs.Common.{◌≡◌, ◌≢◌, ℕ, zero, suc, ◌-◌, ◌<◌, Bool, true, false, cond, eqb, List, [], ◌∷◌, length, drop, Option, Some, None, refl, ap, ◌∙◌}
+use Rattle.std.proofs.Common.{arith}
 use Rattle.std.specs.List.{prefix_len}
 use Rattle.std.proofs.lemmas.Bool.{eqb-true}
 use Rattle.kmip_ttlv_types.specs.declared.typ.TtlvType.{TtlvType}
 use Rattle.kmip_ttlv_types.specs.declared.typ.TtlvType.TheVariants.{Enumeration}
 use Rattle.kmip_ttlv_util.specs.Letters.{is_hex, type_of_letter}
-use Rattle.kmip_ttlv_util.specs.Undiag.{with_rest, front_type, front_value, Step, reads_on, stops_with, close_step, data_step, type_step, letter_step, tag_step, step}
+use Rattle.kmip_ttlv_util.specs.Undiag.{with_rest, front_type, front_value, Step, reads_on, stops_with, close_step, data_step, type_step, letter_step, tag_step}
+use Rattle.kmip_ttlv_util.specs.Undiag.{step}
 use Rattle.kmip_ttlv_util.specs.Lines.{line, typ_part}
 use Rattle.kmip_ttlv_util.specs.ReadBack.{tag_in_front}
 
@@ -15,25 +17,30 @@ module _ (beginning : ℕ → ℕ → List ℕ) where
   pick b p = cond b (Some p) None
 
   -- a value was found
-  chosen_value : (b : Bool) (depth tag : ℕ) (x y v r : List ℕ) → pick b (x, y) ≡ Some (v, r) → cond b (reads_on (line beginning depth tag Enumeration x) depth y) (stops_with (typ_part beginning depth tag Enumeration)) ≡ reads_on (line beginning depth tag Enumeration v) depth r
+  chosen_value : (b : Bool) (depth tag : ℕ) (x y v r : List ℕ) → pick b (x, y) ≡ Some (v, r)
+      → cond b (reads_on (line beginning depth tag Enumeration x) depth y) (stops_with (typ_part beginning depth tag Enumeration)) ≡ reads_on
+      (line beginning depth tag Enumeration v) depth r
   chosen_value true depth tag x y v r e =
       let k : ◌≡◌ {A = List ℕ × List ℕ} (x, y) (v, r) = cc in
       ap (λ (p : List ℕ × List ℕ). reads_on (line beginning depth tag Enumeration p.0) depth p.1) k
   chosen_value false depth tag x y v r e = absurd cc
 
   -- none was found
-  chosen_none : (b : Bool) (depth tag : ℕ) (x y : List ℕ) → pick b (x, y) ≡ None → cond b (reads_on (line beginning depth tag Enumeration x) depth y) (stops_with (typ_part beginning depth tag Enumeration)) ≡ stops_with (typ_part beginning depth tag Enumeration)
+  chosen_none : (b : Bool) (depth tag : ℕ) (x y : List ℕ) → pick b (x, y) ≡ None → cond b (reads_on (line beginning depth tag Enumeration x) depth y)
+      (stops_with (typ_part beginning depth tag Enumeration)) ≡ stops_with (typ_part beginning depth tag Enumeration)
   chosen_none true depth tag x y e = absurd cc
   chosen_none false depth tag x y e = refl
 
   -- an enumeration
-  pub data_value : (s v r : List ℕ) (depth tag : ℕ) (typ : TtlvType) → typ ≡ Enumeration → length s ≢ 0 → front_value s ≡ Some (v, r) → data_step beginning depth tag typ s ≡ reads_on (line beginning depth tag typ v) depth r
+  pub data_value : (s v r : List ℕ) (depth tag : ℕ) (typ : TtlvType) → typ ≡ Enumeration → length s ≢ 0 → front_value s ≡ Some (v, r)
+      → data_step beginning depth tag typ s ≡ reads_on (line beginning depth tag typ v) depth r
   unfolding front_value
   data_value [] v r depth tag typ is some value = absurd (some refl)
   data_value (c ∷ s) v r depth tag typ is some value = rw is (chosen_value _ depth tag _ _ v r value)
 
   -- an enumeration without a value
-  pub data_no_value : (s : List ℕ) (depth tag : ℕ) (typ : TtlvType) → typ ≡ Enumeration → length s ≢ 0 → front_value s ≡ None → data_step beginning depth tag typ s ≡ stops_with (typ_part beginning depth tag typ)
+  pub data_no_value : (s : List ℕ) (depth tag : ℕ) (typ : TtlvType) → typ ≡ Enumeration → length s ≢ 0 → front_value s ≡ None
+      → data_step beginning depth tag typ s ≡ stops_with (typ_part beginning depth tag typ)
   unfolding front_value
   data_no_value [] depth tag typ is some value = absurd (some refl)
   data_no_value (c ∷ s) depth tag typ is some value = rw is (chosen_none _ depth tag _ _ value)
@@ -58,14 +65,16 @@ module _ (beginning : ℕ → ℕ → List ℕ) where
   pick_none false o t f e same = ap f e
 
   -- a leading tag
-  pub step_tag : (prefix s : List ℕ) (depth tag : ℕ) → tag_in_front prefix s ≡ Some tag → step beginning prefix depth s ≡ letter_step beginning depth tag (drop (prefix_len is_hex s) s)
+  pub step_tag : (prefix s : List ℕ) (depth tag : ℕ) → tag_in_front prefix s ≡ Some tag → step beginning prefix depth s ≡ letter_step beginning depth tag
+      (drop (prefix_len is_hex s) s)
   unfolding step
   step_tag prefix [] depth tag e = absurd cc
   step_tag prefix (c ∷ s) depth tag e =
       pick_some (eqb c 93) _ tag (close_step depth s) (tag_step beginning depth (drop (prefix_len is_hex (c ∷ s)) (c ∷ s))) e
 
   -- no tag, and no close of an open structure
-  pub step_no_tag : (prefix s : List ℕ) (depth : ℕ) → tag_in_front prefix s ≡ None → ((rest : List ℕ) → s ≡ 93 ∷ rest → depth ≡ 0) → step beginning prefix depth s ≡ stops_with []
+  pub step_no_tag : (prefix s : List ℕ) (depth : ℕ) → tag_in_front prefix s ≡ None → ((rest : List ℕ) → s ≡ 93 ∷ rest → depth ≡ 0)
+      → step beginning prefix depth s ≡ stops_with []
   unfolding step
   step_no_tag prefix [] depth e shut = refl
   step_no_tag prefix (c ∷ s) depth e shut =
@@ -73,7 +82,8 @@ module _ (beginning : ℕ → ℕ → List ℕ) where
       (λ h. ap (λ (d : ℕ). close_step d s) (shut s (ap (λ (a : ℕ). a ∷ s) (eqb-true c 93 h))))
 
   -- a letter after the tag
-  pub letter_is : (depth tag : ℕ) (s r : List ℕ) (typ : TtlvType) → front_type s ≡ Some (typ, r) → letter_step beginning depth tag s ≡ data_step beginning depth tag typ r
+  pub letter_is : (depth tag : ℕ) (s r : List ℕ) (typ : TtlvType) → front_type s ≡ Some (typ, r)
+      → letter_step beginning depth tag s ≡ data_step beginning depth tag typ r
   letter_is depth tag [] r typ e = absurd cc
   letter_is depth tag (c ∷ s) r typ e = by (type_of_letter c) e
     where

@@ -1,5 +1,6 @@
 -- Prefixes of tags as numbers.
-use Rattle.std.proofs.Common.{◌≡◌, ◌≢◌, ℕ, zero, suc, ◌+◌, ◌-◌, ◌*◌, ◌/◌, ◌%◌, ◌^◌, ◌<◌, ◌≤◌, List, [], ◌∷◌, ◌++◌, length, drop, refl, sym, ap, ◌∙◌, arith, true, Bool, cond, false, ltb}
+use Rattle.std.proofs.Common.{◌≡◌, ◌≢◌, ℕ, zero, suc, ◌+◌, ◌-◌, ◌*◌, ◌/◌, ◌%◌, ◌^◌, ◌<◌, ◌≤◌, List, [], ◌∷◌, ◌++◌, length, drop, refl, sym, ap, ◌∙◌, arith}
+use Rattle.std.proofs.Common.{true, Bool, cond, false, ltb}
 use Rattle.std.specs.Fmt.{digit_glyph}
 use Rattle.std.proofs.Math.Nat.{pow-suc, mul_assoc, le_refl}
 use Rattle.std.proofs.lemmas.Nat.{pow-add, shr_below, mul-le, div-mul-add}
@@ -18,13 +19,15 @@ six_same a b c d e f g h i j k l p1 p2 p3 p4 p5 p6 = cc
 pub six_last : (n : ℕ) → six_digits n ≡ last_digits 6 n
 unfolding six_digits last_digits
 six_last n =
-    six_same _ _ _ _ _ _ _ _ _ _ _ _ (ap (digit_glyph true) (omega arith)) (ap (digit_glyph true) (omega arith)) (ap (digit_glyph true) (omega arith)) (ap (digit_glyph true) (omega arith)) (ap (digit_glyph true) (omega arith)) (ap (digit_glyph true) (omega arith))
+    six_same _ _ _ _ _ _ _ _ _ _ _ _ (ap (digit_glyph true) (omega arith)) (ap (digit_glyph true) (omega arith)) (ap (digit_glyph true) (omega arith))
+    (ap (digit_glyph true) (omega arith)) (ap (digit_glyph true) (omega arith)) (ap (digit_glyph true) (omega arith))
 
 -- the digits after those that are omitted
 pub behind : (r tag n : ℕ) (text : List ℕ) → r ≤ 6 → n ≡ tag → drop r (six_digits tag) ≡ text → last_digits (6 - r) n ≡ text
 behind r tag n text few is h =
     let back : 6 - (6 - r) ≡ r = omega arith in
-    ap (last_digits (6 - r)) is ∙ sym (last_drop 6 (6 - r) tag (omega arith)) ∙ ap (λ (k : ℕ). drop k (last_digits 6 tag)) back ∙ ap (drop r) (sym (six_last tag)) ∙ h
+    ap (last_digits (6 - r)) is ∙ sym (last_drop 6 (6 - r) tag (omega arith)) ∙ ap (λ (k : ℕ). drop k (last_digits 6 tag)) back
+    ∙ ap (drop r) (sym (six_last tag)) ∙ h
 
 -- equal digits, equal values
 glyph_same : (a b : ℕ) → a < 16 → b < 16 → digit_glyph true a ≡ digit_glyph true b → a ≡ b
@@ -49,11 +52,12 @@ front_same (x ∷ xs) (y ∷ ys) ends more n e =
     (cc, both.1)
 
 -- equal digits, equal numbers
-pub last_one : (k a b : ℕ) → a < 16 ^ k → b < 16 ^ k → last_digits k a ≡ last_digits k b → a ≡ b
+last_one : (k a b : ℕ) → a < 16 ^ k → b < 16 ^ k → last_digits k a ≡ last_digits k b → a ≡ b
 unfolding last_digits
 last_one zero a b ha hb e = omega arith
 last_one (suc k) a b ha hb e =
-    let parts = front_same (last_digits k (a / 16)) (last_digits k (b / 16)) (digit_glyph true (a % 16) ∷ []) (digit_glyph true (b % 16) ∷ []) (last_length k (a / 16) ∙ sym (last_length k (b / 16))) e in
+    let parts = front_same (last_digits k (a / 16)) (last_digits k (b / 16)) (digit_glyph true (a % 16) ∷ []) (digit_glyph true (b % 16) ∷ [])
+    (last_length k (a / 16) ∙ sym (last_length k (b / 16))) e in
     let last : (digit_glyph true (a % 16) ∷ []) ≡ (digit_glyph true (b % 16) ∷ []) = parts.1 in
     let glyph : digit_glyph true (a % 16) ≡ digit_glyph true (b % 16) = cc in
     let ones : a % 16 ≡ b % 16 = glyph_same (a % 16) (b % 16) (omega arith) (omega arith) glyph in
@@ -63,16 +67,19 @@ last_one (suc k) a b ha hb e =
 -- four bits a digit
 four_bits : (k : ℕ) → 2 ^ (4 * k) ≡ 16 ^ k
 four_bits zero = refl
-four_bits (suc k) = let e : 4 * suc k ≡ 4 * k + 4 = omega arith in ap (λ (n : ℕ). 2 ^ n) e ∙ pow-add 2 (4 * k) 4 ∙ ap (λ (n : ℕ). n * 16) (four_bits k) ∙ sym (pow-suc 16 k)
+four_bits (suc k) = let e : 4 * suc k ≡ 4 * k + 4 = omega arith in ap (λ (n : ℕ). 2 ^ n) e ∙ pow-add 2 (4 * k) 4 ∙ ap (λ (n : ℕ). n * 16) (four_bits k)
+    ∙ sym (pow-suc 16 k)
 
-module _ (text : List ℕ) (count number shift tag : ℕ) (few : count ≤ 6) (is : text ≡ last_digits count number) (small : number < 16 ^ count) (bits : shift + 4 * count ≡ 24) (fits : tag < 2 ^ 24) where
+module _ (text : List ℕ) (count number shift tag : ℕ) (few : count ≤ 6) (is : text ≡ last_digits count number) (small : number < 16 ^ count)
+    (bits : shift + 4 * count ≡ 24) (fits : tag < 2 ^ 24) where
   -- the first digits of a tag are those of a quotient
   first_digits : six_digits tag ≡ last_digits count (tag / 2 ^ shift) ++ drop count (six_digits tag)
   first_digits =
       let others : 6 - (6 - count) ≡ count = omega arith in
       let shifts : shift ≡ 4 * (6 - count) = omega arith in
       let power : 16 ^ (6 - count) ≡ 2 ^ shift = sym (ap (λ (n : ℕ). 2 ^ n) shifts ∙ four_bits (6 - count)) in
-      let end : last_digits (6 - count) tag ≡ drop count (six_digits tag) = sym (last_drop 6 (6 - count) tag (omega arith)) ∙ ap (λ (n : ℕ). drop n (last_digits 6 tag)) others ∙ ap (drop count) (sym (six_last tag)) in
+      let end : last_digits (6 - count) tag ≡ drop count (six_digits tag) = sym (last_drop 6 (6 - count) tag (omega arith))
+      ∙ ap (λ (n : ℕ). drop n (last_digits 6 tag)) others ∙ ap (drop count) (sym (six_last tag)) in
       six_last tag ∙ last_split 6 (6 - count) tag (omega arith) ∙ ap (λ (n : ℕ). last_digits n (tag / 16 ^ (6 - count)) ++ last_digits (6 - count) tag) others
       ∙ ap (λ (n : ℕ). last_digits count (tag / n) ++ last_digits (6 - count) tag) power ∙ ap (λ (s : List ℕ). last_digits count (tag / 2 ^ shift) ++ s) end
 
@@ -86,7 +93,8 @@ module _ (text : List ℕ) (count number shift tag : ℕ) (few : count ≤ 6) (i
   pub left_nothing : tag / 2 ^ shift ≢ number → six_digits tag ≡ stripped text (six_digits tag)
   left_nothing ne =
       stripped_none text (six_digits tag) (λ rest e.
-      let sizes : length (last_digits count (tag / 2 ^ shift)) ≡ length text = last_length count (tag / 2 ^ shift) ∙ sym (ap length is ∙ last_length count number) in
+      let sizes : length (last_digits count (tag / 2 ^ shift)) ≡ length text = last_length count (tag / 2 ^ shift)
+      ∙ sym (ap length is ∙ last_length count number) in
       let same = (front_same (last_digits count (tag / 2 ^ shift)) text (drop count (six_digits tag)) rest sizes (sym first_digits ∙ e)).0 in
       ne (last_one count (tag / 2 ^ shift) number below small (same ∙ is)))
     where
@@ -106,15 +114,18 @@ last_add (suc k) a b =
     let e : a * 16 ^ suc k ≡ (a * 16 ^ k) * 16 = ap (λ (n : ℕ). a * n) (pow-suc 16 k) ∙ sym (mul_assoc a (16 ^ k) 16) in
     let front : (a * 16 ^ suc k + b) / 16 ≡ a * 16 ^ k + b / 16 = omega (arith, e) in
     let end : (a * 16 ^ suc k + b) % 16 ≡ b % 16 = omega (arith, e) in
-    ap (λ (n : ℕ). last_digits k n ++ (digit_glyph true ((a * 16 ^ suc k + b) % 16) ∷ [])) front ∙ ap (λ (s : List ℕ). s ++ (digit_glyph true ((a * 16 ^ suc k + b) % 16) ∷ [])) (last_add k a (b / 16))
+    ap (λ (n : ℕ). last_digits k n ++ (digit_glyph true ((a * 16 ^ suc k + b) % 16) ∷ [])) front
+    ∙ ap (λ (s : List ℕ). s ++ (digit_glyph true ((a * 16 ^ suc k + b) % 16) ∷ [])) (last_add k a (b / 16))
     ∙ ap (λ (d : ℕ). last_digits k (b / 16) ++ (digit_glyph true d ∷ [])) end
 
 -- the tag made of a prefix's digits and others
-module _ (text : List ℕ) (count number others low : ℕ) (six : count + others ≡ 6) (is : text ≡ last_digits count number) (small : number < 16 ^ count) (few : low < 16 ^ others) where
+module _ (text : List ℕ) (count number others low : ℕ) (six : count + others ≡ 6) (is : text ≡ last_digits count number) (small : number < 16 ^ count)
+    (few : low < 16 ^ others) where
   -- it has three bytes
   pub joined_fits : number * 2 ^ (4 * others) + low < 2 ^ 24
   joined_fits =
-      let bound : suc number * 16 ^ others ≤ 16 ^ count * 16 ^ others = mul-le (suc number) (16 ^ others) (16 ^ count) (16 ^ others) small (le_refl (16 ^ others)) in
+      let bound : suc number * 16 ^ others ≤ 16 ^ count * 16 ^ others = mul-le (suc number) (16 ^ others) (16 ^ count) (16 ^ others) small
+      (le_refl (16 ^ others)) in
       let all : 16 ^ count * 16 ^ others ≡ 16 ^ 6 = sym (pow-add 16 count others) ∙ ap (λ (n : ℕ). 16 ^ n) six in
       let bits : number * 2 ^ (4 * others) ≡ number * 16 ^ others = ap (λ (n : ℕ). number * n) (four_bits others) in
       omega (arith, bound, all, bits, few)
@@ -125,5 +136,6 @@ module _ (text : List ℕ) (count number others low : ℕ) (six : count + others
       let t = number * 16 ^ others + low in
       let left : 6 - others ≡ count = omega arith in
       ap (λ (s : List ℕ). s ++ last_digits others low) is ∙ ap (λ (s : List ℕ). last_digits count number ++ s) (sym (last_add others number low))
-      ∙ ap (λ (n : ℕ). last_digits count n ++ last_digits others t) (sym (div-mul-add number (16 ^ others) low few)) ∙ ap (λ (k : ℕ). last_digits k (t / 16 ^ others) ++ last_digits others t) (sym left)
+      ∙ ap (λ (n : ℕ). last_digits count n ++ last_digits others t) (sym (div-mul-add number (16 ^ others) low few))
+      ∙ ap (λ (k : ℕ). last_digits k (t / 16 ^ others) ++ last_digits others t) (sym left)
       ∙ sym (last_split 6 others t (omega arith)) ∙ sym (six_last t) ∙ ap (λ (n : ℕ). six_digits (number * n + low)) (sym (four_bits others))

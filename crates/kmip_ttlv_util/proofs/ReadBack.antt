@@ -1,5 +1,6 @@
 -- A diagnostic is read back as its outline's lines.
-use Rattle.std.proofs.Common.{◌≡◌, ◌≢◌, ℕ, zero, suc, ◌+◌, ◌/◌, ◌%◌, ◌<◌, ◌≤◌, ◌^◌, Bool, true, false, not, ◌&&◌, cond, eqb, ltb, List, [], ◌∷◌, ◌++◌, length, take, drop, Option, Some, None, refl, sym, ap, subst, ◌∙◌, arith, append_assoc, append-nil, length-append}
+use Rattle.std.proofs.Common.{◌≡◌, ◌≢◌, ℕ, zero, suc, ◌+◌, ◌/◌, ◌%◌, ◌<◌, ◌≤◌, ◌^◌, Bool, true, false, not, ◌&&◌, cond, eqb, ltb, List, [], ◌∷◌, ◌++◌, length}
+use Rattle.std.proofs.Common.{take, drop, Option, Some, None, refl, sym, ap, subst, ◌∙◌, arith, append_assoc, append-nil, length-append}
 use Rattle.std.specs.List.{AllByRecursion, prefix_len, position_or_len}
 use Rattle.std.proofs.Common.{◌⊎◌, inl, inr}
 use Rattle.std.specs.Prelude.{option_and_then}
@@ -10,10 +11,12 @@ use Rattle.std.proofs.lemmas.Fmt.{digits_is_IsNumeral}
 use Rattle.std.proofs.lemmas.Bool.{ltb-true, ltb-false, lt-ltb, le-ltb, le-leb, lt-leb, ne_eqb, and_right}
 use Rattle.std.proofs.lemmas.List.{take_at, drop_at}
 use Rattle.kmip_ttlv_types.specs.declared.typ.TtlvType.{TtlvType}
-use Rattle.kmip_ttlv_types.specs.declared.typ.TtlvType.TheVariants.{Structure, Integer, LongInteger, BigInteger, Enumeration, Boolean, TextString, ByteString, DateTime, Interval}
+use Rattle.kmip_ttlv_types.specs.declared.typ.TtlvType.TheVariants.{Structure, Integer, LongInteger, BigInteger, Enumeration, Boolean, TextString, ByteString}
+use Rattle.kmip_ttlv_types.specs.declared.typ.TtlvType.TheVariants.{DateTime, Interval}
 use Rattle.kmip_ttlv_types.specs.Names.{tag_of, number, numeral, without_0x, all_digits, below_tag_limit}
 use Rattle.kmip_ttlv_types.specs.Digits.{six_digits}
-use Rattle.kmip_ttlv_util.specs.Outlines.{Outline, Outlines, leaf_outline, node_outline, no_outlines, outline, IsShown, IsOutline, AreOutlines, hex_upper, stripped, value_text, mark, diag, diag_all}
+use Rattle.kmip_ttlv_util.specs.Outlines.{Outline, Outlines, leaf_outline, node_outline, no_outlines, outline, IsShown, IsOutline, AreOutlines, hex_upper}
+use Rattle.kmip_ttlv_util.specs.Outlines.{stripped, value_text, mark, diag, diag_all}
 use Rattle.kmip_ttlv_util.specs.Letters.{letter}
 use Rattle.kmip_ttlv_util.specs.Letters.{is_hex, type_of_letter}
 use Rattle.kmip_ttlv_util.specs.Undiag.{reads_on, value_step, data_step, tag_step, digits_step, step, undiag_from, undiag_lines}
@@ -41,7 +44,9 @@ module _ (beginning : ℕ → ℕ → List ℕ) where
     where
       by : (b : Bool) → ltb d 10 ≡ b → digit_value (cond b (48 + d) (55 + d)) ≡ d
       by true e = let lt : d < 10 = ltb-true d 10 e in rw (le-ltb (48 + d) 48 (omega arith), lt-ltb (48 + d) 58 (omega arith)) (omega arith)
-      by false e = let le : 10 ≤ d = ltb-false d 10 e in rw (le-ltb (55 + d) 48 (omega arith), le-ltb (55 + d) 58 (omega arith), le-ltb (55 + d) 65 (omega arith), lt-ltb (55 + d) 91 (omega arith)) (omega arith)
+      by false e = let le : 10 ≤ d = ltb-false d 10 e in
+          rw (le-ltb (55 + d) 48 (omega arith), le-ltb (55 + d) 58 (omega arith), le-ltb (55 + d) 65 (omega arith), lt-ltb (55 + d) 91 (omega arith))
+          (omega arith)
 
   -- a digit is not below `0`
   glyph_low : (d : ℕ) → d < 16 → 48 ≤ digit_glyph true d
@@ -57,7 +62,8 @@ module _ (beginning : ℕ → ℕ → List ℕ) where
     where
       by : (b : Bool) → ltb d 10 ≡ b → is_hex (cond b (48 + d) (55 + d)) ≡ true
       by true e = let lt : d < 10 = ltb-true d 10 e in rw (le-leb 48 (48 + d) (omega arith), le-leb (48 + d) 57 (omega arith)) refl
-      by false e = let le : 10 ≤ d = ltb-false d 10 e in rw (le-leb 48 (55 + d) (omega arith), lt-leb (55 + d) 57 (omega arith), le-leb 65 (55 + d) (omega arith), le-leb (55 + d) 70 (omega arith)) refl
+      by false e = let le : 10 ≤ d = ltb-false d 10 e in
+          rw (le-leb 48 (55 + d) (omega arith), lt-leb (55 + d) 57 (omega arith), le-leb 65 (55 + d) (omega arith), le-leb (55 + d) 70 (omega arith)) refl
 
   abbrev AllHex : List ℕ → Type 0
   AllHex ds = AllByRecursion (λ d. is_hex d ≡ true) ds
@@ -65,12 +71,29 @@ module _ (beginning : ℕ → ℕ → List ℕ) where
   -- six digits are hexadecimal
   six_hex : (n : ℕ) → AllHex (six_digits n)
   unfolding six_digits
-  six_hex n = (glyph_hex (n / 1048576 % 16) (omega arith), (glyph_hex (n / 65536 % 16) (omega arith), (glyph_hex (n / 4096 % 16) (omega arith), (glyph_hex (n / 256 % 16) (omega arith), (glyph_hex (n / 16 % 16) (omega arith), (glyph_hex (n % 16) (omega arith), tt))))))
+  six_hex n = (
+    glyph_hex (n / 1048576 % 16) (omega arith),
+    (
+      glyph_hex (n / 65536 % 16) (omega arith),
+      (
+        glyph_hex (n / 4096 % 16) (omega arith),
+        (glyph_hex (n / 256 % 16) (omega arith), (glyph_hex (n / 16 % 16) (omega arith), (glyph_hex (n % 16) (omega arith), tt))),
+      ),
+    ),
+  )
 
   -- six digits are the tag
   six_value : (n : ℕ) → n < 2 ^ 24 → digits_value 16 (six_digits n) ≡ n
   unfolding six_digits
-  six_value n small = rw (glyph_value (n / 1048576 % 16) (omega arith), glyph_value (n / 65536 % 16) (omega arith), glyph_value (n / 4096 % 16) (omega arith), glyph_value (n / 256 % 16) (omega arith), glyph_value (n / 16 % 16) (omega arith), glyph_value (n % 16) (omega arith)) (omega (arith, step_1 n, step_2 n, step_3 n, step_4 n, step_5 n, step_6 n small))
+  six_value n small = rw (
+    glyph_value (n / 1048576 % 16) (omega arith),
+    glyph_value (n / 65536 % 16) (omega arith),
+    glyph_value (n / 4096 % 16) (omega arith),
+    glyph_value (n / 256 % 16) (omega arith),
+    glyph_value (n / 16 % 16) (omega arith),
+    glyph_value (n % 16) (omega arith),
+  )
+      (omega (arith, step_1 n, step_2 n, step_3 n, step_4 n, step_5 n, step_6 n small))
 
   -- a digit's value is below sixteen
   glyph_is : (d : ℕ) → d < 16 → is_digit (digit_glyph true d) 16 ≡ true
@@ -83,14 +106,17 @@ module _ (beginning : ℕ → ℕ → List ℕ) where
   -- six digits' values are
   six_all_digits : (n : ℕ) → all_digits 16 (six_digits n) ≡ true
   unfolding six_digits
-  six_all_digits n = both_true _ _ (glyph_is (n / 1048576 % 16) (omega arith)) (both_true _ _ (glyph_is (n / 65536 % 16) (omega arith)) (both_true _ _ (glyph_is (n / 4096 % 16) (omega arith)) (both_true _ _ (glyph_is (n / 256 % 16) (omega arith)) (both_true _ _ (glyph_is (n / 16 % 16) (omega arith)) (both_true _ _ (glyph_is (n % 16) (omega arith)) refl)))))
+  six_all_digits n = both_true _ _ (glyph_is (n / 1048576 % 16) (omega arith)) (both_true _ _ (glyph_is (n / 65536 % 16) (omega arith))
+      (both_true _ _ (glyph_is (n / 4096 % 16) (omega arith)) (both_true _ _ (glyph_is (n / 256 % 16) (omega arith))
+      (both_true _ _ (glyph_is (n / 16 % 16) (omega arith)) (both_true _ _ (glyph_is (n % 16) (omega arith)) refl)))))
 
   -- digits are a numeral
   numeral_is : (ds : List ℕ) (n : ℕ) → 0 < length ds → all_digits 16 ds ≡ true → digits_value 16 ds ≡ n → n < 2 ^ 24 → numeral ds ≡ Some n
   numeral_is ds n some all is small = rw (lt-ltb 0 (length ds) some, all, is, lt-ltb n (2 ^ 32) (omega arith)) refl
 
   -- digits are the name of a tag
-  named : (a b n : ℕ) (ds : List ℕ) → a ≢ 43 → b ≢ 120 → all_digits 16 (a ∷ b ∷ ds) ≡ true → digits_value 16 (a ∷ b ∷ ds) ≡ n → n < 2 ^ 24 → tag_of (48 ∷ 120 ∷ a ∷ b ∷ ds) ≡ Some n
+  named : (a b n : ℕ) (ds : List ℕ) → a ≢ 43 → b ≢ 120 → all_digits 16 (a ∷ b ∷ ds) ≡ true → digits_value 16 (a ∷ b ∷ ds) ≡ n → n < 2 ^ 24
+      → tag_of (48 ∷ 120 ∷ a ∷ b ∷ ds) ≡ Some n
   unfolding tag_of number
   named a b n ds plus x all is small =
       let plain : without_0x (a ∷ b ∷ ds) ≡ a ∷ b ∷ ds = rw (ne_eqb b 120 x, and_right (eqb a 48) false refl) refl in
@@ -116,7 +142,9 @@ module _ (beginning : ℕ → ℕ → List ℕ) where
   -- six digits are the name of their tag
   pub six_tag : (n : ℕ) → n < 2 ^ 24 → tag_of (48 ∷ 120 ∷ six_digits n) ≡ Some n
   unfolding six_digits
-  six_tag n small = named (digit_glyph true (n / 1048576 % 16)) (digit_glyph true (n / 65536 % 16)) n _ (glyph_ne (n / 1048576 % 16) 43 (omega arith) (inl (omega arith))) (glyph_ne (n / 65536 % 16) 120 (omega arith) (inr (omega arith))) (six_all_digits n) (six_value n small) small
+  six_tag n small = named (digit_glyph true (n / 1048576 % 16)) (digit_glyph true (n / 65536 % 16)) n _
+      (glyph_ne (n / 1048576 % 16) 43 (omega arith) (inl (omega arith))) (glyph_ne (n / 65536 % 16) 120 (omega arith) (inr (omega arith))) (six_all_digits n)
+      (six_value n small) small
 
   -- ---- one part
 
@@ -125,12 +153,14 @@ module _ (beginning : ℕ → ℕ → List ℕ) where
   hex_ne d h e = let k : is_hex 93 ≡ true = ap is_hex (sym e) ∙ h in cc
 
   -- a step over digits and a letter
-  step_digits : (prefix : List ℕ) (depth : ℕ) (ds s : List ℕ) (c : ℕ) → AllHex ds → is_hex c ≡ false → c ≢ 93 → step beginning prefix depth (ds ++ (c ∷ s)) ≡ tag_step beginning depth (c ∷ s) (tag_of (48 ∷ 120 ∷ (prefix ++ ds)))
+  step_digits : (prefix : List ℕ) (depth : ℕ) (ds s : List ℕ) (c : ℕ) → AllHex ds → is_hex c ≡ false → c ≢ 93
+      → step beginning prefix depth (ds ++ (c ∷ s)) ≡ tag_step beginning depth (c ∷ s) (tag_of (48 ∷ 120 ∷ (prefix ++ ds)))
   unfolding step
   step_digits prefix depth [] s c all none ne = rw (ne_eqb c 93 ne, none) refl
   step_digits prefix depth (d ∷ ds) s c all none ne =
       rw (ne_eqb d 93 (hex_ne d all.0)) (ap (digits_step beginning prefix depth (d ∷ (ds ++ (c ∷ s)))) (span is_hex (d ∷ ds) s c all none)
-      ∙ ap (λ (r : List ℕ). tag_step beginning depth r (tag_of (48 ∷ 120 ∷ (prefix ++ take (length (d ∷ ds)) ((d ∷ ds) ++ (c ∷ s)))))) (drop_at (d ∷ ds) (c ∷ s) (length (d ∷ ds)) refl)
+      ∙ ap (λ (r : List ℕ). tag_step beginning depth r (tag_of (48 ∷ 120 ∷ (prefix ++ take (length (d ∷ ds)) ((d ∷ ds) ++ (c ∷ s))))))
+      (drop_at (d ∷ ds) (c ∷ s) (length (d ∷ ds)) refl)
       ∙ ap (λ (r : List ℕ). tag_step beginning depth (c ∷ s) (tag_of (48 ∷ 120 ∷ (prefix ++ r)))) (take_at (d ∷ ds) (c ∷ s) (length (d ∷ ds)) refl))
 
   -- a letter's type
@@ -178,12 +208,15 @@ module _ (beginning : ℕ → ℕ → List ℕ) where
   all_right (x ∷ xs) ys all = all_right xs ys all.1
 
   -- a step over a mark
-  mark_step : (prefix : List ℕ) (depth tag : ℕ) (typ : TtlvType) (v : Option ℕ) (s : List ℕ) → tag < 2 ^ 24 → Starts prefix tag → step beginning prefix depth (mark prefix tag typ v ++ s) ≡ data_step beginning depth tag typ (value_text v ++ s)
+  mark_step : (prefix : List ℕ) (depth tag : ℕ) (typ : TtlvType) (v : Option ℕ) (s : List ℕ) → tag < 2 ^ 24 → Starts prefix tag
+      → step beginning prefix depth (mark prefix tag typ v ++ s) ≡ data_step beginning depth tag typ (value_text v ++ s)
   unfolding mark
   mark_step prefix depth tag typ v s small st =
       let all : AllHex st.rest = all_right prefix st.rest (subst AllHex st.is (six_hex tag)) in
       let out = letter_no typ in
-      let regroup : (stripped prefix (six_digits tag) ++ (letter typ ∷ value_text v)) ++ s ≡ st.rest ++ (letter typ ∷ (value_text v ++ s)) = append_assoc (stripped prefix (six_digits tag)) (letter typ ∷ value_text v) s ∙ ap (λ (ds : List ℕ). ds ++ (letter typ ∷ (value_text v ++ s))) st.cut in
+      let regroup : (stripped prefix (six_digits tag) ++ (letter typ ∷ value_text v)) ++ s ≡ st.rest ++ (letter typ ∷ (value_text v ++ s)) =
+      append_assoc (stripped prefix (six_digits tag)) (letter typ ∷ value_text v) s
+      ∙ ap (λ (ds : List ℕ). ds ++ (letter typ ∷ (value_text v ++ s))) st.cut in
       ap (step beginning prefix depth) regroup ∙ step_digits prefix depth st.rest (value_text v ++ s) (letter typ) all out.0 out.1
       ∙ ap (λ (ds : List ℕ). tag_step beginning depth (letter typ ∷ (value_text v ++ s)) (tag_of (48 ∷ 120 ∷ ds))) (sym st.is)
       ∙ ap (tag_step beginning depth (letter typ ∷ (value_text v ++ s))) (six_tag tag small)
@@ -195,17 +228,20 @@ module _ (beginning : ℕ → ℕ → List ℕ) where
   not_colon (d ∷ ds) all = (rw (ne_eqb d 58 all.0.1) refl, not_colon ds all.1)
 
   -- a value that was found
-  chosen : (depth tag : ℕ) (xs : List ℕ) (n : ℕ) (ds s : List ℕ) → ltb 0 n ≡ true → ltb n (length xs) ≡ true → take n xs ≡ ds → drop (n + 1) xs ≡ s → value_step beginning depth tag xs n ≡ reads_on (line beginning depth tag Enumeration ds) depth s
+  chosen : (depth tag : ℕ) (xs : List ℕ) (n : ℕ) (ds s : List ℕ) → ltb 0 n ≡ true → ltb n (length xs) ≡ true → take n xs ≡ ds → drop (n + 1) xs ≡ s
+      → value_step beginning depth tag xs n ≡ reads_on (line beginning depth tag Enumeration ds) depth s
   chosen depth tag xs n ds s a b front back = rw (a, b, front, back) refl
 
   -- a step over an enumeration's value
-  value_back : (depth tag : ℕ) (ds s : List ℕ) → 0 < length ds → AllDigits ds → data_step beginning depth tag Enumeration ((ds ++ (58 ∷ [])) ++ s) ≡ reads_on (line beginning depth tag Enumeration ds) depth s
+  value_back : (depth tag : ℕ) (ds s : List ℕ) → 0 < length ds → AllDigits ds → data_step beginning depth tag Enumeration ((ds ++ (58 ∷ [])) ++ s) ≡ reads_on
+      (line beginning depth tag Enumeration ds) depth s
   value_back depth tag [] s some all = absurd (omega arith)
   value_back depth tag (d ∷ ds) s some all =
       let xs = (d ∷ ds) ++ (58 ∷ s) in
       let at : position_or_len (λ b. eqb b 58) xs ≡ length (d ∷ ds) = span (λ b. not (eqb b 58)) (d ∷ ds) s 58 (not_colon (d ∷ ds) all) refl in
       let front : take (length (d ∷ ds)) xs ≡ d ∷ ds = take_at (d ∷ ds) (58 ∷ s) (length (d ∷ ds)) refl in
-      let back : drop (length (d ∷ ds) + 1) xs ≡ s = ap (drop (length (d ∷ ds) + 1)) (sym (append_assoc (d ∷ ds) (58 ∷ []) s)) ∙ drop_at ((d ∷ ds) ++ (58 ∷ [])) s (length (d ∷ ds) + 1) (length-append (d ∷ ds) (58 ∷ [])) in
+      let back : drop (length (d ∷ ds) + 1) xs ≡ s = ap (drop (length (d ∷ ds) + 1)) (sym (append_assoc (d ∷ ds) (58 ∷ []) s))
+      ∙ drop_at ((d ∷ ds) ++ (58 ∷ [])) s (length (d ∷ ds) + 1) (length-append (d ∷ ds) (58 ∷ [])) in
       let a : ltb 0 (length (d ∷ ds)) ≡ true = lt-ltb 0 (length (d ∷ ds)) some in
       let b : ltb (length (d ∷ ds)) (length xs) ≡ true = lt-ltb (length (d ∷ ds)) (length xs) (omega (arith, length-append (d ∷ ds) (58 ∷ s))) in
       ap (data_step beginning depth tag Enumeration) (append_assoc (d ∷ ds) (58 ∷ []) s)
@@ -224,7 +260,8 @@ module _ (beginning : ℕ → ℕ → List ℕ) where
     parts_all (outline o os) f = parts o (parts_all os f)
 
   -- a step over a leaf
-  leaf_data : (depth tag : ℕ) (typ : TtlvType) (v : Option ℕ) (c : ℕ) (s : List ℕ) → IsShown typ v → data_step beginning depth tag typ (value_text v ++ (c ∷ s)) ≡ reads_on (line beginning depth tag typ (shown typ v)) depth (c ∷ s)
+  leaf_data : (depth tag : ℕ) (typ : TtlvType) (v : Option ℕ) (c : ℕ) (s : List ℕ) → IsShown typ v → data_step beginning depth tag typ (value_text v ++ (c ∷ s))
+      ≡ reads_on (line beginning depth tag typ (shown typ v)) depth (c ∷ s)
   leaf_data depth tag Structure v c s k = absurd k
   leaf_data depth tag Enumeration None c s k = absurd k
   leaf_data depth tag Enumeration (Some n) c s k = value_back depth tag (hex_upper n) (c ∷ s) (hex_some n k) (hex_digits n)
@@ -246,7 +283,8 @@ module _ (beginning : ℕ → ℕ → List ℕ) where
   leaf_data depth tag Interval (Some n) c s k = absurd k
 
   -- a part and the rest
-  undiag_goes : (f : ℕ) (prefix : List ℕ) (depth : ℕ) (s w : List ℕ) (d : ℕ) (r : List ℕ) → step beginning prefix depth s ≡ reads_on w d r → undiag_from beginning (suc f) prefix depth s ≡ w ++ undiag_from beginning f prefix d r
+  undiag_goes : (f : ℕ) (prefix : List ℕ) (depth : ℕ) (s w : List ℕ) (d : ℕ) (r : List ℕ) → step beginning prefix depth s ≡ reads_on w d r
+      → undiag_from beginning (suc f) prefix depth s ≡ w ++ undiag_from beginning f prefix d r
   unfolding undiag_from
   undiag_goes f prefix depth s w d r e = rw e refl
 
@@ -256,23 +294,28 @@ module _ (beginning : ℕ → ℕ → List ℕ) where
   close_goes prefix depth s = refl
 
   -- an opening goes down a level
-  open_goes : (prefix : List ℕ) (depth tag : ℕ) (s : List ℕ) → 0 < length s → tag < 2 ^ 24 → Starts prefix tag → step beginning prefix depth (mark prefix tag Structure None ++ s) ≡ reads_on (line beginning depth tag Structure []) (suc depth) s
+  open_goes : (prefix : List ℕ) (depth tag : ℕ) (s : List ℕ) → 0 < length s → tag < 2 ^ 24 → Starts prefix tag
+      → step beginning prefix depth (mark prefix tag Structure None ++ s) ≡ reads_on (line beginning depth tag Structure []) (suc depth) s
   open_goes prefix depth tag [] some small st = absurd (omega arith)
   open_goes prefix depth tag (c ∷ s) some small st = mark_step prefix depth tag Structure None (c ∷ s) small st
 
   -- a leaf stays on its level
-  leaf_goes : (prefix : List ℕ) (depth tag : ℕ) (typ : TtlvType) (v : Option ℕ) (s : List ℕ) → 0 < length s → tag < 2 ^ 24 → Starts prefix tag → IsShown typ v → step beginning prefix depth (mark prefix tag typ v ++ s) ≡ reads_on (line beginning depth tag typ (shown typ v)) depth s
+  leaf_goes : (prefix : List ℕ) (depth tag : ℕ) (typ : TtlvType) (v : Option ℕ) (s : List ℕ) → 0 < length s → tag < 2 ^ 24 → Starts prefix tag → IsShown typ v
+      → step beginning prefix depth (mark prefix tag typ v ++ s) ≡ reads_on (line beginning depth tag typ (shown typ v)) depth s
   leaf_goes prefix depth tag typ v [] some small st k = absurd (omega arith)
   leaf_goes prefix depth tag typ v (c ∷ s) some small st k = mark_step prefix depth tag typ v (c ∷ s) small st ∙ leaf_data depth tag typ v c s k
 
   -- a structure, from what its content gives
   node_back : (tag : ℕ) (below : Outlines) (prefix : List ℕ) (depth f : ℕ) (s : List ℕ) → tag < 2 ^ 24 → Starts prefix tag
-      → undiag_from beginning (parts_all below (suc f)) prefix (suc depth) (diag_all prefix below ++ (93 ∷ s)) ≡ lines_all beginning (suc depth) below ++ undiag_from beginning (suc f) prefix (suc depth) (93 ∷ s)
-      → undiag_from beginning (parts (node_outline tag below) f) prefix depth (diag prefix (node_outline tag below) ++ s) ≡ lines beginning depth (node_outline tag below) ++ undiag_from beginning f prefix depth s
+      → undiag_from beginning (parts_all below (suc f)) prefix (suc depth) (diag_all prefix below ++ (93 ∷ s)) ≡ lines_all beginning (suc depth) below
+      ++ undiag_from beginning (suc f) prefix (suc depth) (93 ∷ s)
+      → undiag_from beginning (parts (node_outline tag below) f) prefix depth (diag prefix (node_outline tag below) ++ s) ≡ lines beginning depth
+      (node_outline tag below) ++ undiag_from beginning f prefix depth s
   node_back tag below prefix depth f s small st second =
       let rest = diag_all prefix below ++ (93 ∷ s) in
       let regroup : diag prefix (node_outline tag below) ++ s ≡ mark prefix tag Structure None ++ rest = simp append_assoc in
-      let first = undiag_goes (parts_all below (suc f)) prefix depth (mark prefix tag Structure None ++ rest) (line beginning depth tag Structure []) (suc depth) rest (open_goes prefix depth tag rest (omega (arith, length-append (diag_all prefix below) (93 ∷ s))) small st) in
+      let first = undiag_goes (parts_all below (suc f)) prefix depth (mark prefix tag Structure None ++ rest) (line beginning depth tag Structure [])
+      (suc depth) rest (open_goes prefix depth tag rest (omega (arith, length-append (diag_all prefix below) (93 ∷ s))) small st) in
       let third = undiag_goes f prefix (suc depth) (93 ∷ s) [] depth s (close_goes prefix depth s) in
       ap (undiag_from beginning (parts (node_outline tag below) f) prefix depth) regroup ∙ first
       ∙ ap (λ (r : List ℕ). line beginning depth tag Structure [] ++ r) (second ∙ ap (λ (r : List ℕ). lines_all beginning (suc depth) below ++ r) third)
@@ -282,7 +325,8 @@ module _ (beginning : ℕ → ℕ → List ℕ) where
     read_back : (o : Outline) (prefix : List ℕ) (depth f : ℕ) (s : List ℕ) → 0 < length s → IsOutline o → AllBegin prefix o
         → undiag_from beginning (parts o f) prefix depth (diag prefix o ++ s) ≡ lines beginning depth o ++ undiag_from beginning f prefix depth s
     read_back (leaf_outline tag typ v) prefix depth f s some io st =
-        undiag_goes f prefix depth (mark prefix tag typ v ++ s) (line beginning depth tag typ (shown typ v)) depth s (leaf_goes prefix depth tag typ v s some io.0 (starts prefix tag st) io.1)
+        undiag_goes f prefix depth (mark prefix tag typ v ++ s) (line beginning depth tag typ (shown typ v)) depth s
+        (leaf_goes prefix depth tag typ v s some io.0 (starts prefix tag st) io.1)
     read_back (node_outline tag below) prefix depth f s some io st =
         node_back tag below prefix depth f s io.0 (starts prefix tag st.0) (backs below prefix (suc depth) (suc f) (93 ∷ s) (omega arith) io.1 st.1)
 
@@ -303,7 +347,8 @@ module _ (beginning : ℕ → ℕ → List ℕ) where
   undiag_end (suc f) prefix = refl
 
   -- the lines of a whole message, before trimming
-  pub read_message : (tag : ℕ) (below : Outlines) (prefix : List ℕ) (f : ℕ) → IsOutline (node_outline tag below) → AllBegin prefix (node_outline tag below) → undiag_from beginning (parts (node_outline tag below) f) prefix 0 (diag prefix (node_outline tag below)) ≡ lines beginning 0 (node_outline tag below)
+  pub read_message : (tag : ℕ) (below : Outlines) (prefix : List ℕ) (f : ℕ) → IsOutline (node_outline tag below) → AllBegin prefix (node_outline tag below)
+      → undiag_from beginning (parts (node_outline tag below) f) prefix 0 (diag prefix (node_outline tag below)) ≡ lines beginning 0 (node_outline tag below)
   read_message tag below prefix f io st =
       ap (undiag_from beginning (parts (node_outline tag below) f) prefix 0) (sym (append-nil (diag prefix (node_outline tag below))))
       ∙ node_back tag below prefix 0 f [] io.0 (starts prefix tag st.0) (backs below prefix 1 (suc f) (93 ∷ []) (omega arith) io.1 st.1)
@@ -322,8 +367,13 @@ module _ (beginning : ℕ → ℕ → List ℕ) where
     enough : g ≤ left + n
 
   -- the length of a structure's diagnostic
-  node_size : (prefix : List ℕ) (tag : ℕ) (below : Outlines) → length (diag prefix (node_outline tag below)) ≡ length (mark prefix tag Structure None) + length (diag_all prefix below) + 1
-  node_size prefix tag below = omega (arith, length-append (mark prefix tag Structure None) (diag_all prefix below ++ (93 ∷ [])), length-append (diag_all prefix below) (93 ∷ []))
+  node_size : (prefix : List ℕ) (tag : ℕ) (below : Outlines) → length (diag prefix (node_outline tag below)) ≡ length (mark prefix tag Structure None) + length
+      (diag_all prefix below) + 1
+  node_size prefix tag below = omega (
+    arith,
+    length-append (mark prefix tag Structure None) (diag_all prefix below ++ (93 ∷ [])),
+    length-append (diag_all prefix below) (93 ∷ []),
+  )
 
   -- a number that is not zero
   one_less : (n k : ℕ) → 1 ≤ n → (m : ℕ) × (n ≡ suc m)
@@ -338,7 +388,12 @@ module _ (beginning : ℕ → ℕ → List ℕ) where
     turns prefix (node_outline tag below) (suc g) le =
         let k = turns_all prefix below g (omega (arith, node_size prefix tag below, mark_some prefix tag Structure None)) in
         let l = one_less k.left 0 (omega (arith, k.enough, node_size prefix tag below, mark_some prefix tag Structure None)) in
-        record { left = l.0; is = ap suc (k.is ∙ ap (parts_all below) l.1); enough = omega (arith, k.enough, l.1, node_size prefix tag below, mark_some prefix tag Structure None) }
+        record {
+          left = l.0;
+          is = ap suc (k.is ∙ ap (parts_all below) l.1);
+          enough =
+              omega (arith, k.enough, l.1, node_size prefix tag below, mark_some prefix tag Structure None);
+        }
 
     turns_all : (prefix : List ℕ) (os : Outlines) (g : ℕ) → length (diag_all prefix os) ≤ g → Turns g (length (diag_all prefix os)) (parts_all os)
     turns_all prefix no_outlines g le = record { left = g; is = refl; enough = omega arith }
@@ -349,7 +404,8 @@ module _ (beginning : ℕ → ℕ → List ℕ) where
         record { left = b.left; is = a.is ∙ ap (parts o) b.is; enough = omega (arith, a.enough, b.enough, size) }
 
   -- a message's diagnostic is read back as its outline's lines
-  pub undiag_message : (tag : ℕ) (below : Outlines) (prefix : List ℕ) → IsOutline (node_outline tag below) → AllBegin prefix (node_outline tag below) → undiag_lines beginning prefix (diag prefix (node_outline tag below)) ≡ lines beginning 0 (node_outline tag below)
+  pub undiag_message : (tag : ℕ) (below : Outlines) (prefix : List ℕ) → IsOutline (node_outline tag below) → AllBegin prefix (node_outline tag below)
+      → undiag_lines beginning prefix (diag prefix (node_outline tag below)) ≡ lines beginning 0 (node_outline tag below)
   unfolding undiag_lines
   undiag_message tag below prefix io st =
       let k = turns prefix (node_outline tag below) (suc (length (diag prefix (node_outline tag below)))) (omega arith) in

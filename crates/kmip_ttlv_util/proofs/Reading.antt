@@ -1,12 +1,15 @@
 -- The loop that reads a diagnostic.
-use Rattle.std.proofs.Common.{◌≡◌, ℕ, zero, suc, ◌+◌, ◌<◌, ◌≤◌, Bool, true, false, cond, eqb, Bor, List, [], ◌∷◌, ◌++◌, length, take, drop, Option, Some, None, refl, sym, ap, ◌∙◌, arith, append_assoc}
+use Rattle.std.proofs.Common.{◌≡◌, ℕ, zero, suc, ◌+◌, ◌<◌, ◌≤◌, Bool, true, false, cond, eqb, Bor, List, [], ◌∷◌, ◌++◌, length, take, drop, Option, Some, None}
+use Rattle.std.proofs.Common.{refl, sym, ap, ◌∙◌, arith, append_assoc}
 use Rattle.std.specs.List.{prefix_len, position_or_len}
 use Rattle.std.proofs.lemmas.List.{length-drop}
 use Rattle.kmip_ttlv_types.specs.declared.typ.TtlvType.{TtlvType}
-use Rattle.kmip_ttlv_types.specs.declared.typ.TtlvType.TheVariants.{Structure, Integer, LongInteger, BigInteger, Enumeration, Boolean, TextString, ByteString, DateTime, Interval}
+use Rattle.kmip_ttlv_types.specs.declared.typ.TtlvType.TheVariants.{Structure, Integer, LongInteger, BigInteger, Enumeration, Boolean, TextString, ByteString}
+use Rattle.kmip_ttlv_types.specs.declared.typ.TtlvType.TheVariants.{DateTime, Interval}
 use Rattle.kmip_ttlv_types.specs.Names.{tag_of}
 use Rattle.kmip_ttlv_util.specs.Letters.{is_hex, type_of_letter}
-use Rattle.kmip_ttlv_util.specs.Undiag.{Step, reads_on, stops_with, close_step, data_step, type_step, letter_step, tag_step, step, written_by, undiag_from, undiag_lines}
+use Rattle.kmip_ttlv_util.specs.Undiag.{Step, reads_on, stops_with, close_step, data_step, type_step, letter_step, tag_step, step, written_by, undiag_from}
+use Rattle.kmip_ttlv_util.specs.Undiag.{undiag_lines}
 
 -- what was written with a part, the depth and the rest of the text
 abbrev pub Reads : Step → List ℕ → List ℕ → Option (ℕ × Bor (List ℕ)) → Type 0
@@ -97,10 +100,12 @@ module _ (beginning : ℕ → ℕ → List ℕ) where
   step_shorter prefix depth (c ∷ s) =
       let n = prefix_len is_hex (c ∷ s) in
       either depth (c ∷ s) (eqb c 93) _ _ (close_shorter depth c s)
-      (longer depth (drop n (c ∷ s)) (c ∷ s) _ (omega (arith, length-drop n (c ∷ s))) (tag_shorter depth (drop n (c ∷ s)) (tag_of (48 ∷ 120 ∷ (prefix ++ take n (c ∷ s))))))
+      (longer depth (drop n (c ∷ s)) (c ∷ s) _ (omega (arith, length-drop n (c ∷ s)))
+      (tag_shorter depth (drop n (c ∷ s)) (tag_of (48 ∷ 120 ∷ (prefix ++ take n (c ∷ s))))))
 
   -- the lines, given the first part
-  pub lines_of : (most : ℕ) (prefix : List ℕ) (depth : ℕ) (s : List ℕ) (t : Step) → step beginning prefix depth s ≡ t → undiag_from beginning (suc most) prefix depth s ≡ written_by t (λ d r. undiag_from beginning most prefix d r)
+  pub lines_of : (most : ℕ) (prefix : List ℕ) (depth : ℕ) (s : List ℕ) (t : Step) → step beginning prefix depth s ≡ t
+      → undiag_from beginning (suc most) prefix depth s ≡ written_by t (λ d r. undiag_from beginning most prefix d r)
   unfolding undiag_from
   lines_of most prefix depth s t e = ap (λ (u : Step). written_by u (λ d r. undiag_from beginning most prefix d r)) e
 
@@ -109,39 +114,51 @@ module _ (beginning : ℕ → ℕ → List ℕ) where
     pub shorter : length x.1.now < length rest
 
   -- a part is read
-  goes_by : (prefix s out now : List ℕ) (depth : ℕ) (rest : List ℕ) (x : ℕ × Bor (List ℕ)) (t : Step) (m : ℕ) → step beginning prefix depth rest ≡ t → Shorter depth rest t → length rest < suc m → out ++ undiag_from beginning (suc m) prefix depth rest ≡ undiag_from beginning (suc (length s)) prefix 0 s → depth + length rest ≤ length s → Reads t out now (Some x) → Gone prefix s now x rest
+  goes_by : (prefix s out now : List ℕ) (depth : ℕ) (rest : List ℕ) (x : ℕ × Bor (List ℕ)) (t : Step) (m : ℕ) → step beginning prefix depth rest ≡ t
+      → Shorter depth rest t → length rest < suc m → out ++ undiag_from beginning (suc m) prefix depth rest ≡ undiag_from beginning (suc (length s)) prefix 0 s
+      → depth + length rest ≤ length s → Reads t out now (Some x) → Gone prefix s now x rest
   goes_by prefix s out now depth rest x (stops_with w) m e sh lt lines shallow reads = absurd reads
   goes_by prefix s out now depth rest x (reads_on w d r) m e sh lt lines shallow reads =
       let len : length x.1.now ≡ length r = ap length reads.2 in
-      let next : undiag_from beginning m prefix d r ≡ undiag_from beginning m prefix x.0 x.1.now = ap (λ (k : ℕ). undiag_from beginning m prefix k r) (sym reads.1) ∙ ap (undiag_from beginning m prefix x.0) (sym reads.2) in
+      let next : undiag_from beginning m prefix d r ≡ undiag_from beginning m prefix x.0 x.1.now = ap (λ (k : ℕ). undiag_from beginning m prefix k r)
+      (sym reads.1) ∙ ap (undiag_from beginning m prefix x.0) (sym reads.2) in
       record {
         reading = record {
           most = m;
           enough = omega (arith, sh.0);
-          lines = ap (λ (o : List ℕ). o ++ undiag_from beginning m prefix x.0 x.1.now) reads.0 ∙ append_assoc out w (undiag_from beginning m prefix x.0 x.1.now) ∙ ap (λ (l : List ℕ). out ++ (w ++ l)) (sym next) ∙ ap (λ (l : List ℕ). out ++ l) (sym (lines_of m prefix depth rest (reads_on w d r) e)) ∙ lines;
+          lines = ap (λ (o : List ℕ). o ++ undiag_from beginning m prefix x.0 x.1.now) reads.0 ∙ append_assoc out w (undiag_from beginning m prefix x.0 x.1.now)
+              ∙ ap (λ (l : List ℕ). out ++ (w ++ l)) (sym next) ∙ ap (λ (l : List ℕ). out ++ l) (sym (lines_of m prefix depth rest (reads_on w d r) e)) ∙ lines;
           shallow = omega (arith, sh.1, reads.1);
         };
         shorter = omega (arith, sh.0);
       }
 
   -- so the loop goes on
-  pub reading_goes : (prefix s out now : List ℕ) (depth : ℕ) (rest : List ℕ) (x : ℕ × Bor (List ℕ)) → Reading prefix s out depth rest → Reads (step beginning prefix depth rest) out now (Some x) → Gone prefix s now x rest
+  pub reading_goes : (prefix s out now : List ℕ) (depth : ℕ) (rest : List ℕ) (x : ℕ × Bor (List ℕ)) → Reading prefix s out depth rest
+      → Reads (step beginning prefix depth rest) out now (Some x) → Gone prefix s now x rest
   reading_goes prefix s out now depth rest x w reads = by w.most w.enough w.lines
     where
-      by : (most : ℕ) → length rest < most → out ++ undiag_from beginning most prefix depth rest ≡ undiag_from beginning (suc (length s)) prefix 0 s → Gone prefix s now x rest
+      by : (most : ℕ) → length rest < most → out ++ undiag_from beginning most prefix depth rest ≡ undiag_from beginning (suc (length s)) prefix 0 s
+          → Gone prefix s now x rest
       by zero lt lines = absurd (omega arith)
-      by (suc m) lt lines = goes_by prefix s out now depth rest x (step beginning prefix depth rest) m refl (step_shorter prefix depth rest) lt lines w.shallow reads
+      by (suc m) lt lines = goes_by prefix s out now depth rest x (step beginning prefix depth rest) m refl (step_shorter prefix depth rest) lt lines
+          w.shallow reads
 
   -- there is no whole part
-  stops_by : (prefix s out now : List ℕ) (depth : ℕ) (rest : List ℕ) (t : Step) (m : ℕ) → step beginning prefix depth rest ≡ t → out ++ undiag_from beginning (suc m) prefix depth rest ≡ undiag_from beginning (suc (length s)) prefix 0 s → Reads t out now None → now ≡ undiag_from beginning (suc (length s)) prefix 0 s
+  stops_by : (prefix s out now : List ℕ) (depth : ℕ) (rest : List ℕ) (t : Step) (m : ℕ) → step beginning prefix depth rest ≡ t
+      → out ++ undiag_from beginning (suc m) prefix depth rest ≡ undiag_from beginning (suc (length s)) prefix 0 s → Reads t out now None
+      → now ≡ undiag_from beginning (suc (length s)) prefix 0 s
   stops_by prefix s out now depth rest (reads_on w d r) m e lines reads = absurd reads
-  stops_by prefix s out now depth rest (stops_with w) m e lines reads = reads ∙ ap (λ (l : List ℕ). out ++ l) (sym (lines_of m prefix depth rest (stops_with w) e)) ∙ lines
+  stops_by prefix s out now depth rest (stops_with w) m e lines reads = reads
+      ∙ ap (λ (l : List ℕ). out ++ l) (sym (lines_of m prefix depth rest (stops_with w) e)) ∙ lines
 
   -- so the loop ends
-  pub reading_stops : (prefix s out now : List ℕ) (depth : ℕ) (rest : List ℕ) → Reading prefix s out depth rest → Reads (step beginning prefix depth rest) out now None → now ≡ undiag_from beginning (suc (length s)) prefix 0 s
+  pub reading_stops : (prefix s out now : List ℕ) (depth : ℕ) (rest : List ℕ) → Reading prefix s out depth rest
+      → Reads (step beginning prefix depth rest) out now None → now ≡ undiag_from beginning (suc (length s)) prefix 0 s
   reading_stops prefix s out now depth rest w reads = by w.most w.enough w.lines
     where
-      by : (most : ℕ) → length rest < most → out ++ undiag_from beginning most prefix depth rest ≡ undiag_from beginning (suc (length s)) prefix 0 s → now ≡ undiag_from beginning (suc (length s)) prefix 0 s
+      by : (most : ℕ) → length rest < most → out ++ undiag_from beginning most prefix depth rest ≡ undiag_from beginning (suc (length s)) prefix 0 s
+          → now ≡ undiag_from beginning (suc (length s)) prefix 0 s
       by zero lt lines = absurd (omega arith)
       by (suc m) lt lines = stops_by prefix s out now depth rest (step beginning prefix depth rest) m refl lines reads
 

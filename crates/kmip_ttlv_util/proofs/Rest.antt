@@ -1,5 +1,6 @@
 -- The text and the count of the rest of a walk.
-use Rattle.std.proofs.Common.{◌≡◌, ◌≢◌, ℕ, zero, suc, ◌+◌, ◌<◌, ◌≤◌, Bool, true, false, cond, eqb, List, [], ◌∷◌, ◌++◌, length, Option, Some, None, refl, ap, ◌∙◌, arith, append_assoc, append-nil}
+use Rattle.std.proofs.Common.{◌≡◌, ◌≢◌, ℕ, zero, suc, ◌+◌, ◌<◌, ◌≤◌, Bool, true, false, cond, eqb, List, [], ◌∷◌, ◌++◌, length, Option, Some, None, refl, ap}
+use Rattle.std.proofs.Common.{◌∙◌, arith, append_assoc, append-nil}
 use Rattle.std.proofs.lemmas.Bool.{eq-eqb, ne_eqb, lt-ltb, le-ltb}
 use Rattle.kmip_ttlv_types.specs.declared.typ.TtlvType.{TtlvType}
 use Rattle.kmip_ttlv_types.specs.Places.{length_at}
@@ -47,7 +48,7 @@ shorter q [] = omega arith
 shorter q (f ∷ fs) = shorter_by (eqb f q) (left_at q fs) f fs (shorter q fs)
 
 -- nothing closes here
-pub ready_closes : (shut : List ℕ) (p : ℕ) (es : List ℕ) → left_at p es ≡ es → closes shut p es ≡ []
+ready_closes : (shut : List ℕ) (p : ℕ) (es : List ℕ) → left_at p es ≡ es → closes shut p es ≡ []
 unfolding left_at closes
 ready_closes shut p [] h = refl
 ready_closes shut p (e ∷ es) h = by (eqb e p) h (shorter p es)
@@ -76,12 +77,15 @@ module _ (style : Style) (closed : Bool) (bytes : List ℕ) where
   count_start = omega arith
 
   -- the entries from the next one on
-  reads_entries : (f : ℕ) (s : Place) (o : Option TtlvType) → turn s ≡ entry_follows → type_read (length bytes) s.pos (entry_at bytes s.pos) ≡ o → entries_from (suc f) closed bytes s ≡ entries_by entry_follows (entry_at bytes s.pos) o (λ t. entries_from f closed bytes (after closed s t (length_at (entry_at bytes s.pos).header 0)))
+  reads_entries : (f : ℕ) (s : Place) (o : Option TtlvType) → turn s ≡ entry_follows → type_read (length bytes) s.pos (entry_at bytes s.pos) ≡ o
+      → entries_from (suc f) closed bytes s ≡ entries_by entry_follows (entry_at bytes s.pos) o
+      (λ t. entries_from f closed bytes (after closed s t (length_at (entry_at bytes s.pos).header 0)))
   unfolding entries_from
   reads_entries f s o turns is = rw (turns, is) refl
 
   -- one entry and the others
-  pub count_reads : (f : ℕ) (s : Place) (t : TtlvType) → Ready s → type_read (length bytes) s.pos (entry_at bytes s.pos) ≡ Some t → count_from (suc f) s ≡ suc (count_from f (after closed s t (length_at (entry_at bytes s.pos).header 0)))
+  pub count_reads : (f : ℕ) (s : Place) (t : TtlvType) → Ready s → type_read (length bytes) s.pos (entry_at bytes s.pos) ≡ Some t
+      → count_from (suc f) s ≡ suc (count_from f (after closed s t (length_at (entry_at bytes s.pos).header 0)))
   unfolding count_from
   count_reads f s t ready is = ap length (reads_entries f s (Some t) ready.turns is)
 
@@ -92,7 +96,8 @@ module _ (style : Style) (closed : Bool) (bytes : List ℕ) where
 
   -- what is written for an entry and for the others
   pub text_reads : (f : ℕ) (s : Place) (t : TtlvType) → Ready s → type_read (length bytes) s.pos (entry_at bytes s.pos) ≡ Some t
-      → text_from (suc f) s ≡ style.item (s.endless + length s.ends) s.pos (entry_at bytes s.pos) t ++ text_from f (after closed s t (length_at (entry_at bytes s.pos).header 0))
+      → text_from (suc f) s ≡ style.item (s.endless + length s.ends) s.pos (entry_at bytes s.pos) t ++ text_from f
+      (after closed s t (length_at (entry_at bytes s.pos).header 0))
   unfolding text_from printed_from
   text_reads f s t ready is = rw (reads_entries f s (Some t) ready.turns is) (rw (ready_closes style.close s.pos s.ends ready.left, is, ready.left) refl)
 
@@ -119,21 +124,25 @@ module _ (style : Style) (closed : Bool) (bytes : List ℕ) where
   more_closes p es = rw (eq-eqb p p refl) refl
 
   -- nor the entries
-  same_entries : (f p e : ℕ) (es : List ℕ) (k : ℕ) (z : Bool) → entries_from f closed bytes (place p (p ∷ e ∷ es) k z) ≡ entries_from f closed bytes (place p (e ∷ es) k z)
+  same_entries : (f p e : ℕ) (es : List ℕ) (k : ℕ) (z : Bool) → entries_from f closed bytes (place p (p ∷ e ∷ es) k z) ≡ entries_from f closed bytes
+      (place p (e ∷ es) k z)
   unfolding entries_from after
   same_entries zero p e es k z = refl
   same_entries (suc f) p e es k z = rw (same_turn p e es k z, same_left p (e ∷ es)) refl
 
   -- what is written has one more close
-  same_told : (p e : ℕ) (es : List ℕ) (k : ℕ) (z : Bool) (xs : List Entry) → printed_from style closed (length bytes) (place p (p ∷ e ∷ es) k z) xs ≡ style.close ++ printed_from style closed (length bytes) (place p (e ∷ es) k z) xs
+  same_outline : (p e : ℕ) (es : List ℕ) (k : ℕ) (z : Bool) (xs : List Entry) → printed_from style closed (length bytes) (place p (p ∷ e ∷ es) k z) xs
+      ≡ style.close ++ printed_from style closed (length bytes) (place p (e ∷ es) k z) xs
   unfolding printed_from after
-  same_told p e es k z [] = rw (same_turn p e es k z, more_closes p (e ∷ es)) (append_assoc style.close (closes style.close p (e ∷ es)) (end_text style (turn (place p (e ∷ es) k z))))
-  same_told p e es k z (x ∷ xs) = rw (more_closes p (e ∷ es), same_left p (e ∷ es)) (append_assoc style.close (closes style.close p (e ∷ es)) _)
+  same_outline p e es k z [] = rw (same_turn p e es k z, more_closes p (e ∷ es)) (append_assoc style.close (closes style.close p (e ∷ es))
+      (end_text style (turn (place p (e ∷ es) k z))))
+  same_outline p e es k z (x ∷ xs) = rw (more_closes p (e ∷ es), same_left p (e ∷ es)) (append_assoc style.close (closes style.close p (e ∷ es)) _)
 
   -- so it has when a structure closes
   pub text_closes : (f p e : ℕ) (es : List ℕ) (k : ℕ) (z : Bool) → text_from f (place p (p ∷ e ∷ es) k z) ≡ style.close ++ text_from f (place p (e ∷ es) k z)
   unfolding text_from
-  text_closes f p e es k z = ap (printed_from style closed (length bytes) (place p (p ∷ e ∷ es) k z)) (same_entries f p e es k z) ∙ same_told p e es k z (entries_from f closed bytes (place p (e ∷ es) k z))
+  text_closes f p e es k z = ap (printed_from style closed (length bytes) (place p (p ∷ e ∷ es) k z)) (same_entries f p e es k z)
+      ∙ same_outline p e es k z (entries_from f closed bytes (place p (e ∷ es) k z))
 
   -- the count is unchanged
   pub count_closes : (f p e : ℕ) (es : List ℕ) (k : ℕ) (z : Bool) → count_from f (place p (p ∷ e ∷ es) k z) ≡ count_from f (place p (e ∷ es) k z)
@@ -148,7 +157,8 @@ module _ (style : Style) (closed : Bool) (bytes : List ℕ) where
   no_entries zero s ne = refl
   no_entries (suc f) s ne = by (turn s) ne
     where
-      by : (t : Turn) → t ≢ entry_follows → entries_by t (entry_at bytes s.pos) (type_read (length bytes) s.pos (entry_at bytes s.pos)) (λ t. entries_from f closed bytes (after closed s t (length_at (entry_at bytes s.pos).header 0))) ≡ []
+      by : (t : Turn) → t ≢ entry_follows → entries_by t (entry_at bytes s.pos) (type_read (length bytes) s.pos (entry_at bytes s.pos))
+          (λ t. entries_from f closed bytes (after closed s t (length_at (entry_at bytes s.pos).header 0))) ≡ []
       by all_closed h = refl
       by end_passed h = refl
       by entry_follows h = absurd (h refl)
@@ -161,7 +171,8 @@ module _ (style : Style) (closed : Bool) (bytes : List ℕ) where
   -- the last close
   pub text_over : (f p k : ℕ) (z : Bool) → text_from f (place p (p ∷ []) k z) ≡ style.close
   unfolding text_from printed_from closes
-  text_over f p k z = rw (no_entries f (place p (p ∷ []) k z) (λ h. let m = last_turn p k z in cc)) (rw (last_turn p k z, eq-eqb p p refl) (append-nil (style.close ++ []) ∙ append-nil style.close))
+  text_over f p k z = rw (no_entries f (place p (p ∷ []) k z) (λ h. let m = last_turn p k z in cc))
+      (rw (last_turn p k z, eq-eqb p p refl) (append-nil (style.close ++ []) ∙ append-nil style.close))
 
   -- no more entries
   pub count_over : (f p k : ℕ) (z : Bool) → count_from f (place p (p ∷ []) k z) ≡ 0

@@ -11,12 +11,14 @@ use Rattle.kmip_ttlv_util.specs.Pieces.{SomeText, WritesText, Moves}
 -- a text of this kind, with this property, by cases
 module _ {T E : Type 0} where
   -- if the call succeeds
-  pub ok_some : (r : Result T E) (kind said said' : List ℕ → Type 0) (t : List ℕ) → OnOk r (said t) → kind t → ((s : List ℕ) → said s → said' s) → OnOk r (SomeText kind said')
+  pub ok_some : (r : Result T E) (kind said said' : List ℕ → Type 0) (t : List ℕ) → OnOk r (said t) → kind t → ((s : List ℕ) → said s → said' s)
+      → OnOk r (SomeText kind said')
   ok_some (Ok x) kind said said' t h is f = record { text = t; is = is; holds = f t h }
   ok_some (Err e) kind said said' t h is f = tt
 
   -- if it fails
-  pub err_some : (r : Result T E) (kind said said' : List ℕ → Type 0) (t : List ℕ) → OnErr r (said t) → kind t → ((s : List ℕ) → said s → said' s) → OnErr r (SomeText kind said')
+  pub err_some : (r : Result T E) (kind said said' : List ℕ → Type 0) (t : List ℕ) → OnErr r (said t) → kind t → ((s : List ℕ) → said s → said' s)
+      → OnErr r (SomeText kind said')
   err_some (Ok x) kind said said' t h is f = tt
   err_some (Err e) kind said said' t h is f = record { text = t; is = is; holds = f t h }
 
@@ -29,14 +31,16 @@ module _ {T E : Type 0} where
   err_map (Err e) P Q h f = f h
 
   -- a text of one kind is of another kind
-  pub written_as : (r : Result T E) (kind kind' : List ℕ → Type 0) (old new : Option (List ℕ)) → WritesText kind old new r → ((t : List ℕ) → kind t → kind' t) → WritesText kind' old new r
+  pub written_as : (r : Result T E) (kind kind' : List ℕ → Type 0) (old new : Option (List ℕ)) → WritesText kind old new r → ((t : List ℕ) → kind t → kind' t)
+      → WritesText kind' old new r
   written_as (Ok x) kind kind' old new w f = record { text = w.text; is = f w.text w.is; holds = w.holds }
   written_as (Err e) kind kind' old new w f = record { text = w.text; is = f w.text w.is; holds = w.holds }
 
 -- sinks, by what was appended to them
 module _ {X : Type 0} (adds breaks : X → List ℕ → X → Type 0) where
   -- if appending a beginning of a text failed, appending the text failed
-  pub breaks_rest : ((a b : X) (s t : List ℕ) → breaks a s b → breaks a (s ++ t) b) → (a b : X) (s rest whole : List ℕ) → breaks a s b → s ++ rest ≡ whole → breaks a whole b
+  pub breaks_rest : ((a b : X) (s t : List ℕ) → breaks a s b → breaks a (s ++ t) b) → (a b : X) (s rest whole : List ℕ) → breaks a s b → s ++ rest ≡ whole
+      → breaks a whole b
   breaks_rest first a b s rest whole h is = subst (λ (t : List ℕ). breaks a t b) is (first a b s rest h)
 
   -- an equal text
@@ -59,11 +63,13 @@ module _ {X : Type 0} (adds breaks : X → List ℕ → X → Type 0) where
     err_now (Err e) a b s h = h
 
     -- a text after one that was appended
-    pub ok_then : ((a b c : X) (s t : List ℕ) → adds a s b → adds b t c → adds a (s ++ t) c) → (r : Result T E) (a b c : X) (s t : List ℕ) → adds a s b → OnOk r (adds b t c) → OnOk r (adds a (s ++ t) c)
+    pub ok_then : ((a b c : X) (s t : List ℕ) → adds a s b → adds b t c → adds a (s ++ t) c) → (r : Result T E) (a b c : X) (s t : List ℕ) → adds a s b
+        → OnOk r (adds b t c) → OnOk r (adds a (s ++ t) c)
     ok_then both (Ok x) a b c s t p q = both a b c s t p q
     ok_then both (Err e) a b c s t p q = tt
 
-    pub err_then : ((a b c : X) (s t : List ℕ) → adds a s b → breaks b t c → breaks a (s ++ t) c) → (r : Result T E) (a b c : X) (s t : List ℕ) → adds a s b → OnErr r (breaks b t c) → OnErr r (breaks a (s ++ t) c)
+    pub err_then : ((a b c : X) (s t : List ℕ) → adds a s b → breaks b t c → breaks a (s ++ t) c) → (r : Result T E) (a b c : X) (s t : List ℕ) → adds a s b
+        → OnErr r (breaks b t c) → OnErr r (breaks a (s ++ t) c)
     err_then second (Ok x) a b c s t p q = tt
     err_then second (Err e) a b c s t p q = second a b c s t p q
 
@@ -74,7 +80,7 @@ from_none kind old new s none = subst kind (sym (s.holds ∙ ap (λ (o : List �
 -- ---- a buffered writer
 
 -- if the buffer was empty, what was added was sent or is buffered
-pub piece_moves : (a a' b : Option (List ℕ)) (w t v : List ℕ) → Moves a' b w t v → a' ≡ a → w ≡ [] → Moves a b [] t v
+piece_moves : (a a' b : Option (List ℕ)) (w t v : List ℕ) → Moves a' b w t v → a' ≡ a → w ≡ [] → Moves a b [] t v
 piece_moves a a' b w t v m same none = record {
   sent = m.sent;
   appended = subst (λ (x : Option (List ℕ)). Appends x b m.sent) same m.appended;
@@ -82,7 +88,8 @@ piece_moves a a' b w t v m same none = record {
 }
 
 -- it failed before the end
-pub piece_fails : (kind : List ℕ → Type 0) (m n : GName) (a a' b : Option (List ℕ)) (w : List ℕ) → SomeText kind (λ t. (n ≡ m) × AppendsFront a' b (w ++ t)) → a' ≡ a → w ≡ [] → SomeText kind (AppendsFront a b)
+pub piece_fails : (kind : List ℕ → Type 0) (m n : GName) (a a' b : Option (List ℕ)) (w : List ℕ) → SomeText kind (λ t. (n ≡ m) × AppendsFront a' b (w ++ t))
+    → a' ≡ a → w ≡ [] → SomeText kind (AppendsFront a b)
 piece_fails kind m n a a' b w s same none = record {
   text = s.text;
   is = s.is;
@@ -90,7 +97,8 @@ piece_fails kind m n a a' b w s same none = record {
 }
 
 -- what is buffered at the end is sent
-pub piece_ends : {T E : Type 0} (r : Result T E) (kind : List ℕ → Type 0) (m n : GName) (a a' b c : Option (List ℕ)) (w v : List ℕ) → SomeText kind (λ t. (n ≡ m) × Moves a' b w t v) → a' ≡ a → w ≡ [] → OnOk r (Appends b c v) → OnErr r (AppendsFront b c v) → WritesText kind a c r
+pub piece_ends : {T E : Type 0} (r : Result T E) (kind : List ℕ → Type 0) (m n : GName) (a a' b c : Option (List ℕ)) (w v : List ℕ)
+    → SomeText kind (λ t. (n ≡ m) × Moves a' b w t v) → a' ≡ a → w ≡ [] → OnOk r (Appends b c v) → OnErr r (AppendsFront b c v) → WritesText kind a c r
 piece_ends (Ok x) kind m n a a' b c w v s same none ok err =
     let k = piece_moves a a' b w s.text v s.holds.1 same none in
     record { text = s.text; is = s.is; holds = subst (Appends a c) (sym k.parts) (Appends-trans a b c k.sent v k.appended ok) }

@@ -9,7 +9,8 @@ use Rattle.kmip_ttlv_util.specs.Pieces.{Moves}
 
 module _ {T E : Type 0} where
   -- what was buffered, then a piece
-  pub sent_behind : (r : Result T E) (a b c : Option (List ℕ)) (w piece v : List ℕ) → Appends a b w → v ≡ [] → OnOk r (Appends b c piece) → OnOk r (Moves a c w piece v)
+  pub sent_behind : (r : Result T E) (a b c : Option (List ℕ)) (w piece v : List ℕ) → Appends a b w → v ≡ [] → OnOk r (Appends b c piece)
+      → OnOk r (Moves a c w piece v)
   sent_behind (Ok x) a b c w piece v p none q = record {
     sent = w ++ piece;
     appended = Appends-trans a b c w piece p q;
@@ -17,6 +18,7 @@ module _ {T E : Type 0} where
   }
   sent_behind (Err e) a b c w piece v p none q = tt
 
-  pub sent_front : (r : Result T E) (a b c : Option (List ℕ)) (w piece : List ℕ) → Appends a b w → OnErr r (AppendsFront b c piece) → OnErr r (AppendsFront a c (w ++ piece))
+  pub sent_front : (r : Result T E) (a b c : Option (List ℕ)) (w piece : List ℕ) → Appends a b w → OnErr r (AppendsFront b c piece)
+      → OnErr r (AppendsFront a c (w ++ piece))
   sent_front (Ok x) a b c w piece p q = tt
   sent_front (Err e) a b c w piece p q = AppendsFront-second a b c w piece p q

@@ -1,5 +1,6 @@
 -- Lines trimmed at the end: after a visible last character, trimming drops only the line feed.
-use Rattle.std.proofs.Common.{◌≡◌, ◌≢◌, ℕ, zero, suc, ◌+◌, ◌-◌, ◌/◌, ◌%◌, ◌<◌, ◌≤◌, Bool, true, false, ◌&&◌, cond, eqb, ltb, List, [], ◌∷◌, ◌++◌, length, get_or, Option, Some, None, refl, sym, ap, subst, ◌∙◌, arith, append_assoc, append-nil, length-append}
+use Rattle.std.proofs.Common.{◌≡◌, ◌≢◌, ℕ, zero, suc, ◌+◌, ◌-◌, ◌/◌, ◌%◌, ◌<◌, ◌≤◌, Bool, true, false, ◌&&◌, cond, eqb, ltb, List, [], ◌∷◌, ◌++◌, length}
+use Rattle.std.proofs.Common.{get_or, Option, Some, None, refl, sym, ap, subst, ◌∙◌, arith, append_assoc, append-nil, length-append}
 use Rattle.std.specs.Prelude.{codes, Result, Ok, Err, IfOk, string_bytes}
 use Rattle.std.proofs.Common.{String}
 use Rattle.std.specs.List.{AllByRecursion}
@@ -10,7 +11,8 @@ use Rattle.std.proofs.lemmas.Str.{IsUtf8-take, IsUtf8-append, IsUtf8-from_ascii,
 use Rattle.std.proofs.lemmas.Bool.{ne_eqb, lt-ltb, le-ltb}
 use Rattle.std.proofs.lemmas.List.{take_at, get_or-append_right}
 use Rattle.kmip_ttlv_types.specs.declared.typ.TtlvType.{TtlvType}
-use Rattle.kmip_ttlv_types.specs.declared.typ.TtlvType.TheVariants.{Structure, Integer, LongInteger, BigInteger, Enumeration, Boolean, TextString, ByteString, DateTime, Interval}
+use Rattle.kmip_ttlv_types.specs.declared.typ.TtlvType.TheVariants.{Structure, Integer, LongInteger, BigInteger, Enumeration, Boolean, TextString, ByteString}
+use Rattle.kmip_ttlv_types.specs.declared.typ.TtlvType.TheVariants.{DateTime, Interval}
 use Rattle.kmip_ttlv_util.specs.Outlines.{Outline, Outlines, leaf_outline, node_outline, no_outlines, outline, IsShown, IsOutline, AreOutlines, diag, hex_upper}
 use Rattle.kmip_ttlv_util.specs.Lines.{tag_part, typ_part}
 use Rattle.kmip_ttlv_util.specs.Lines.{line, hidden}
@@ -28,7 +30,20 @@ pub record Visible (c : ℕ) : Type 0 where
 
 -- a visible character is no white space
 pub visible_dark : (c : ℕ) → Visible c → is_whitespace c ≡ false
-visible_dark c v = rw (le-ltb c 14 (omega (arith, v.above)), lt-ltb 8 c (omega (arith, v.above)), ne_eqb c 32 (omega (arith, v.above)), ne_eqb c 133 (omega (arith, v.below)), ne_eqb c 160 (omega (arith, v.below)), ne_eqb c 5760 (omega (arith, v.below)), le-ltb 8191 c (omega (arith, v.below)), ne_eqb c 8232 (omega (arith, v.below)), ne_eqb c 8233 (omega (arith, v.below)), ne_eqb c 8239 (omega (arith, v.below)), ne_eqb c 8287 (omega (arith, v.below)), ne_eqb c 12288 (omega (arith, v.below))) refl
+visible_dark c v = rw (
+  le-ltb c 14 (omega (arith, v.above)),
+  lt-ltb 8 c (omega (arith, v.above)),
+  ne_eqb c 32 (omega (arith, v.above)),
+  ne_eqb c 133 (omega (arith, v.below)),
+  ne_eqb c 160 (omega (arith, v.below)),
+  ne_eqb c 5760 (omega (arith, v.below)),
+  le-ltb 8191 c (omega (arith, v.below)),
+  ne_eqb c 8232 (omega (arith, v.below)),
+  ne_eqb c 8233 (omega (arith, v.below)),
+  ne_eqb c 8239 (omega (arith, v.below)),
+  ne_eqb c 8287 (omega (arith, v.below)),
+  ne_eqb c 12288 (omega (arith, v.below)),
+) refl
 
 -- a character that others follow is kept
 pub stays_on : (b : Bool) (n z : ℕ) (rest : List ℕ) → n ≢ 0 → cond (b && eqb n 0) [] (z ∷ rest) ≡ z ∷ rest
@@ -41,7 +56,8 @@ drop_end [] c v = rw (visible_dark c v) refl
 drop_end (z ∷ zs) c v =
     let k = drop_end zs c v in
     let some : length (drop_trailing_whitespace (zs ++ (c ∷ 10 ∷ []))) ≢ 0 = λ h. omega (arith, h, ap length k, length-append zs (c ∷ [])) in
-    stays_on (is_whitespace z) (length (drop_trailing_whitespace (zs ++ (c ∷ 10 ∷ [])))) z (drop_trailing_whitespace (zs ++ (c ∷ 10 ∷ []))) some ∙ ap (λ (r : List ℕ). z ∷ r) k
+    stays_on (is_whitespace z) (length (drop_trailing_whitespace (zs ++ (c ∷ 10 ∷ [])))) z (drop_trailing_whitespace (zs ++ (c ∷ 10 ∷ []))) some
+    ∙ ap (λ (r : List ℕ). z ∷ r) k
 
 -- one ASCII character
 pub ascii_one : (c : ℕ) → c < 128 → IsAscii (c ∷ [])
@@ -59,17 +75,21 @@ pub front_utf8 : (xs : List ℕ) (c : ℕ) → IsUtf8 (xs ++ (c ∷ 10 ∷ [])) 
 front_utf8 xs c utf8 lt =
     let bs = xs ++ (c ∷ 10 ∷ []) in
     let none : length xs - length xs ≡ 0 = omega arith in
-    let is : get_or bs (length xs) 0 ≡ c = get_or-append_right xs (c ∷ 10 ∷ []) (length xs) (length xs) 0 refl (omega arith) ∙ ap (λ (n : ℕ). get_or (c ∷ 10 ∷ []) n 0) none in
+    let is : get_or bs (length xs) 0 ≡ c = get_or-append_right xs (c ∷ 10 ∷ []) (length xs) (length xs) 0 refl (omega arith)
+    ∙ ap (λ (n : ℕ). get_or (c ∷ 10 ∷ []) n 0) none in
     let cell : get_or bs (length xs) 0 < 128 = omega (arith, is) in
-    subst IsUtf8 (take_at xs (c ∷ 10 ∷ []) (length xs) refl) (IsUtf8-take bs (length xs) utf8 (IsCharBoundary-before_ascii bs (length xs) (omega (arith, length-append xs (c ∷ 10 ∷ []))) cell))
+    subst IsUtf8 (take_at xs (c ∷ 10 ∷ []) (length xs) refl)
+    (IsUtf8-take bs (length xs) utf8 (IsCharBoundary-before_ascii bs (length xs) (omega (arith, length-append xs (c ∷ 10 ∷ []))) cell))
 
 -- trimming drops only the line feed
 trim_line : (xs : List ℕ) (c : ℕ) → IsUtf8 (xs ++ (c ∷ 10 ∷ [])) → Visible c → trim_end (xs ++ (c ∷ 10 ∷ [])) ≡ xs ++ (c ∷ [])
 unfolding trim_end
 trim_line xs c utf8 v =
     let front = front_utf8 xs c utf8 v.below in
-    let spelt : chars (xs ++ (c ∷ 10 ∷ [])) ≡ chars xs ++ (c ∷ 10 ∷ []) = chars-append xs (c ∷ 10 ∷ []) front ∙ ap (λ (s : List ℕ). chars xs ++ s) (chars-IsAscii (c ∷ 10 ∷ []) (ascii_two c v.below)) in
-    let detail_value : chars xs ++ (c ∷ []) ≡ chars (xs ++ (c ∷ [])) = ap (λ (s : List ℕ). chars xs ++ s) (sym (chars-IsAscii (c ∷ []) (ascii_one c v.below))) ∙ sym (chars-append xs (c ∷ []) front) in
+    let spelt : chars (xs ++ (c ∷ 10 ∷ [])) ≡ chars xs ++ (c ∷ 10 ∷ []) = chars-append xs (c ∷ 10 ∷ []) front
+    ∙ ap (λ (s : List ℕ). chars xs ++ s) (chars-IsAscii (c ∷ 10 ∷ []) (ascii_two c v.below)) in
+    let detail_value : chars xs ++ (c ∷ []) ≡ chars (xs ++ (c ∷ [])) = ap (λ (s : List ℕ). chars xs ++ s) (sym (chars-IsAscii (c ∷ []) (ascii_one c v.below)))
+    ∙ sym (chars-append xs (c ∷ []) front) in
     ap (λ (s : List ℕ). encode_utf8_all (drop_trailing_whitespace s)) spelt
     ∙ ap encode_utf8_all (drop_end (chars xs) c v ∙ detail_value)
     ∙ encodes-chars (xs ++ (c ∷ [])) (IsUtf8-append xs (c ∷ []) front (IsUtf8-from_ascii (c ∷ []) (ascii_one c v.below)))
@@ -85,7 +105,12 @@ pub record Ends (text : List ℕ) : Type 0 where
 
 -- a text after another
 pub ends_behind : (xs text : List ℕ) → Ends text → Ends (xs ++ text)
-ends_behind xs text e = record { front = xs ++ e.front; last = e.last; is = ap (λ (s : List ℕ). xs ++ s) e.is ∙ sym (append_assoc xs e.front (e.last ∷ [])); visible = e.visible }
+ends_behind xs text e = record {
+  front = xs ++ e.front;
+  last = e.last;
+  is = ap (λ (s : List ℕ). xs ++ s) e.is ∙ sym (append_assoc xs e.front (e.last ∷ []));
+  visible = e.visible;
+}
 
 abbrev pub AllVisible : List ℕ → Type 0
 AllVisible cs = AllByRecursion Visible cs
@@ -160,11 +185,23 @@ record EndsLine (text : List ℕ) : Type 0 where
 
 -- a line after other text
 line_behind : (xs text : List ℕ) → EndsLine text → EndsLine (xs ++ text)
-line_behind xs text e = record { front = xs ++ e.front; last = e.last; is = ap (λ (s : List ℕ). xs ++ s) e.is ∙ sym (append_assoc xs e.front (e.last ∷ 10 ∷ [])); visible = e.visible }
+line_behind xs text e = record {
+  front = xs ++ e.front;
+  last = e.last;
+  is = ap (λ (s : List ℕ). xs ++ s) e.is
+      ∙ sym (append_assoc xs e.front (e.last ∷ 10 ∷ []));
+  visible = e.visible;
+}
 
 -- a line feed after a visible character
 fed : (text : List ℕ) → Ends text → EndsLine (text ++ (10 ∷ []))
-fed text e = record { front = e.front; last = e.last; is = ap (λ (s : List ℕ). s ++ (10 ∷ [])) e.is ∙ append_assoc e.front (e.last ∷ []) (10 ∷ []); visible = e.visible }
+fed text e = record {
+  front = e.front;
+  last = e.last;
+  is = ap (λ (s : List ℕ). s ++ (10 ∷ [])) e.is ∙ append_assoc e.front (e.last ∷ []) (10 ∷ []);
+  visible =
+      e.visible;
+}
 
 module _ (beginning : ℕ → ℕ → List ℕ) where
   line_ends : (depth tag : ℕ) (typ : TtlvType) (text : List ℕ) → Ends text → EndsLine (line beginning depth tag typ text)
@@ -175,11 +212,13 @@ module _ (beginning : ℕ → ℕ → List ℕ) where
     lines_end : (depth : ℕ) (o : Outline) → IsOutline o → NoneEmpty o → EndsLine (lines beginning depth o)
     lines_end depth (leaf_outline tag typ v) io none = line_ends depth tag typ (shown typ v) (shown_ends typ v io.1)
     lines_end depth (node_outline tag no_outlines) io none = absurd none
-    lines_end depth (node_outline tag (outline o os)) io none = line_behind (line beginning depth tag Structure []) _ (all_end (suc depth) (lines beginning (suc depth) o) os (lines_end (suc depth) o io.1.0 none.0) io.1.1 none.1)
+    lines_end depth (node_outline tag (outline o os)) io none = line_behind (line beginning depth tag Structure []) _
+        (all_end (suc depth) (lines beginning (suc depth) o) os (lines_end (suc depth) o io.1.0 none.0) io.1.1 none.1)
 
     all_end : (depth : ℕ) (text : List ℕ) (os : Outlines) → EndsLine text → AreOutlines os → AllNoneEmpty os → EndsLine (text ++ lines_all beginning depth os)
     all_end depth text no_outlines e ios nones = subst EndsLine (sym (append-nil text)) e
-    all_end depth text (outline p os) e ios nones = line_behind text _ (all_end depth (lines beginning depth p) os (lines_end depth p ios.0 nones.0) ios.1 nones.1)
+    all_end depth text (outline p os) e ios nones =
+        line_behind text _ (all_end depth (lines beginning depth p) os (lines_end depth p ios.0 nones.0) ios.1 nones.1)
 
   -- trimming and a line feed give the lines back
   trimmed_line : (text : List ℕ) → IsUtf8 text → EndsLine text → trim_end text ++ (10 ∷ []) ≡ text
@@ -188,20 +227,30 @@ module _ (beginning : ℕ → ℕ → List ℕ) where
       ∙ append_assoc e.front (e.last ∷ []) (10 ∷ []) ∙ sym e.is
 
   -- what is read back of an outline's diagnostic
-  redacted_lines : (prefix text answer : List ℕ) → answer ≡ trim_end (undiag_lines beginning prefix text) → IsUtf8 (undiag_lines beginning prefix text) → (o : Outline) → IsOutline o → IsNode o → AllBegin prefix o → text ≡ diag prefix o → (answer ≡ trim_end (lines beginning 0 o)) × (NoneEmpty o → answer ++ (10 ∷ []) ≡ lines beginning 0 o)
+  redacted_lines : (prefix text answer : List ℕ) → answer ≡ trim_end (undiag_lines beginning prefix text) → IsUtf8 (undiag_lines beginning prefix text)
+      → (o : Outline) → IsOutline o → IsNode o → AllBegin prefix o → text ≡ diag prefix o → (answer ≡ trim_end (lines beginning 0 o))
+      × (NoneEmpty o → answer ++ (10 ∷ []) ≡ lines beginning 0 o)
   redacted_lines prefix text answer is utf8 (leaf_outline tag typ v) io root begins e = absurd root
   redacted_lines prefix text answer is utf8 (node_outline tag below) io root begins e =
-      let whole : undiag_lines beginning prefix text ≡ lines beginning 0 (node_outline tag below) = ap (undiag_lines beginning prefix) e ∙ undiag_message beginning tag below prefix io begins in
-      let trims : answer ≡ trim_end (lines beginning 0 (node_outline tag below)) = is ∙ ap trim_end whole in
-      (trims, λ none. ap (λ (s : List ℕ). s ++ (10 ∷ [])) trims ∙ trimmed_line (lines beginning 0 (node_outline tag below)) (subst IsUtf8 whole utf8) (lines_end 0 (node_outline tag below) io none))
+      let whole : undiag_lines beginning prefix text ≡ lines beginning 0 (node_outline tag below) = ap (undiag_lines beginning prefix) e
+      ∙ undiag_message beginning tag below prefix io begins in
+      let trims : answer ≡ trim_end (lines beginning 0 (node_outline tag below)) = is ∙ ap trim_end whole in (
+        trims,
+        λ none. ap (λ (s : List ℕ). s ++ (10 ∷ [])) trims ∙ trimmed_line (lines beginning 0 (node_outline tag below)) (subst IsUtf8 whole utf8)
+            (lines_end 0 (node_outline tag below) io none),
+      )
 
 module _ (names : ℕ → Option (List ℕ)) where
   -- with names for tags
-  redacted : (prefix text answer : List ℕ) → answer ≡ undiag names prefix text → IsUtf8 (undiag_lines (tag_part names) prefix text) → IsReadBack names prefix text answer
+  redacted : (prefix text answer : List ℕ) → answer ≡ undiag names prefix text → IsUtf8 (undiag_lines (tag_part names) prefix text)
+      → IsReadBack names prefix text answer
   unfolding undiag
   redacted prefix text answer is utf8 = redacted_lines (tag_part names) prefix text answer is utf8
 
   -- so is what a call returns
-  pub redacted_ok : {A E : Type 0} (prefix given text : List ℕ) (r : Result (String A) E) → given ≡ prefix → IfOk r (λ x. string_bytes x ≡ undiag names given text) → IfOk r (λ _. IsUtf8 (undiag_lines (tag_part names) given text)) → IfOk r (λ x. IsReadBack names prefix text (string_bytes x))
-  redacted_ok prefix given text (Ok x) same is utf8 = redacted prefix text (string_bytes x) (is ∙ ap (λ (p : List ℕ). undiag names p text) same) (subst (λ (p : List ℕ). IsUtf8 (undiag_lines (tag_part names) p text)) same utf8)
+  pub redacted_ok : {A E : Type 0} (prefix given text : List ℕ) (r : Result (String A) E) → given ≡ prefix
+      → IfOk r (λ x. string_bytes x ≡ undiag names given text) → IfOk r (λ _. IsUtf8 (undiag_lines (tag_part names) given text))
+      → IfOk r (λ x. IsReadBack names prefix text (string_bytes x))
+  redacted_ok prefix given text (Ok x) same is utf8 = redacted prefix text (string_bytes x) (is ∙ ap (λ (p : List ℕ). undiag names p text) same)
+      (subst (λ (p : List ℕ). IsUtf8 (undiag_lines (tag_part names) p text)) same utf8)
   redacted_ok prefix given text (Err e) same is utf8 = tt

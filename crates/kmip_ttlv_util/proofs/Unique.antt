@@ -1,5 +1,6 @@
 -- A diagnostic is read back in one way.
-use Rattle.std.proofs.Common.{◌≡◌, ◌≢◌, ℕ, zero, suc, ◌+◌, ◌*◌, ◌/◌, ◌%◌, ◌<◌, ◌≤◌, ◌^◌, Bool, true, false, cond, eqb, ltb, List, [], ◌∷◌, ◌++◌, length, drop, get_or, Option, Some, None, refl, sym, ap, subst, ◌∙◌, arith, append_assoc}
+use Rattle.std.proofs.Common.{◌≡◌, ◌≢◌, ℕ, zero, suc, ◌+◌, ◌*◌, ◌/◌, ◌%◌, ◌<◌, ◌≤◌, ◌^◌, Bool, true, false, cond, eqb, ltb, List, [], ◌∷◌, ◌++◌, length, drop}
+use Rattle.std.proofs.Common.{get_or, Option, Some, None, refl, sym, ap, subst, ◌∙◌, arith, append_assoc}
 use Rattle.std.proofs.Common.{◌⊎◌, inl, inr}
 use Rattle.std.proofs.lemmas.Bool.{ltb-true, ltb-false}
 use Rattle.std.proofs.lemmas.List.{length-drop}
@@ -11,13 +12,15 @@ use Rattle.std.proofs.lemmas.Fmt.{digits_is_IsNumeral}
 use Rattle.std.proofs.lemmas.Slice.Eq.{starts_is}
 use Rattle.std.proofs.lemmas.Bool.Decides.{Decides-eqb}
 use Rattle.kmip_ttlv_types.specs.declared.typ.TtlvType.{TtlvType}
-use Rattle.kmip_ttlv_types.specs.declared.typ.TtlvType.TheVariants.{Structure, Integer, LongInteger, BigInteger, Enumeration, Boolean, TextString, ByteString, DateTime, Interval}
+use Rattle.kmip_ttlv_types.specs.declared.typ.TtlvType.TheVariants.{Structure, Integer, LongInteger, BigInteger, Enumeration, Boolean, TextString, ByteString}
+use Rattle.kmip_ttlv_types.specs.declared.typ.TtlvType.TheVariants.{DateTime, Interval}
 use Rattle.kmip_ttlv_types.specs.Digits.{six_digits}
-use Rattle.kmip_ttlv_util.specs.Outlines.{Outline, Outlines, leaf_outline, node_outline, no_outlines, outline, IsShown, IsOutline, AreOutlines, hex_upper, stripped, value_text, mark, diag, diag_all}
+use Rattle.kmip_ttlv_util.specs.Outlines.{Outline, Outlines, leaf_outline, node_outline, no_outlines, outline, IsShown, IsOutline, AreOutlines, hex_upper}
+use Rattle.kmip_ttlv_util.specs.Outlines.{stripped, value_text, mark, diag, diag_all}
 use Rattle.kmip_ttlv_util.specs.Letters.{letter}
 
 -- a digit of upper case hexadecimal: no letter, no bracket and no colon
-abbrev pub IsDigit : ℕ → Type 0
+abbrev IsDigit : ℕ → Type 0
 IsDigit c = (c ≤ 70) × (c ≢ 58)
 
 abbrev pub AllDigits : List ℕ → Type 0
@@ -31,7 +34,8 @@ record Front (xs ys r s : List ℕ) (c d : ℕ) : Type 0 where
   rest : r ≡ s
 
 -- equal texts have the same leading digits
-front_one : (xs ys r s : List ℕ) (c d : ℕ) → AllDigits xs → AllDigits ys → (IsDigit c → ⊥) → (IsDigit d → ⊥) → xs ++ (c ∷ r) ≡ ys ++ (d ∷ s) → Front xs ys r s c d
+front_one : (xs ys r s : List ℕ) (c d : ℕ) → AllDigits xs → AllDigits ys → (IsDigit c → ⊥) → (IsDigit d → ⊥) → xs ++ (c ∷ r) ≡ ys ++ (d ∷ s)
+    → Front xs ys r s c d
 front_one [] [] r s c d ax ay nc nd e = record { front = refl; first = cc; rest = cc }
 front_one [] (y ∷ ys) r s c d ax ay nc nd e = let k : c ≡ y = cc in absurd (nc (subst IsDigit (sym k) ay.0))
 front_one (x ∷ xs) [] r s c d ax ay nc nd e = let k : x ≡ d = cc in absurd (nd (subst IsDigit k ax.0))
@@ -69,12 +73,22 @@ hex_digits n = onto_digits 64 n [] tt
 
 -- equal digits, equal numbers
 hex_one : (m n : ℕ) → m < 2 ^ 32 → n < 2 ^ 32 → hex_upper m ≡ hex_upper n → m ≡ n
-hex_one m n p q e = sym (digits_is_IsNumeral 16 true (omega arith) (omega arith) m (omega arith)).1 ∙ ap (digits_value 16) e ∙ (digits_is_IsNumeral 16 true (omega arith) (omega arith) n (omega arith)).1
+hex_one m n p q e = sym (digits_is_IsNumeral 16 true (omega arith) (omega arith) m (omega arith)).1 ∙ ap (digits_value 16) e
+    ∙ (digits_is_IsNumeral 16 true (omega arith) (omega arith) n (omega arith)).1
 
 -- six digits are digits
 six_all : (n : ℕ) → AllDigits (six_digits n)
 unfolding six_digits
-six_all n = (glyph_digit (n / 1048576 % 16) (omega arith), (glyph_digit (n / 65536 % 16) (omega arith), (glyph_digit (n / 4096 % 16) (omega arith), (glyph_digit (n / 256 % 16) (omega arith), (glyph_digit (n / 16 % 16) (omega arith), (glyph_digit (n % 16) (omega arith), tt))))))
+six_all n = (
+  glyph_digit (n / 1048576 % 16) (omega arith),
+  (
+    glyph_digit (n / 65536 % 16) (omega arith),
+    (
+      glyph_digit (n / 4096 % 16) (omega arith),
+      (glyph_digit (n / 256 % 16) (omega arith), (glyph_digit (n / 16 % 16) (omega arith), (glyph_digit (n % 16) (omega arith), tt))),
+    ),
+  ),
+)
 
 -- equal digits, equal values
 glyph_one : (a b : ℕ) → a < 16 → b < 16 → digit_glyph true a ≡ digit_glyph true b → a ≡ b
@@ -112,15 +126,23 @@ step_6 m h = omega arith
 up : (a b x y d e : ℕ) → x ≡ 16 * a + d → y ≡ 16 * b + e → a ≡ b → d ≡ e → x ≡ y
 up a b x y d e p q r s = omega arith
 
-six_by : (m n : ℕ) → m < 2 ^ 24 → n < 2 ^ 24 → m / 1048576 % 16 ≡ n / 1048576 % 16 → m / 65536 % 16 ≡ n / 65536 % 16 → m / 4096 % 16 ≡ n / 4096 % 16 → m / 256 % 16 ≡ n / 256 % 16 → m / 16 % 16 ≡ n / 16 % 16 → m % 16 ≡ n % 16 → m ≡ n
+six_by : (m n : ℕ) → m < 2 ^ 24 → n < 2 ^ 24 → m / 1048576 % 16 ≡ n / 1048576 % 16 → m / 65536 % 16 ≡ n / 65536 % 16 → m / 4096 % 16 ≡ n / 4096 % 16
+    → m / 256 % 16 ≡ n / 256 % 16 → m / 16 % 16 ≡ n / 16 % 16 → m % 16 ≡ n % 16 → m ≡ n
 six_by m n p q a b c d f g =
-    up _ _ m n _ _ (step_1 m) (step_1 n) (up _ _ (m / 16) (n / 16) _ _ (step_2 m) (step_2 n) (up _ _ (m / 256) (n / 256) _ _ (step_3 m) (step_3 n) (up _ _ (m / 4096) (n / 4096) _ _ (step_4 m) (step_4 n) (up _ _ (m / 65536) (n / 65536) _ _ (step_5 m) (step_5 n) (sym (step_6 m p) ∙ a ∙ step_6 n q) b) c) d) f) g
+    up _ _ m n _ _ (step_1 m) (step_1 n)
+    (up _ _ (m / 16) (n / 16) _ _ (step_2 m) (step_2 n)
+    (up _ _ (m / 256) (n / 256) _ _ (step_3 m) (step_3 n) (up _ _ (m / 4096) (n / 4096) _ _ (step_4 m) (step_4 n)
+    (up _ _ (m / 65536) (n / 65536) _ _ (step_5 m) (step_5 n) (sym (step_6 m p) ∙ a ∙ step_6 n q) b) c) d) f) g
 
 six_one : (m n : ℕ) → m < 2 ^ 24 → n < 2 ^ 24 → six_digits m ≡ six_digits n → m ≡ n
 unfolding six_digits
 six_one m n p q e =
-    six_by m n p q (glyph_one _ _ (omega arith) (omega arith) (ap (λ (l : List ℕ). get_or l 0 0) e)) (glyph_one _ _ (omega arith) (omega arith) (ap (λ (l : List ℕ). get_or l 1 0) e)) (glyph_one _ _ (omega arith) (omega arith) (ap (λ (l : List ℕ). get_or l 2 0) e))
-    (glyph_one _ _ (omega arith) (omega arith) (ap (λ (l : List ℕ). get_or l 3 0) e)) (glyph_one _ _ (omega arith) (omega arith) (ap (λ (l : List ℕ). get_or l 4 0) e)) (glyph_one _ _ (omega arith) (omega arith) (ap (λ (l : List ℕ). get_or l 5 0) e))
+    six_by m n p q (glyph_one _ _ (omega arith) (omega arith) (ap (λ (l : List ℕ). get_or l 0 0) e))
+    (glyph_one _ _ (omega arith) (omega arith) (ap (λ (l : List ℕ). get_or l 1 0) e))
+    (glyph_one _ _ (omega arith) (omega arith) (ap (λ (l : List ℕ). get_or l 2 0) e))
+    (glyph_one _ _ (omega arith) (omega arith) (ap (λ (l : List ℕ). get_or l 3 0) e))
+    (glyph_one _ _ (omega arith) (omega arith) (ap (λ (l : List ℕ). get_or l 4 0) e))
+    (glyph_one _ _ (omega arith) (omega arith) (ap (λ (l : List ℕ). get_or l 5 0) e))
 
 -- ---- a tag without the prefix
 
@@ -132,12 +154,16 @@ pub record Whole (prefix text : List ℕ) : Type 0 where
   is : stripped prefix text ≡ text
   never : prefix ≢ []
 
-pub cut_or_whole : (prefix text : List ℕ) → Cut prefix text ⊎ Whole prefix text
+cut_or_whole : (prefix text : List ℕ) → Cut prefix text ⊎ Whole prefix text
 cut_or_whole prefix text = by (starts_with nat_eq text prefix) refl
   where
     by : (b : Bool) → starts_with nat_eq text prefix ≡ b → Cut prefix text ⊎ Whole prefix text
     by true e = inl record { is = rw e refl; begins = (starts_is Decides-eqb text prefix (starts_with nat_eq text prefix) refl).0 e }
-    by false e = inr record { is = rw e refl; never = λ none. let k : starts_with nat_eq text prefix ≡ true = (starts_is Decides-eqb text prefix (starts_with nat_eq text prefix) refl).1 text (ap (λ (p : List ℕ). p ++ text) (sym none)) in cc }
+    by false e = inr record {
+      is = rw e refl;
+      never = λ none. let k : starts_with nat_eq text prefix ≡ true =
+          (starts_is Decides-eqb text prefix (starts_with nat_eq text prefix) refl).1 text (ap (λ (p : List ℕ). p ++ text) (sym none)) in cc;
+    }
 
 drop_all : (n : ℕ) (cs : List ℕ) → AllDigits cs → AllDigits (drop n cs)
 drop_all zero cs all = all
@@ -184,7 +210,10 @@ letter_none Interval h = omega (arith, h.0)
 -- the type of a letter
 type_of_letter : ℕ → TtlvType
 type_of_letter c =
-    cond (eqb c 91) Structure (cond (eqb c 105) Integer (cond (eqb c 108) LongInteger (cond (eqb c 73) BigInteger (cond (eqb c 101) Enumeration (cond (eqb c 98) Boolean (cond (eqb c 116) TextString (cond (eqb c 111) ByteString (cond (eqb c 100) DateTime Interval))))))))
+    cond (eqb c 91) Structure (cond (eqb c 105) Integer
+    (cond (eqb c 108) LongInteger (cond (eqb c 73) BigInteger
+    (cond (eqb c 101) Enumeration (cond (eqb c 98) Boolean
+    (cond (eqb c 116) TextString (cond (eqb c 111) ByteString (cond (eqb c 100) DateTime Interval))))))))
 
 letter_back : (t : TtlvType) → type_of_letter (letter t) ≡ t
 unfolding type_of_letter
@@ -209,12 +238,15 @@ record SameMark (m n : ℕ) (t u : TtlvType) (r s : List ℕ) : Type 0 where
   typ : t ≡ u
   rest : r ≡ s
 
-mark_front : (prefix : List ℕ) (m n : ℕ) (t u : TtlvType) (v w : Option ℕ) (r s : List ℕ) → m < 2 ^ 24 → n < 2 ^ 24 → mark prefix m t v ++ r ≡ mark prefix n u w ++ s → SameMark m n t u (value_text v ++ r) (value_text w ++ s)
+mark_front : (prefix : List ℕ) (m n : ℕ) (t u : TtlvType) (v w : Option ℕ) (r s : List ℕ) → m < 2 ^ 24 → n < 2 ^ 24
+    → mark prefix m t v ++ r ≡ mark prefix n u w ++ s → SameMark m n t u (value_text v ++ r) (value_text w ++ s)
 unfolding mark
 mark_front prefix m n t u v w r s p q e =
     let k : stripped prefix (six_digits m) ++ (letter t ∷ (value_text v ++ r)) ≡ stripped prefix (six_digits n) ++ (letter u ∷ (value_text w ++ s)) =
-    sym (append_assoc (stripped prefix (six_digits m)) (letter t ∷ value_text v) r) ∙ e ∙ append_assoc (stripped prefix (six_digits n)) (letter u ∷ value_text w) s in
-    let f = front_one (stripped prefix (six_digits m)) (stripped prefix (six_digits n)) _ _ (letter t) (letter u) (stripped_all prefix m) (stripped_all prefix n) (letter_none t) (letter_none u) k in
+    sym (append_assoc (stripped prefix (six_digits m)) (letter t ∷ value_text v) r) ∙ e
+    ∙ append_assoc (stripped prefix (six_digits n)) (letter u ∷ value_text w) s in
+    let f = front_one (stripped prefix (six_digits m)) (stripped prefix (six_digits n)) _ _ (letter t) (letter u) (stripped_all prefix m)
+    (stripped_all prefix n) (letter_none t) (letter_none u) k in
     record { tag = stripped_one prefix m n p q f.front; typ = letter_one t u f.first; rest = f.rest }
 
 -- an item never begins with `]`
@@ -236,7 +268,8 @@ never_close (x ∷ xs) r s t all e = let k : x ≡ 93 = cc in omega (arith, k, a
 
 mark_open : (prefix : List ℕ) (m : ℕ) (t : TtlvType) (v : Option ℕ) (r s : List ℕ) → mark prefix m t v ++ r ≡ 93 ∷ s → ⊥
 unfolding mark
-mark_open prefix m t v r s e = never_close (stripped prefix (six_digits m)) (value_text v ++ r) s t (stripped_all prefix m) (sym (append_assoc (stripped prefix (six_digits m)) (letter t ∷ value_text v) r) ∙ e)
+mark_open prefix m t v r s e = never_close (stripped prefix (six_digits m)) (value_text v ++ r) s t (stripped_all prefix m)
+    (sym (append_assoc (stripped prefix (six_digits m)) (letter t ∷ value_text v) r) ∙ e)
 
 -- values
 record SameValue (v w : Option ℕ) (r s : List ℕ) : Type 0 where
@@ -251,7 +284,8 @@ value_one Structure v w r s p q e = absurd p
 value_one Enumeration None w r s p q e = absurd p
 value_one Enumeration (Some m) None r s p q e = absurd q
 value_one Enumeration (Some m) (Some n) r s p q e =
-    let f = front_one (hex_upper m) (hex_upper n) r s 58 58 (hex_digits m) (hex_digits n) colon_none colon_none (sym (append_assoc (hex_upper m) (58 ∷ []) r) ∙ e ∙ append_assoc (hex_upper n) (58 ∷ []) s) in
+    let f = front_one (hex_upper m) (hex_upper n) r s 58 58 (hex_digits m) (hex_digits n) colon_none colon_none (sym (append_assoc (hex_upper m) (58 ∷ []) r)
+    ∙ e ∙ append_assoc (hex_upper n) (58 ∷ []) s) in
     record { value = ap Some (hex_one m n p q f.front); rest = f.rest }
 value_one Integer None None r s p q e = record { value = refl; rest = e }
 value_one LongInteger None None r s p q e = record { value = refl; rest = e }
@@ -293,7 +327,8 @@ not_structure v h = h
 
 never_first : (prefix : List ℕ) (o : Outline) (r s : List ℕ) → diag prefix o ++ r ≡ 93 ∷ s → ⊥
 never_first prefix (leaf_outline m t v) r s e = mark_open prefix m t v r s e
-never_first prefix (node_outline m below) r s e = mark_open prefix m Structure None ((diag_all prefix below ++ (93 ∷ [])) ++ r) s (sym (append_assoc (mark prefix m Structure None) (diag_all prefix below ++ (93 ∷ [])) r) ∙ e)
+never_first prefix (node_outline m below) r s e = mark_open prefix m Structure None ((diag_all prefix below ++ (93 ∷ [])) ++ r) s
+    (sym (append_assoc (mark prefix m Structure None) (diag_all prefix below ++ (93 ∷ [])) r) ∙ e)
 
 mutual
   diag_front : (prefix : List ℕ) (o p : Outline) (r s : List ℕ) → IsOutline o → IsOutline p → diag prefix o ++ r ≡ diag prefix p ++ s → SameFront o p r s
@@ -303,23 +338,32 @@ mutual
       let a = f.tag in let b = f.typ in let c = g.value in
       record { same = cc; rest = g.rest }
   diag_front prefix (leaf_outline m t v) (node_outline n below) r s io ip e =
-      let f = mark_front prefix m n t Structure v None r ((diag_all prefix below ++ (93 ∷ [])) ++ s) io.0 ip.0 (e ∙ append_assoc (mark prefix n Structure None) (diag_all prefix below ++ (93 ∷ [])) s) in
+      let f = mark_front prefix m n t Structure v None r ((diag_all prefix below ++ (93 ∷ [])) ++ s) io.0 ip.0
+      (e ∙ append_assoc (mark prefix n Structure None) (diag_all prefix below ++ (93 ∷ [])) s) in
       absurd (not_structure v (subst (λ (x : TtlvType). IsShown x v) f.typ io.1))
   diag_front prefix (node_outline m above) (leaf_outline n u w) r s io ip e =
-      let f = mark_front prefix n m u Structure w None s ((diag_all prefix above ++ (93 ∷ [])) ++ r) ip.0 io.0 (sym e ∙ append_assoc (mark prefix m Structure None) (diag_all prefix above ++ (93 ∷ [])) r) in
+      let f = mark_front prefix n m u Structure w None s ((diag_all prefix above ++ (93 ∷ [])) ++ r) ip.0 io.0 (sym e
+      ∙ append_assoc (mark prefix m Structure None) (diag_all prefix above ++ (93 ∷ [])) r) in
       absurd (not_structure w (subst (λ (x : TtlvType). IsShown x w) f.typ ip.1))
   diag_front prefix (node_outline m above) (node_outline n below) r s io ip e =
-      let f = mark_front prefix m n Structure Structure None None ((diag_all prefix above ++ (93 ∷ [])) ++ r) ((diag_all prefix below ++ (93 ∷ [])) ++ s) io.0 ip.0 (sym (append_assoc (mark prefix m Structure None) (diag_all prefix above ++ (93 ∷ [])) r) ∙ e ∙ append_assoc (mark prefix n Structure None) (diag_all prefix below ++ (93 ∷ [])) s) in
-      let g = diag_fronts prefix above below r s io.1 ip.1 (sym (append_assoc (diag_all prefix above) (93 ∷ []) r) ∙ f.rest ∙ append_assoc (diag_all prefix below) (93 ∷ []) s) in
+      let f = mark_front prefix m n Structure Structure None None ((diag_all prefix above ++ (93 ∷ [])) ++ r) ((diag_all prefix below ++ (93 ∷ [])) ++ s) io.0
+      ip.0 (sym (append_assoc (mark prefix m Structure None) (diag_all prefix above ++ (93 ∷ [])) r) ∙ e
+      ∙ append_assoc (mark prefix n Structure None) (diag_all prefix below ++ (93 ∷ [])) s) in
+      let g = diag_fronts prefix above below r s io.1 ip.1 (sym (append_assoc (diag_all prefix above) (93 ∷ []) r) ∙ f.rest
+      ∙ append_assoc (diag_all prefix below) (93 ∷ []) s) in
       let a = f.tag in let b = g.same in
       record { same = cc; rest = g.rest }
 
-  diag_fronts : (prefix : List ℕ) (os ps : Outlines) (r s : List ℕ) → AreOutlines os → AreOutlines ps → diag_all prefix os ++ (93 ∷ r) ≡ diag_all prefix ps ++ (93 ∷ s) → SameFronts os ps r s
+  diag_fronts : (prefix : List ℕ) (os ps : Outlines) (r s : List ℕ) → AreOutlines os → AreOutlines ps → diag_all prefix os ++ (93 ∷ r) ≡ diag_all prefix ps
+      ++ (93 ∷ s) → SameFronts os ps r s
   diag_fronts prefix no_outlines no_outlines r s io ip e = record { same = refl; rest = cc }
-  diag_fronts prefix no_outlines (outline p ps) r s io ip e = absurd (never_first prefix p (diag_all prefix ps ++ (93 ∷ s)) r (sym (append_assoc (diag prefix p) (diag_all prefix ps) (93 ∷ s)) ∙ sym e))
-  diag_fronts prefix (outline o os) no_outlines r s io ip e = absurd (never_first prefix o (diag_all prefix os ++ (93 ∷ r)) s (sym (append_assoc (diag prefix o) (diag_all prefix os) (93 ∷ r)) ∙ e))
+  diag_fronts prefix no_outlines (outline p ps) r s io ip e =
+      absurd (never_first prefix p (diag_all prefix ps ++ (93 ∷ s)) r (sym (append_assoc (diag prefix p) (diag_all prefix ps) (93 ∷ s)) ∙ sym e))
+  diag_fronts prefix (outline o os) no_outlines r s io ip e =
+      absurd (never_first prefix o (diag_all prefix os ++ (93 ∷ r)) s (sym (append_assoc (diag prefix o) (diag_all prefix os) (93 ∷ r)) ∙ e))
   diag_fronts prefix (outline o os) (outline p ps) r s io ip e =
-      let f = diag_front prefix o p (diag_all prefix os ++ (93 ∷ r)) (diag_all prefix ps ++ (93 ∷ s)) io.0 ip.0 (sym (append_assoc (diag prefix o) (diag_all prefix os) (93 ∷ r)) ∙ e ∙ append_assoc (diag prefix p) (diag_all prefix ps) (93 ∷ s)) in
+      let f = diag_front prefix o p (diag_all prefix os ++ (93 ∷ r)) (diag_all prefix ps ++ (93 ∷ s)) io.0 ip.0
+      (sym (append_assoc (diag prefix o) (diag_all prefix os) (93 ∷ r)) ∙ e ∙ append_assoc (diag prefix p) (diag_all prefix ps) (93 ∷ s)) in
       let g = diag_fronts prefix os ps r s io.1 ip.1 f.rest in
       let a = f.same in let b = g.same in
       record { same = cc; rest = g.rest }

@@ -1,5 +1,6 @@
 -- What any style writes for a well-formed message.
-use Rattle.std.proofs.Common.{◌≡◌, ◌≢◌, ℕ, zero, suc, ◌+◌, ◌<◌, ◌≤◌, Bool, true, false, List, [], ◌∷◌, ◌++◌, length, take, drop, refl, sym, ap, ◌∙◌, arith, append_assoc, append-nil, length-append}
+use Rattle.std.proofs.Common.{◌≡◌, ◌≢◌, ℕ, zero, suc, ◌+◌, ◌<◌, ◌≤◌, Bool, true, false, List, [], ◌∷◌, ◌++◌, length, take, drop, refl, sym, ap, ◌∙◌, arith}
+use Rattle.std.proofs.Common.{append_assoc, append-nil, length-append}
 use Rattle.std.proofs.lemmas.List.{drop_at, length-drop, drop-drop}
 use Rattle.std.proofs.lemmas.Bool.{lt-ltb}
 use Rattle.kmip_ttlv_types.specs.declared.typ.TtlvType.{TtlvType}
@@ -83,7 +84,8 @@ first_length tag no_trees text none h = absurd none
 first_length tag (tree t ts) text none h = omega (arith, tree_length t h.0 h.3, ap length h.2, length-append h.0 h.1)
 
 -- so it has its own end
-ends_itself : (closed : Bool) (tag : ℕ) (ts : Trees) (text : List ℕ) → (closed ≡ false → HasNoEmpty (node tag ts)) → AreTreeTexts ts text → has_end closed (length text) ≡ true
+ends_itself : (closed : Bool) (tag : ℕ) (ts : Trees) (text : List ℕ) → (closed ≡ false → HasNoEmpty (node tag ts)) → AreTreeTexts ts text
+    → has_end closed (length text) ≡ true
 ends_itself true tag ts text none h = refl
 ends_itself false tag ts text none h = lt-ltb 0 (length text) (first_length tag ts text (none refl) h)
 
@@ -98,7 +100,8 @@ within_at : (w : List ℕ) (p : ℕ) (a rest : List ℕ) → p ≤ length w → 
 within_at w p a rest le e = omega (arith, ap length e, length-append a rest, length-drop p w)
 
 -- where its content is
-content_at_text : (w : List ℕ) (p : ℕ) (x : Raw) (text rest : List ℕ) (t : IsTextOf x text) → drop p w ≡ text ++ rest → drop (p + 8) w ≡ x.content ++ (t.pad ++ rest)
+content_at_text : (w : List ℕ) (p : ℕ) (x : Raw) (text rest : List ℕ) (t : IsTextOf x text) → drop p w ≡ text ++ rest
+    → drop (p + 8) w ≡ x.content ++ (t.pad ++ rest)
 content_at_text w p x text rest t e =
     let r : drop p w ≡ (header_of x ++ x.content ++ t.pad) ++ rest = e ∙ ap (λ (s : List ℕ). s ++ rest) t.parts in
     let grouped : (header_of x ++ x.content ++ t.pad) ++ rest ≡ header_of x ++ (x.content ++ (t.pad ++ rest)) = simp append_assoc in
@@ -136,12 +139,15 @@ pub record NodeHere (closed : Bool) (x : Entry) (tag : ℕ) : Type 0 where
 
 -- a style writes this
 pub record Draws (style : Style) (d : Drawing) (closed : Bool) (w : List ℕ) : Type 0 where
-  pub leafs : (depth p tag : ℕ) (typ : TtlvType) (content : List ℕ) → LeafHere w p (entry_at w p) tag typ content → style.item depth p (entry_at w p) typ ≡ d.of_leaf depth tag typ content
+  pub leafs : (depth p tag : ℕ) (typ : TtlvType) (content : List ℕ) → LeafHere w p (entry_at w p) tag typ content
+      → style.item depth p (entry_at w p) typ ≡ d.of_leaf depth tag typ content
   pub nodes : (depth p tag : ℕ) → NodeHere closed (entry_at w p) tag → style.item depth p (entry_at w p) Structure ≡ d.of_node depth tag
 
 module _ (style : Style) (d : Drawing) (closed : Bool) (w : List ℕ) (draws : Draws style d closed w) where
-  leaf_step : (tag : ℕ) (typ : TtlvType) (content : List ℕ) (p f : ℕ) (es : List ℕ) (k : ℕ) (z : Bool) (text rest : List ℕ) → IsTreeText (leaf tag typ content) text → drop p w ≡ text ++ rest → p ≤ length w → Ready (place p es k z)
-      → text_from style closed w (suc f) (place p es k z) ≡ d.of_leaf (k + length es) tag typ content ++ text_from style closed w f (place (p + length text) es k z)
+  leaf_step : (tag : ℕ) (typ : TtlvType) (content : List ℕ) (p f : ℕ) (es : List ℕ) (k : ℕ) (z : Bool) (text rest : List ℕ)
+      → IsTreeText (leaf tag typ content) text → drop p w ≡ text ++ rest → p ≤ length w → Ready (place p es k z)
+      → text_from style closed w (suc f) (place p es k z) ≡ d.of_leaf (k + length es) tag typ content ++ text_from style closed w f
+      (place (p + length text) es k z)
   leaf_step tag typ content p f es k z text rest h at le ready =
       let item = item_at_text w p (raw_with tag typ content) text rest le at h.1 in
       let n = length_at w p in
@@ -156,13 +162,17 @@ module _ (style : Style) (d : Drawing) (closed : Bool) (w : List ℕ) (draws : D
         content_is = ap (λ (q : ℕ). take q (drop (p + 8) w)) (entry_length w p) ∙ sym item.content;
         detail_is = detail_here w p typ n (ap type_of (sym item.typ) ∙ type_of-code typ) refl item.there ∙ ap (detail_of typ) (sym item.content);
       } in
-      let size-is : p + length text ≡ p + extent typ m = ap (λ (q : ℕ). p + q) (text_length (raw_with tag typ content) text h.1 ∙ ap (size typ) (item.len ∙ sym (entry_length w p)) ∙ sym (extent_leaf typ m ne)) in
-      let goes : after closed (place p es k z) typ m ≡ place (p + length text) es k z = sym (step_leaf closed (place p es k z) typ m (p + length text) ready ne size-is) in
+      let size-is : p + length text ≡ p + extent typ m = ap (λ (q : ℕ). p + q) (text_length (raw_with tag typ content) text h.1
+      ∙ ap (size typ) (item.len ∙ sym (entry_length w p)) ∙ sym (extent_leaf typ m ne)) in
+      let goes : after closed (place p es k z) typ m ≡ place (p + length text) es k z =
+      sym (step_leaf closed (place p es k z) typ m (p + length text) ready ne size-is) in
       text_reads style closed w f (place p es k z) typ ready reads ∙ rw (draws.leafs (k + length es) p tag typ content here, goes) refl
 
   -- a structure's opening
-  node_step : (tag : ℕ) (ts : Trees) (p f : ℕ) (es : List ℕ) (k : ℕ) (z : Bool) (text rest : List ℕ) (h : IsTreeText (node tag ts) text) → (closed ≡ false → HasNoEmpty (node tag ts)) → drop p w ≡ text ++ rest → p ≤ length w → Ready (place p es k z)
-      → text_from style closed w (suc f) (place p es k z) ≡ d.of_node (k + length es) tag ++ text_from style closed w f (place (p + 8) ((p + 8 + length h.0) ∷ es) k z)
+  node_step : (tag : ℕ) (ts : Trees) (p f : ℕ) (es : List ℕ) (k : ℕ) (z : Bool) (text rest : List ℕ) (h : IsTreeText (node tag ts) text)
+      → (closed ≡ false → HasNoEmpty (node tag ts)) → drop p w ≡ text ++ rest → p ≤ length w → Ready (place p es k z)
+      → text_from style closed w (suc f) (place p es k z) ≡ d.of_node (k + length es) tag ++ text_from style closed w f
+      (place (p + 8) ((p + 8 + length h.0) ∷ es) k z)
   node_step tag ts p f es k z text rest h none at le ready =
       let item = item_at_text w p (raw_with tag Structure h.0) text rest le at h.1 in
       let n = length_at (entry_at w p).header 0 in
@@ -170,12 +180,16 @@ module _ (style : Style) (d : Drawing) (closed : Bool) (w : List ℕ) (draws : D
       let reads = read_structure w p (ap type_of (sym item.typ)) (omega (arith, item.there)) in
       let own : has_end closed n ≡ true = ap (has_end closed) n-is ∙ ends_itself closed tag ts h.0 none h.2 in
       let here : NodeHere closed (entry_at w p) tag = record { tag_is = entry_tag w p ∙ sym item.tag; own = own } in
-      let goes : after closed (place p es k z) Structure n ≡ place (p + 8) ((p + 8 + length h.0) ∷ es) k z = sym (step_opens closed (place p es k z) Structure n (p + 8) ((p + 8 + length h.0) ∷ es) ready refl refl own (ap (λ (m : ℕ). (p + 8 + m) ∷ es) (sym n-is))) in
+      let goes : after closed (place p es k z) Structure n ≡ place (p + 8) ((p + 8 + length h.0) ∷ es) k z =
+      sym (step_opens closed (place p es k z) Structure n (p + 8) ((p + 8 + length h.0) ∷ es) ready refl refl own
+      (ap (λ (m : ℕ). (p + 8 + m) ∷ es) (sym n-is))) in
       text_reads style closed w f (place p es k z) Structure ready reads ∙ rw (draws.nodes (k + length es) p tag here, goes) refl
 
   mutual
-    tree_text : (t : Tree) (p e f : ℕ) (es : List ℕ) (k : ℕ) (z : Bool) (text rest : List ℕ) → IsTreeText t text → (closed ≡ false → HasNoEmpty t) → drop p w ≡ text ++ rest → p ≤ length w → p + length text ≤ e
-        → text_from style closed w (more t f) (place p (e ∷ es) k z) ≡ drawn d style.close (k + length (e ∷ es)) t ++ text_from style closed w f (place (p + length text) (e ∷ es) k z)
+    tree_text : (t : Tree) (p e f : ℕ) (es : List ℕ) (k : ℕ) (z : Bool) (text rest : List ℕ) → IsTreeText t text → (closed ≡ false → HasNoEmpty t)
+        → drop p w ≡ text ++ rest → p ≤ length w → p + length text ≤ e
+        → text_from style closed w (more t f) (place p (e ∷ es) k z) ≡ drawn d style.close (k + length (e ∷ es)) t ++ text_from style closed w f
+        (place (p + length text) (e ∷ es) k z)
     tree_text (leaf tag typ content) p e f es k z text rest h none at le end =
         leaf_step tag typ content p f (e ∷ es) k z text rest h at le (ready_before p e es k z (omega (arith, tree_length (leaf tag typ content) text h)))
     tree_text (node tag ts) p e f es k z text rest h none at le end =
@@ -185,19 +199,23 @@ module _ (style : Style) (d : Drawing) (closed : Bool) (w : List ℕ) (draws : D
         let long : p + 8 ≤ length w = omega (arith, within_at w p text rest le at, tree_length (node tag ts) text h) in
         let deep : k + length (q ∷ e ∷ es) ≡ suc (k + length (e ∷ es)) = omega arith in
         let first = node_step tag ts p (more_all ts f) (e ∷ es) k z text rest h none at le ready in
-        let second = trees_text ts (p + 8) q f (e ∷ es) k z h.0 (h.1.pad ++ rest) h.2 (λ c. inner tag ts (none c)) (content_at_text w p (raw_with tag Structure h.0) text rest h.1 at) long (omega arith) in
+        let second = trees_text ts (p + 8) q f (e ∷ es) k z h.0 (h.1.pad ++ rest) h.2 (λ c. inner tag ts (none c))
+        (content_at_text w p (raw_with tag Structure h.0) text rest h.1 at) long (omega arith) in
         let third = text_closes style closed w f q e es k z in
         let front = d.of_node (k + length (e ∷ es)) tag in
         let below = drawn_all d style.close (suc (k + length (e ∷ es))) ts in
         let more = text_from style closed w f (place (p + length text) (e ∷ es) k z) in
-        first ∙ ap (λ (r : List ℕ). front ++ r) (second ∙ ap (λ (m : ℕ). drawn_all d style.close m ts ++ text_from style closed w f (place q (q ∷ e ∷ es) k z)) deep ∙ ap (λ (r : List ℕ). below ++ r) (third ∙ ap (λ (m : ℕ). style.close ++ text_from style closed w f (place m (e ∷ es) k z)) q-is))
+        first ∙ ap (λ (r : List ℕ). front ++ r) (second ∙ ap (λ (m : ℕ). drawn_all d style.close m ts ++ text_from style closed w f (place q (q ∷ e ∷ es) k z))
+        deep ∙ ap (λ (r : List ℕ). below ++ r) (third ∙ ap (λ (m : ℕ). style.close ++ text_from style closed w f (place m (e ∷ es) k z)) q-is))
         ∙ regroup front below style.close more
       where
         regroup : (a b c r : List ℕ) → a ++ (b ++ (c ++ r)) ≡ (a ++ (b ++ c)) ++ r
         regroup a b c r = simp append_assoc refl
 
-    trees_text : (ts : Trees) (p e f : ℕ) (es : List ℕ) (k : ℕ) (z : Bool) (text rest : List ℕ) → AreTreeTexts ts text → (closed ≡ false → HaveNoEmpty ts) → drop p w ≡ text ++ rest → p ≤ length w → p + length text ≤ e
-        → text_from style closed w (more_all ts f) (place p (e ∷ es) k z) ≡ drawn_all d style.close (k + length (e ∷ es)) ts ++ text_from style closed w f (place (p + length text) (e ∷ es) k z)
+    trees_text : (ts : Trees) (p e f : ℕ) (es : List ℕ) (k : ℕ) (z : Bool) (text rest : List ℕ) → AreTreeTexts ts text → (closed ≡ false → HaveNoEmpty ts)
+        → drop p w ≡ text ++ rest → p ≤ length w → p + length text ≤ e
+        → text_from style closed w (more_all ts f) (place p (e ∷ es) k z) ≡ drawn_all d style.close (k + length (e ∷ es)) ts ++ text_from style closed w f
+        (place (p + length text) (e ∷ es) k z)
     trees_text no_trees p e f es k z text rest h none at le end =
         let same : p ≡ p + length text = omega (arith, ap length h) in
         ap (λ (m : ℕ). text_from style closed w f (place m (e ∷ es) k z)) same
@@ -207,7 +225,8 @@ module _ (style : Style) (d : Drawing) (closed : Bool) (w : List ℕ) (draws : D
         let size-is : length text ≡ length a + length b = ap length h.2 ∙ length-append a b in
         let here : drop p w ≡ a ++ (b ++ rest) = at ∙ ap (λ (s : List ℕ). s ++ rest) h.2 ∙ append_assoc a b rest in
         let first = tree_text t p e (more_all ts f) es k z a (b ++ rest) h.3 (λ c. (none c).0) here le (omega arith) in
-        let second = trees_text ts (p + length a) e f es k z b rest h.4 (λ c. (none c).1) (next_at w p a (b ++ rest) here) (within_at w p a (b ++ rest) le here) (omega arith) in
+        let second = trees_text ts (p + length a) e f es k z b rest h.4 (λ c. (none c).1) (next_at w p a (b ++ rest) here) (within_at w p a (b ++ rest) le here)
+        (omega arith) in
         let sum : p + length a + length b ≡ p + length text = omega arith in
         let one = drawn d style.close (k + length (e ∷ es)) t in
         let others = drawn_all d style.close (k + length (e ∷ es)) ts in
@@ -215,12 +234,15 @@ module _ (style : Style) (d : Drawing) (closed : Bool) (w : List ℕ) (draws : D
         ∙ sym (append_assoc one others (text_from style closed w f (place (p + length text) (e ∷ es) k z)))
 
   -- a whole message
-  pub message_told : (t : Tree) → IsTreeText t w → IsStructure t → (closed ≡ false → HasNoEmpty t) → printed_text style closed (length w) (trace closed w) ≡ drawn d style.close 0 t
-  message_told (leaf tag typ content) h root none = absurd root
-  message_told (node tag ts) h root none =
+  pub message_determined : (t : Tree) → IsTreeText t w → IsStructure t → (closed ≡ false → HasNoEmpty t) → printed_text style closed (length w) (trace closed w)
+      ≡ drawn d style.close 0 t
+  message_determined (leaf tag typ content) h root none = absurd root
+  message_determined (node tag ts) h root none =
       let t = turns (node tag ts) w (suc (length w)) h (omega arith) in
       let at : drop 0 w ≡ w ++ [] = sym (append-nil w) in
       let first = node_step tag ts 0 (more_all ts t.left) [] 0 false w [] h none at (omega arith) (ready_root 0 0 false) in
-      let second = trees_text ts (0 + 8) (0 + 8 + length h.0) t.left [] 0 false h.0 (h.1.pad ++ []) h.2 (λ c. inner tag ts (none c)) (content_at_text w 0 (raw_with tag Structure h.0) w [] h.1 at) (omega (arith, node_length tag ts w h)) (omega arith) in
+      let second = trees_text ts (0 + 8) (0 + 8 + length h.0) t.left [] 0 false h.0 (h.1.pad ++ []) h.2 (λ c. inner tag ts (none c))
+      (content_at_text w 0 (raw_with tag Structure h.0) w [] h.1 at) (omega (arith, node_length tag ts w h)) (omega arith) in
       sym (text_start style closed w) ∙ ap (λ (n : ℕ). text_from style closed w n start) t.is
-      ∙ first ∙ ap (λ (r : List ℕ). d.of_node 0 tag ++ r) (second ∙ ap (λ (r : List ℕ). drawn_all d style.close 1 ts ++ r) (text_over style closed w t.left (0 + 8 + length h.0) 0 false))
+      ∙ first ∙ ap (λ (r : List ℕ). d.of_node 0 tag ++ r) (second ∙ ap (λ (r : List ℕ). drawn_all d style.close 1 ts ++ r)
+      (text_over style closed w t.left (0 + 8 + length h.0) 0 false))

@@ -33,8 +33,8 @@ type_of_letter c =
     if c == 110 then Some Interval else None
 
 -- each letter has exactly one type, and no other character has one
-abbrev pub LettersTellTypes : Type 0
-LettersTellTypes = (c : ℕ) (t : TtlvType) → (type_of_letter c ≡ Some t) ↔ (c ≡ letter t)
+abbrev pub LettersDetermineTypes : Type 0
+LettersDetermineTypes = (c : ℕ) (t : TtlvType) → (type_of_letter c ≡ Some t) ↔ (c ≡ letter t)
 
 -- 0 to 9 and A to F
 abbrev pub is_hex : ℕ → Bool

@@ -20,8 +20,8 @@ IsExact prefix closed bytes text =
     → Exact prefix t text
 
 -- two well-formed messages have equal diagnostics if and only if their outlines are equal
-abbrev pub TellsOutlines : Type 0
-TellsOutlines =
+abbrev pub DetermineOutlines : Type 0
+DetermineOutlines =
     (prefix : List ℕ) (closed : Bool) (a b : List ℕ) (t u : Tree)
     → EachIndex a (λ i. slice_index a i < 256)
     → EachIndex b (λ i. slice_index b i < 256)

@@ -9,7 +9,12 @@ use Rattle.kmip_ttlv_util.specs.Pieces.{Moves}
 
 -- a whole text is a beginning of itself
 whole_front : (a b : Option (List ℕ)) (s : List ℕ) → Appends a b s → AppendsFront a b s
-whole_front a b s h = record { count = length s; within = le_refl (length s); appends = subst (Appends a b) (sym (take_all (length s) s (le_refl (length s)))) h }
+whole_front a b s h = record {
+  count = length s;
+  within = le_refl (length s);
+  appends =
+      subst (Appends a b) (sym (take_all (length s) s (le_refl (length s)))) h;
+}
 
 -- ---- a string
 
@@ -33,20 +38,23 @@ string_after a b s p = whole_front (Some a) (Some b) s p
 pub moves_none : (n : GName) (a : Option (List ℕ)) (w : List ℕ) → (n ≡ n) × Moves a a w [] w
 moves_none n a w = (refl, record { sent = []; appended = Appends-nil a; parts = append-nil w })
 
-pub moves_both : (l m n : GName) (a b c : Option (List ℕ)) (u v w s t : List ℕ) → (m ≡ l) × Moves a b u s v → (n ≡ m) × Moves b c v t w → (n ≡ l) × Moves a c u (s ++ t) w
+pub moves_both : (l m n : GName) (a b c : Option (List ℕ)) (u v w s t : List ℕ) → (m ≡ l) × Moves a b u s v → (n ≡ m) × Moves b c v t w → (n ≡ l)
+    × Moves a c u (s ++ t) w
 moves_both l m n a b c u v w s t (p, x) (q, y) = (
   q ∙ p,
   record {
     sent = x.sent ++ y.sent;
     appended = Appends-trans a b c x.sent y.sent x.appended y.appended;
-    parts = sym (append_assoc u s t) ∙ ap (λ (z : List ℕ). z ++ t) x.parts ∙ append_assoc x.sent v t ∙ ap (λ (z : List ℕ). x.sent ++ z) y.parts ∙ sym (append_assoc x.sent y.sent w);
+    parts = sym (append_assoc u s t) ∙ ap (λ (z : List ℕ). z ++ t) x.parts ∙ append_assoc x.sent v t ∙ ap (λ (z : List ℕ). x.sent ++ z) y.parts
+        ∙ sym (append_assoc x.sent y.sent w);
   },
 )
 
 pub front_first : (m n : GName) (a b : Option (List ℕ)) (u s t : List ℕ) → (n ≡ m) × AppendsFront a b (u ++ s) → (n ≡ m) × AppendsFront a b (u ++ (s ++ t))
 front_first m n a b u s t (p, x) = (p, subst (AppendsFront a b) (append_assoc u s t) (AppendsFront-first a b (u ++ s) t x))
 
-pub front_second : (l m n : GName) (a b c : Option (List ℕ)) (u v s t : List ℕ) → (m ≡ l) × Moves a b u s v → (n ≡ m) × AppendsFront b c (v ++ t) → (n ≡ l) × AppendsFront a c (u ++ (s ++ t))
+pub front_second : (l m n : GName) (a b c : Option (List ℕ)) (u v s t : List ℕ) → (m ≡ l) × Moves a b u s v → (n ≡ m) × AppendsFront b c (v ++ t) → (n ≡ l)
+    × AppendsFront a c (u ++ (s ++ t))
 front_second l m n a b c u v s t (p, x) (q, y) =
     let all : x.sent ++ (v ++ t) ≡ u ++ (s ++ t) = sym (append_assoc x.sent v t) ∙ ap (λ (z : List ℕ). z ++ t) (sym x.parts) ∙ append_assoc u s t in
     (q ∙ p, subst (AppendsFront a c) all (AppendsFront-second a b c x.sent (v ++ t) x.appended y))

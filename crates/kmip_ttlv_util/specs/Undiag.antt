@@ -1,6 +1,6 @@
 -- A diagnostic read back, as a function of the text, one part at a time. ReadBack states the result as a relation, in
 -- terms of the text alone.
-use Rattle.std.specs.Prelude.{codes, ◌≡◌, ℕ, zero, suc, ◌+◌, ◌&&◌, List, [], ◌∷◌, ◌++◌, length, take, drop, Option}
+use Rattle.std.specs.Prelude.{codes, ℕ, zero, suc, ◌+◌, ◌&&◌, List, [], ◌∷◌, ◌++◌, length, take, drop, Option}
 use Rattle.std.specs.Prelude.{Some, None, if◌then◌else◌, ◌==◌, nat_lt}
 use Rattle.std.specs.List.{prefix_len, position_or_len}
 use Rattle.std.specs.Str.{trim_end}

@@ -1,5 +1,6 @@
 -- The items of trees fit, and a list of lines is that of one list of trees.
-use Rattle.std.proofs.Common.{◌≡◌, ◌≢◌, inl, inr, ℕ, zero, suc, ◌+◌, ◌<◌, ◌≤◌, ◌^◌, Bool, false, List, [], ◌∷◌, ◌++◌, length, map, Some, refl, ap, sym, subst, ◌∙◌, arith, ◌==◌, if◌then◌else◌}
+use Rattle.std.proofs.Common.{◌≡◌, ◌≢◌, inl, inr, ℕ, zero, suc, ◌+◌, ◌<◌, ◌≤◌, ◌^◌, Bool, false, List, [], ◌∷◌, ◌++◌, length, map, Some, refl, ap, sym, subst}
+use Rattle.std.proofs.Common.{◌∙◌, arith, ◌==◌, if◌then◌else◌}
 use Rattle.std.specs.List.{AllByRecursion}
 use Rattle.std.proofs.lemmas.Bool.{ne_eqb}
 use Rattle.kmip_ttlv_types.specs.declared.typ.TtlvType.{TtlvType}
@@ -41,7 +42,8 @@ record Parts (lent : List ℕ) (xs : List GivenItem) (ls ms : List Line) : Type 
   first-in : AllByRecursion (IsInside lent) first
   rest-in : AllByRecursion (IsInside lent) rest
 
-parts_of : (lent : List ℕ) (xs : List GivenItem) (ls ms : List Line) → map (line_of lent) xs ≡ ls ++ ms → AllByRecursion (IsInside lent) xs → Parts lent xs ls ms
+parts_of : (lent : List ℕ) (xs : List GivenItem) (ls ms : List Line) → map (line_of lent) xs ≡ ls ++ ms → AllByRecursion (IsInside lent) xs
+    → Parts lent xs ls ms
 parts_of lent xs [] ms e h = record { first = []; rest = xs; are = refl; first-are = refl; rest-are = e; first-in = tt; rest-in = h }
 parts_of lent [] (l ∷ ls) ms e h = absurd cc
 parts_of lent (x ∷ xs) (l ∷ ls) ms e h =
@@ -63,9 +65,11 @@ content_at_root : (r : Reach) (typ : TtlvType) (i : GivenItem) → i.depth ≡ 0
 content_at_root r typ i e = ap (λ (d : ℕ). if d == 0 then 0 else r.content + taken typ i.length) e
 
 content_deeper : (r : Reach) (typ : TtlvType) (i : GivenItem) → 0 < i.depth → (advanced r typ i).content ≡ r.content + taken typ i.length
-content_deeper r typ i lt = let k : (i.depth == 0) ≡ false = ne_eqb i.depth 0 (omega arith) in ap (λ (b : Bool). if b then 0 else r.content + taken typ i.length) k
+content_deeper r typ i lt = let k : (i.depth == 0) ≡ false = ne_eqb i.depth 0 (omega arith) in
+    ap (λ (b : Bool). if b then 0 else r.content + taken typ i.length) k
 
-content_fits : (r : Reach) (typ : TtlvType) (i : GivenItem) (d n : ℕ) → i.depth ≡ d → taken typ i.length ≤ n → (0 < d → r.content + n < 2 ^ 32) → (advanced r typ i).content < 2 ^ 32
+content_fits : (r : Reach) (typ : TtlvType) (i : GivenItem) (d n : ℕ) → i.depth ≡ d → taken typ i.length ≤ n → (0 < d → r.content + n < 2 ^ 32)
+    → (advanced r typ i).content < 2 ^ 32
 content_fits r typ i zero n e le room = omega (arith, content_at_root r typ i e)
 content_fits r typ i (suc d) n e le room = omega (arith, content_deeper r typ i (omega (arith, e)), room (omega arith), le)
 
@@ -78,7 +82,9 @@ opened_leaf Structure d ne = absurd (ne refl)
 opened_leaf typ d ne = refl
 
 -- a leaf follows
-leaf_comes : (lent : List ℕ) (r : Reach) (x : GivenItem) (d tag : ℕ) (typ : TtlvType) (content text : List ℕ) → IsTreeText (leaf tag typ content) text → line_of lent x ≡ line d tag (code typ) content → IsInside lent x → Room r d (span (leaf tag typ content)) → Comes lent r (x ∷ []) d (span (leaf tag typ content))
+leaf_comes : (lent : List ℕ) (r : Reach) (x : GivenItem) (d tag : ℕ) (typ : TtlvType) (content text : List ℕ) → IsTreeText (leaf tag typ content) text
+    → line_of lent x ≡ line d tag (code typ) content → IsInside lent x → Room r d (span (leaf tag typ content))
+    → Comes lent r (x ∷ []) d (span (leaf tag typ content))
 leaf_comes lent r x d tag typ content text h is within room = record {
   fit = (
     record {
@@ -87,7 +93,11 @@ leaf_comes lent r x d tag typ content text h is within room = record {
       typ = typ;
       typed = typed;
       value = λ _. value;
-      room = record { content = content_fits r typ x d (span (leaf tag typ content)) depth (omega (arith, took)) room.content; total = omega (arith, took, room.total) };
+      room = record {
+        content = content_fits r typ x d (span (leaf tag typ content)) depth (omega (arith, took)) room.content;
+        total =
+            omega (arith, took, room.total);
+      };
     },
     tt,
   );
@@ -179,15 +189,27 @@ node_begins lent r x d tag n tag-fits is room = record {
     next : after r x ≡ advanced r Structure x
     next = ap (λ (t : TtlvType). advanced r t x) (typ_is x Structure typed)
 
-inner_room : (r s : Reach) (d n : ℕ) → n < 2 ^ 32 → Room r d (8 + n) → s.depth ≡ d + 1 → s.size ≡ r.size + 8 → (d ≡ 0 → s.content ≡ 0) → (0 < d → s.content ≡ r.content + 8) → Room s (suc d) n
-inner_room r s zero n lt room depth size root content = record { depth = omega (arith, depth); total = omega (arith, size, room.total); content = λ _. omega (arith, root refl) }
-inner_room r s (suc d) n lt room depth size root content = record { depth = omega (arith, depth); total = omega (arith, size, room.total); content = λ _. omega (arith, content (omega arith), room.content (omega arith)) }
+inner_room : (r s : Reach) (d n : ℕ) → n < 2 ^ 32 → Room r d (8 + n) → s.depth ≡ d + 1 → s.size ≡ r.size + 8 → (d ≡ 0 → s.content ≡ 0)
+    → (0 < d → s.content ≡ r.content + 8) → Room s (suc d) n
+inner_room r s zero n lt room depth size root content = record {
+  depth = omega (arith, depth);
+  total = omega (arith, size, room.total);
+  content =
+      λ _. omega (arith, root refl);
+}
+inner_room r s (suc d) n lt room depth size root content = record {
+  depth = omega (arith, depth);
+  total = omega (arith, size, room.total);
+  content =
+      λ _. omega (arith, content (omega arith), room.content (omega arith));
+}
 
 first_room : (r : Reach) (d n m : ℕ) → Room r d (n + m) → Room r d n
 first_room r d n m room = record { depth = room.depth; total = omega (arith, room.total); content = λ lt. omega (arith, room.content lt) }
 
 mutual
-  tree_comes : (lent : List ℕ) (t : Tree) (text : List ℕ) → IsTreeText t text → (r : Reach) (d : ℕ) (xs : List GivenItem) → map (line_of lent) xs ≡ lines d t → AllByRecursion (IsInside lent) xs → Room r d (span t) → Comes lent r xs d (span t)
+  tree_comes : (lent : List ℕ) (t : Tree) (text : List ℕ) → IsTreeText t text → (r : Reach) (d : ℕ) (xs : List GivenItem) → map (line_of lent) xs ≡ lines d t
+      → AllByRecursion (IsInside lent) xs → Room r d (span t) → Comes lent r xs d (span t)
   tree_comes lent (leaf tag typ content) text h r d [] is within room = absurd cc
   tree_comes lent (leaf tag typ content) text h r d (x ∷ y ∷ ys) is within room = absurd cc
   tree_comes lent (leaf tag typ content) text h r d (x ∷ []) is within room =
@@ -199,7 +221,8 @@ mutual
       let ls : map (line_of lent) xs ≡ lines_below (suc d) below = cc in
       let b = node_begins lent r x d tag (span_all below) h.1.tag_fits l room in
       let short : span_all below < 2 ^ 32 = omega (arith, texts_span below h.0 h.2, h.1.length_fits) in
-      let k = trees_come lent below h.0 h.2 (after r x) (suc d) xs ls within.1 (inner_room r (after r x) d (span_all below) short room b.depth b.size b.root b.content) in
+      let k = trees_come lent below h.0 h.2 (after r x) (suc d) xs ls within.1
+      (inner_room r (after r x) d (span_all below) short room b.depth b.size b.root b.content) in
       record {
         fit = (b.fits, k.fit);
         depth = omega (arith, k.depth);
@@ -207,14 +230,20 @@ mutual
         content = λ lt. omega (arith, k.content (omega arith), b.content lt);
       }
 
-  trees_come : (lent : List ℕ) (ts : Trees) (text : List ℕ) → AreTreeTexts ts text → (r : Reach) (d : ℕ) (xs : List GivenItem) → map (line_of lent) xs ≡ lines_below d ts → AllByRecursion (IsInside lent) xs → Room r d (span_all ts) → Comes lent r xs d (span_all ts)
+  trees_come : (lent : List ℕ) (ts : Trees) (text : List ℕ) → AreTreeTexts ts text → (r : Reach) (d : ℕ) (xs : List GivenItem)
+      → map (line_of lent) xs ≡ lines_below d ts → AllByRecursion (IsInside lent) xs → Room r d (span_all ts) → Comes lent r xs d (span_all ts)
   trees_come lent no_trees text h r d (x ∷ xs) is within room = absurd cc
   trees_come lent no_trees text h r d [] is within room = record { fit = tt; depth = room.depth; size = omega arith; content = λ _. omega arith }
   trees_come lent (tree t ts) text h r d xs is within room =
       let p = parts_of lent xs (lines d t) (lines_below d ts) is within in
       let a = tree_comes lent t h.0 h.3 r d p.first p.first-are p.first-in (first_room r d (span t) (span_all ts) room) in
       let s = after_all r p.first in
-      let rest-room : Room s d (span_all ts) = record { depth = a.depth; total = omega (arith, a.size, room.total); content = λ lt. omega (arith, a.content lt, room.content lt) } in
+      let rest-room : Room s d (span_all ts) = record {
+        depth = a.depth;
+        total = omega (arith, a.size, room.total);
+        content =
+            λ lt. omega (arith, a.content lt, room.content lt);
+      } in
       let b = trees_come lent ts h.1 h.4 s d p.rest p.rest-are p.rest-in rest-room in
       let end : after_all r xs ≡ after_all s p.rest = ap (after_all r) p.are ∙ after_append r p.first p.rest in
       record {
@@ -227,5 +256,10 @@ mutual
 -- what is written fits
 pub written_fit : (xs : List GivenItem) (lent out : List ℕ) → IsWritten xs lent out → AllFit lent start xs
 written_fit xs lent out w =
-    let room : Room start 0 (span_all w.trees) = record { depth = omega arith; total = omega (arith, texts_span w.trees out w.texts, w.total); content = λ lt. absurd (omega (arith, lt)) } in
+    let room : Room start 0 (span_all w.trees) = record {
+      depth = omega arith;
+      total = omega (arith, texts_span w.trees out w.texts, w.total);
+      content =
+          λ lt. absurd (omega (arith, lt));
+    } in
     (trees_come lent w.trees out w.texts start 0 xs w.are w.inside room).fit

@@ -24,7 +24,7 @@ pub fit_append : (lent : List ℕ) (r : Reach) (xs ys : List GivenItem) → AllF
 fit_append lent r [] ys h k = k
 fit_append lent r (x ∷ xs) ys h k = (h.0, fit_append lent (after r x) xs ys h.1 k)
 
-pub fit_behind : (lent : List ℕ) (r : Reach) (xs ys : List GivenItem) → AllFit lent r (xs ++ ys) → AllFit lent (after_all r xs) ys
+fit_behind : (lent : List ℕ) (r : Reach) (xs ys : List GivenItem) → AllFit lent r (xs ++ ys) → AllFit lent (after_all r xs) ys
 fit_behind lent r [] ys h = h
 fit_behind lent r (x ∷ xs) ys h = fit_behind lent (after r x) xs ys h.1
 
@@ -49,7 +49,8 @@ no_room r typ i room (inr long) = omega (arith, room.total, long)
 pub same_type : (n : ℕ) (a b : TtlvType) → type_of n ≡ Some a → type_of n ≡ Some b → a ≡ b
 same_type n a b e f = let k : Some a ≡ Some b = sym e ∙ f in cc
 
-value_of : (lent : List ℕ) (r : Reach) (i : GivenItem) → (f : Fits lent r i) → (typ : TtlvType) → type_of i.typ ≡ Some typ → typ ≢ Structure → HasValue lent typ i
+value_of : (lent : List ℕ) (r : Reach) (i : GivenItem) → (f : Fits lent r i) → (typ : TtlvType) → type_of i.typ ≡ Some typ → typ ≢ Structure
+    → HasValue lent typ i
 value_of lent r i f typ e ne =
     let k : f.typ ≡ typ = same_type i.typ f.typ typ f.typed e in
     subst (λ (t : TtlvType). HasValue lent t i) k (f.value (λ is. ne (sym k ∙ is)))
@@ -60,7 +61,7 @@ room_of lent r i f typ e = subst (λ (t : TtlvType). HasRoom r t i) (same_type i
 right_length : (lent : List ℕ) (typ : TtlvType) (i : GivenItem) → HasValue lent typ i → has_length (fixed_length typ) i.length ≡ true
 right_length lent typ i v = ap (has_length (fixed_length typ)) (sym (content_len lent i v.inside)) ∙ valid_length typ (given_content lent i) v.valid
 
-pub not_both : (lent : List ℕ) (r : Reach) (i : GivenItem) (kind : BadKind) → Fits lent r i → Misfits lent r i kind → ⊥
+not_both : (lent : List ℕ) (r : Reach) (i : GivenItem) (kind : BadKind) → Fits lent r i → Misfits lent r i kind → ⊥
 not_both lent r i NotInside f m = omega (arith, f.depth, m)
 not_both lent r i LongTag f m = omega (arith, f.tag, m.1)
 not_both lent r i UnknownType f m = let k : Some f.typ ≡ None = sym f.typed ∙ m.2 in absurd cc
@@ -72,6 +73,7 @@ not_both lent r i TooLong f m = no_room r m.0 i (room_of lent r i f m.0 m.1.type
 -- if there is a first bad item, not all fit
 pub not_all : (lent : List ℕ) (xs : List GivenItem) (bad : BadItem) → IsFirstBad xs lent bad → AllFit lent start xs → ⊥
 not_all lent xs bad b h =
-    let parts : xs ≡ take bad.index xs ++ (b.item ∷ b.rest) = sym (take-append-drop bad.index xs) ∙ ap (λ (s : List GivenItem). take bad.index xs ++ s) b.there in
+    let parts : xs ≡ take bad.index xs ++ (b.item ∷ b.rest) = sym (take-append-drop bad.index xs)
+    ∙ ap (λ (s : List GivenItem). take bad.index xs ++ s) b.there in
     let k = fit_behind lent start (take bad.index xs) (b.item ∷ b.rest) (subst (AllFit lent start) parts h) in
     not_both lent (after_all start (take bad.index xs)) b.item bad.kind k.0 b.wrong

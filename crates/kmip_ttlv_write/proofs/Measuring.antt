@@ -12,7 +12,8 @@ none_with : (lent : List ℕ) (xs : List GivenItem) (bad : BadItem) → IsFirstB
 none_with lent xs bad first = record { first = first; none = λ out w. not_all lent xs bad first (written_fit xs lent out w) }
 
 -- an item is the first bad one
-pub has_none : (lent : List ℕ) (xs : List GivenItem) (k n : ℕ) (kind : BadKind) (x : GivenItem) (r : Reach) → n ≡ k → AllFit lent start (take k xs) → r ≡ after_all start (take k xs) → drop k xs ≡ x ∷ drop (k + 1) xs → Misfits lent r x kind → HasNone xs lent record { index = n; kind = kind }
+pub has_none : (lent : List ℕ) (xs : List GivenItem) (k n : ℕ) (kind : BadKind) (x : GivenItem) (r : Reach) → n ≡ k → AllFit lent start (take k xs)
+    → r ≡ after_all start (take k xs) → drop k xs ≡ x ∷ drop (k + 1) xs → Misfits lent r x kind → HasNone xs lent record { index = n; kind = kind }
 has_none lent xs k n kind x r is fit reach at wrong =
     none_with lent xs record { index = n; kind = kind }
     record {
@@ -24,11 +25,13 @@ has_none lent xs k n kind x r is fit reach at wrong =
     }
 
 -- one more fits
-pub fits_more : (lent : List ℕ) (xs : List GivenItem) (k : ℕ) (x : GivenItem) (r : Reach) → r ≡ after_all start (take k xs) → AllFit lent start (take k xs) → take (k + 1) xs ≡ take k xs ++ x ∷ [] → Fits lent r x → AllFit lent start (take (k + 1) xs)
+pub fits_more : (lent : List ℕ) (xs : List GivenItem) (k : ℕ) (x : GivenItem) (r : Reach) → r ≡ after_all start (take k xs) → AllFit lent start (take k xs)
+    → take (k + 1) xs ≡ take k xs ++ x ∷ [] → Fits lent r x → AllFit lent start (take (k + 1) xs)
 fits_more lent xs k x r reach fit more f =
     subst (AllFit lent start) (sym more) (fit_append lent start (take k xs) (x ∷ []) fit (subst (λ (s : Reach). Fits lent s x) reach f, tt))
 
-pub after_more : (xs : List GivenItem) (k : ℕ) (x : GivenItem) (r s : Reach) → r ≡ after_all start (take k xs) → take (k + 1) xs ≡ take k xs ++ x ∷ [] → s ≡ after r x → s ≡ after_all start (take (k + 1) xs)
+pub after_more : (xs : List GivenItem) (k : ℕ) (x : GivenItem) (r s : Reach) → r ≡ after_all start (take k xs) → take (k + 1) xs ≡ take k xs ++ x ∷ []
+    → s ≡ after r x → s ≡ after_all start (take (k + 1) xs)
 after_more xs k x r s reach more is =
     is ∙ ap (λ (q : Reach). after q x) reach ∙ sym (after_append start (take k xs) (x ∷ [])) ∙ ap (after_all start) (sym more)
 

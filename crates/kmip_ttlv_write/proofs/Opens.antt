@@ -1,8 +1,10 @@
 -- Open structures: what was written and given of them, and what closing one changes.
-use Rattle.std.proofs.Common.{◌≡◌, ◌≢◌, ℕ, zero, suc, ◌+◌, ◌-◌, ◌<◌, ◌≤◌, ◌^◌, true, List, [], ◌∷◌, ◌++◌, length, replicate, refl, ap, sym, ◌∙◌, arith, append_assoc, append-nil, length-append}
+use Rattle.std.proofs.Common.{◌≡◌, ◌≢◌, ℕ, zero, suc, ◌+◌, ◌-◌, ◌<◌, ◌≤◌, ◌^◌, true, List, [], ◌∷◌, ◌++◌, length, replicate, refl, ap, sym, ◌∙◌, arith}
+use Rattle.std.proofs.Common.{append_assoc, append-nil, length-append}
 use Rattle.std.proofs.Math.ListN.{length-replicate}
 use Rattle.kmip_ttlv_types.specs.declared.typ.TtlvType.{TtlvType}
-use Rattle.kmip_ttlv_types.specs.declared.typ.TtlvType.TheVariants.{Structure, Integer, LongInteger, BigInteger, Enumeration, Boolean, TextString, ByteString, DateTime, Interval}
+use Rattle.kmip_ttlv_types.specs.declared.typ.TtlvType.TheVariants.{Structure, Integer, LongInteger, BigInteger, Enumeration, Boolean, TextString, ByteString}
+use Rattle.kmip_ttlv_types.specs.declared.typ.TtlvType.TheVariants.{DateTime, Interval}
 use Rattle.kmip_ttlv_types.specs.ItemTypes.{pad_len, padding}
 use Rattle.kmip_ttlv_types.specs.Items.{header}
 use Rattle.kmip_ttlv_types.specs.Leaves.{is_valid}
@@ -23,7 +25,7 @@ pub below_last : (us : Trees) (t : Tree) → bytes_below (add_last us t) ≡ byt
 below_last no_trees t = append-nil (bytes t)
 below_last (tree u us) t = ap (λ (s : List ℕ). bytes u ++ s) (below_last us t) ∙ sym (append_assoc (bytes u) (bytes_below us) (bytes t))
 
-pub lines_last : (d : ℕ) (us : Trees) (t : Tree) → lines_below d (add_last us t) ≡ lines_below d us ++ lines d t
+lines_last : (d : ℕ) (us : Trees) (t : Tree) → lines_below d (add_last us t) ≡ lines_below d us ++ lines d t
 lines_last d no_trees t = append-nil (lines d t)
 lines_last d (tree u us) t = ap (λ (s : List Line). lines d u ++ s) (lines_last d us t) ∙ sym (append_assoc (lines d u) (lines_below d us) (lines d t))
 
@@ -36,7 +38,7 @@ pub texts_all : (ts : Trees) → AllTexts ts → AreTreeTexts ts (bytes_below ts
 texts_all no_trees h = refl
 texts_all (tree t ts) h = (bytes t, bytes_below ts, refl, h.0, texts_all ts h.1)
 
-pub texts_last : (us : Trees) (t : Tree) → AllTexts us → IsTreeText t (bytes t) → AllTexts (add_last us t)
+texts_last : (us : Trees) (t : Tree) → AllTexts us → IsTreeText t (bytes t) → AllTexts (add_last us t)
 texts_last no_trees t h k = (k, tt)
 texts_last (tree u us) t h k = (h.0, texts_last us t h.1 k)
 
@@ -66,7 +68,8 @@ padding_is ByteString n h = refl
 padding_is DateTime n h = refl
 padding_is Interval n h = refl
 
-pub leaf_text : (tag : ℕ) (typ : TtlvType) (c : List ℕ) → tag < 2 ^ 24 → typ ≢ Structure → length c < 2 ^ 32 → is_valid typ c ≡ true → IsTreeText (leaf tag typ c) (bytes (leaf tag typ c))
+pub leaf_text : (tag : ℕ) (typ : TtlvType) (c : List ℕ) → tag < 2 ^ 24 → typ ≢ Structure → length c < 2 ^ 32 → is_valid typ c ≡ true
+    → IsTreeText (leaf tag typ c) (bytes (leaf tag typ c))
 unfolding leaf_bytes
 leaf_text tag typ c fits ne short valid = (
   valid,
@@ -85,23 +88,25 @@ AllSound (outside done) = AllTexts done
 AllSound (within around tag done) = AllSound around × (tag < 2 ^ 24) × AllTexts done
 
 -- the lines so far
-abbrev pub told : Opened → List Line
-told (outside done) = lines_below 0 done
-told (within around tag done) = told around ++ (line (depth_of around) tag 1 [] ∷ lines_below (suc (depth_of around)) done)
+abbrev pub lines_so_far : Opened → List Line
+lines_so_far (outside done) = lines_below 0 done
+lines_so_far (within around tag done) = lines_so_far around ++ (line (depth_of around) tag 1 [] ∷ lines_below (suc (depth_of around)) done)
 
 -- one more tree
-pub add_told : (t : Tree) (o : Opened) → told (add t o) ≡ told o ++ lines (depth_of o) t
-add_told t (outside done) = lines_last 0 done t
-add_told t (within around tag done) =
+pub add_lines_so_far : (t : Tree) (o : Opened) → lines_so_far (add t o) ≡ lines_so_far o ++ lines (depth_of o) t
+add_lines_so_far t (outside done) = lines_last 0 done t
+add_lines_so_far t (within around tag done) =
     let l = line (depth_of around) tag 1 [] in
     let d = suc (depth_of around) in
-    ap (λ (s : List Line). told around ++ (l ∷ s)) (lines_last d done t) ∙ sym (append_assoc (told around) (l ∷ lines_below d done) (lines d t))
+    ap (λ (s : List Line). lines_so_far around ++ (l ∷ s)) (lines_last d done t) ∙ sym (append_assoc (lines_so_far around) (l ∷ lines_below d done) (lines d t))
 
 pub add_spine : (t : Tree) (o : Opened) → spine (add t o) ≡ spine o ++ bytes t
 add_spine t (outside done) = below_last done t
 add_spine t (within around tag done) =
     let h = header tag Structure (link around) in
-    ap (λ (s : List ℕ). spine around ++ (h ++ s)) (below_last done t) ∙ ap (λ (s : List ℕ). spine around ++ s) (sym (append_assoc h (bytes_below done) (bytes t))) ∙ sym (append_assoc (spine around) (h ++ bytes_below done) (bytes t))
+    ap (λ (s : List ℕ). spine around ++ (h ++ s)) (below_last done t)
+    ∙ ap (λ (s : List ℕ). spine around ++ s) (sym (append_assoc h (bytes_below done) (bytes t)))
+    ∙ sym (append_assoc (spine around) (h ++ bytes_below done) (bytes t))
 
 pub add_depth : (t : Tree) (o : Opened) → depth_of (add t o) ≡ depth_of o
 add_depth t (outside done) = refl
@@ -135,11 +140,11 @@ add_since t a tag done =
     ap (λ (x : ℕ). since x a) k ∙ since_more 0 n n a tag done (omega arith)
 
 -- the innermost structure ends
-pub close_told : (o : Opened) → told (close_one o) ≡ told o
-close_told (outside done) = refl
-close_told (within around tag done) = add_told (node tag done) around
+close_lines_so_far : (o : Opened) → lines_so_far (close_one o) ≡ lines_so_far o
+close_lines_so_far (outside done) = refl
+close_lines_so_far (within around tag done) = add_lines_so_far (node tag done) around
 
-pub close_depth : (o : Opened) → depth_of (close_one o) ≡ depth_of o - 1
+close_depth : (o : Opened) → depth_of (close_one o) ≡ depth_of o - 1
 close_depth (outside done) = refl
 close_depth (within around tag done) = omega (arith, add_depth (node tag done) around)
 
@@ -147,22 +152,34 @@ pub close_since : (o : Opened) → since 0 (close_one o) ≤ since 0 o
 close_since (outside done) = omega arith
 close_since (within (outside us) tag done) = omega arith
 close_since (within (within a t us) tag done) =
-    omega (arith, add_since (node tag done) a t us, node_len tag (bytes_below done), since_more 0 (8 + length (bytes_below done)) (0 + 8 + length (bytes_below done)) a t us (omega arith))
+    omega (
+      arith,
+      add_since (node tag done) a t us,
+      node_len tag (bytes_below done),
+      since_more 0 (8 + length (bytes_below done))
+          (0 + 8 + length (bytes_below done)) a t us (omega arith),
+    )
 
-pub close_sound : (o : Opened) → since 0 o < 2 ^ 32 + 8 → AllSound o → AllSound (close_one o)
+close_sound : (o : Opened) → since 0 o < 2 ^ 32 + 8 → AllSound o → AllSound (close_one o)
 close_sound (outside done) small h = h
 close_sound (within around tag done) small h =
     add_sound (node tag done) around h.0 (node_text tag done h.1 (omega (arith, since_least (0 + 8 + length (bytes_below done)) around)) h.2)
 
-pub close_length : (o : Opened) → length (spine (close_one o)) ≡ length (spine o)
+close_length : (o : Opened) → length (spine (close_one o)) ≡ length (spine o)
 close_length (outside done) = refl
 close_length (within around tag done) =
     let h = header tag Structure (link around) in
-    ap length (add_spine (node tag done) around) ∙ omega (arith, length-append (spine around) (bytes (node tag done)), node_len tag (bytes_below done), length-append (spine around) (h ++ bytes_below done), length-append h (bytes_below done))
+    ap length (add_spine (node tag done) around) ∙ omega (
+      arith,
+      length-append (spine around) (bytes (node tag done)),
+      node_len tag (bytes_below done),
+      length-append (spine around) (h ++ bytes_below done),
+      length-append h (bytes_below done),
+    )
 
 -- several end
 pub record Closes (o c : Opened) : Type 0 where
-  pub said : told c ≡ told o
+  pub said : lines_so_far c ≡ lines_so_far o
   pub less : since 0 c ≤ since 0 o
   pub long : length (spine c) ≡ length (spine o)
   pub sound : since 0 o < 2 ^ 32 + 8 → AllSound o → AllSound c
@@ -172,13 +189,13 @@ closes_by zero o = record { said = refl; less = omega arith; long = refl; sound 
 closes_by (suc n) o =
     let k = closes_by n (close_one o) in
     record {
-      said = k.said ∙ close_told o;
+      said = k.said ∙ close_lines_so_far o;
       less = omega (arith, k.less, close_since o);
       long = k.long ∙ close_length o;
       sound = λ small h. k.sound (omega (arith, close_since o, small)) (close_sound o small h);
     }
 
-pub by_depth : (n : ℕ) (o : Opened) → depth_of (close_by n o) ≡ depth_of o - n
+by_depth : (n : ℕ) (o : Opened) → depth_of (close_by n o) ≡ depth_of o - n
 by_depth zero o = omega arith
 by_depth (suc n) o = by_depth n (close_one o) ∙ omega (arith, close_depth o)
 

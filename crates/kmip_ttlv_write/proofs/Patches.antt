@@ -1,25 +1,23 @@
 -- A length field that is filled in, and read.
-use Rattle.std.proofs.Common.{◌≡◌, ℕ, ◌+◌, ◌<◌, ◌^◌, List, [], ◌∷◌, ◌++◌, length, get_or, take, drop, refl, ap, sym, ◌∙◌, arith, append_assoc, length-append}
+use Rattle.std.proofs.Common.{◌≡◌, ℕ, ◌+◌, ◌<◌, ◌^◌, List, [], ◌∷◌, ◌++◌, length, get_or, take, drop, ap, sym, ◌∙◌, arith, append_assoc, length-append}
 use Rattle.std.proofs.lemmas.List.{take_at, drop_at, get_or-drop, take-append-drop}
 use Rattle.std.proofs.lemmas.Nat.{from_be_bytes-to_be_bytes_4}
 use Rattle.std.specs.Int.{w32, to_be_bytes, from_be_bytes, bytes_high_first}
 use Rattle.kmip_ttlv_types.specs.declared.typ.TtlvType.{TtlvType}
 use Rattle.kmip_ttlv_types.specs.ItemTypes.{code}
-use Rattle.kmip_ttlv_types.specs.Items.{header}
 use Rattle.kmip_ttlv_types.specs.Places.{length_at}
 
 -- the four bytes of a header before its length
 abbrev pub lead : ℕ → TtlvType → List ℕ
 lead tag typ = bytes_high_first 3 tag ++ code typ ∷ []
 
-pub header_parts : (tag : ℕ) (typ : TtlvType) (n : ℕ) → header tag typ n ≡ lead tag typ ++ to_be_bytes w32 n
-header_parts tag typ n = refl
-
 -- a number from the four bytes that encode it
-number_read : (a b c d n : ℕ) → n < 2 ^ 32 → a ≡ get_or (to_be_bytes w32 n) 0 0 → b ≡ get_or (to_be_bytes w32 n) 1 0 → c ≡ get_or (to_be_bytes w32 n) 2 0 → d ≡ get_or (to_be_bytes w32 n) 3 0 → from_be_bytes w32 (a ∷ b ∷ c ∷ d ∷ []) ≡ n
+number_read : (a b c d n : ℕ) → n < 2 ^ 32 → a ≡ get_or (to_be_bytes w32 n) 0 0 → b ≡ get_or (to_be_bytes w32 n) 1 0 → c ≡ get_or (to_be_bytes w32 n) 2 0
+    → d ≡ get_or (to_be_bytes w32 n) 3 0 → from_be_bytes w32 (a ∷ b ∷ c ∷ d ∷ []) ≡ n
 number_read a b c d n lt ea eb ec ed = rw (ea, eb, ec, ed) (from_be_bytes-to_be_bytes_4 n lt)
 
-module _ (out s h l d : List ℕ) (top at : ℕ) (s-is : length s ≡ top) (h-is : length h ≡ 4) (l-is : length l ≡ 4) (at-is : at ≡ top + 8 + length d) (emitted : take at out ≡ s ++ ((h ++ l) ++ d)) where
+module _ (out s h l d : List ℕ) (top at : ℕ) (s-is : length s ≡ top) (h-is : length h ≡ 4) (l-is : length l ≡ 4) (at-is : at ≡ top + 8 + length d)
+    (emitted : take at out ≡ s ++ ((h ++ l) ++ d)) where
   all : out ≡ (s ++ ((h ++ l) ++ d)) ++ drop at out
   all = sym (take-append-drop at out) ∙ ap (λ (x : List ℕ). x ++ drop at out) emitted
 
@@ -43,7 +41,8 @@ module _ (out s h l d : List ℕ) (top at : ℕ) (s-is : length s ≡ top) (h-is
   patched k k-is =
       let e : (s ++ h) ++ (k ++ (d ++ drop at out)) ≡ (s ++ ((h ++ k) ++ d)) ++ drop at out = simp append_assoc in
       let len : length (s ++ ((h ++ k) ++ d)) ≡ at = omega (arith, length-append s ((h ++ k) ++ d), length-append (h ++ k) d, length-append h k) in
-      ap (λ (x : List ℕ). take at (x ++ (k ++ drop (top + 8) out))) front ∙ ap (λ (x : List ℕ). take at ((s ++ h) ++ (k ++ x))) back ∙ ap (take at) e ∙ take_at (s ++ ((h ++ k) ++ d)) (drop at out) at len
+      ap (λ (x : List ℕ). take at (x ++ (k ++ drop (top + 8) out))) front ∙ ap (λ (x : List ℕ). take at ((s ++ h) ++ (k ++ x))) back ∙ ap (take at) e
+      ∙ take_at (s ++ ((h ++ k) ++ d)) (drop at out) at len
 
   -- the length in the header
   pub length_read : (n : ℕ) → n < 2 ^ 32 → l ≡ to_be_bytes w32 n → length_at out top ≡ n

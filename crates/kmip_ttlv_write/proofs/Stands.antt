@@ -1,5 +1,6 @@
 -- The state after items: what was given, and how many bytes.
-use Rattle.std.proofs.Common.{◌≡◌, ◌≢◌, inl, inr, ℕ, ◌+◌, ◌-◌, ◌<◌, ◌≤◌, ◌^◌, Bool, false, List, [], ◌∷◌, ◌++◌, length, map, drop, Option, Some, None, refl, ap, sym, subst, ◌∙◌, arith, append_assoc, append-nil, length-append, ◌==◌, if◌then◌else◌}
+use Rattle.std.proofs.Common.{◌≡◌, ◌≢◌, inl, inr, ℕ, ◌+◌, ◌-◌, ◌<◌, ◌≤◌, ◌^◌, Bool, false, List, [], ◌∷◌, ◌++◌, length, map, drop, Option, Some, None, refl, ap}
+use Rattle.std.proofs.Common.{sym, subst, ◌∙◌, arith, append_assoc, append-nil, length-append, ◌==◌, if◌then◌else◌}
 use Rattle.std.specs.List.{AllByRecursion}
 use Rattle.std.proofs.lemmas.Bool.{ne_eqb}
 use Rattle.std.proofs.lemmas.List.{map_push, length-take-le, length-drop}
@@ -14,11 +15,12 @@ use Rattle.kmip_ttlv_write.specs.declared.judge.Reach.{Reach}
 use Rattle.kmip_ttlv_write.specs.GivenItems.{Line, line, line_of, given_content, IsInside, IsWritten}
 use Rattle.kmip_ttlv_write.specs.FlatWrites.{taken, opened, start, advanced, typ_of, after, after_all, HasValue, HasRoom, Fits, AllFit}
 use Rattle.kmip_ttlv_write.specs.OpenStructures.{Opened, outside, within, depth_of, link, spine, since, add, leave, entered_as, entered, Small}
-use Rattle.kmip_ttlv_write.proofs.Opens.{AllSound, told, texts_all, leaf_text, leaf_len, add_told, add_depth, add_sound, add_spine, since_more, add_since, Closes, closes_by, leave_depth}
+use Rattle.kmip_ttlv_write.proofs.Opens.{AllSound, lines_so_far, texts_all, leaf_text, leaf_len, add_lines_so_far, add_depth, add_sound, add_spine, since_more, add_since}
+use Rattle.kmip_ttlv_write.proofs.Opens.{Closes, closes_by, leave_depth}
 
 -- what is known after items
 pub record Stand (lent : List ℕ) (xs : List GivenItem) (o : Opened) (r : Reach) : Type 0 where
-  pub lines : map (line_of lent) xs ≡ told o
+  pub lines : map (line_of lent) xs ≡ lines_so_far o
   pub inside : AllByRecursion (IsInside lent) xs
   pub sound : AllSound o
   pub depth : r.depth ≡ depth_of o
@@ -42,22 +44,26 @@ pub line_structure : (lent : List ℕ) (i : GivenItem) → type_of i.typ ≡ Som
 line_structure lent i e = let k : 1 ≡ i.typ = code_is i.typ Structure e in
     ap (λ (n : ℕ). line i.depth i.tag n (if n == 1 then [] else given_content lent i)) (sym k)
 
-pub line_leaf : (lent : List ℕ) (i : GivenItem) (t : TtlvType) → t ≢ Structure → type_of i.typ ≡ Some t → line_of lent i ≡ line i.depth i.tag (code t) (given_content lent i)
+pub line_leaf : (lent : List ℕ) (i : GivenItem) (t : TtlvType) → t ≢ Structure → type_of i.typ ≡ Some t
+    → line_of lent i ≡ line i.depth i.tag (code t) (given_content lent i)
 line_leaf lent i t ne e =
     let k : (i.typ == 1) ≡ false = ne_eqb i.typ 1 (leaf_code t i.typ ne e) in
-    ap (λ (b : Bool). line i.depth i.tag i.typ (if b then [] else given_content lent i)) k ∙ ap (λ (n : ℕ). line i.depth i.tag n (given_content lent i)) (sym (code_is i.typ t e))
+    ap (λ (b : Bool). line i.depth i.tag i.typ (if b then [] else given_content lent i)) k ∙ ap (λ (n : ℕ). line i.depth i.tag n (given_content lent i))
+    (sym (code_is i.typ t e))
 
 -- the content of a leaf has the length that is given
 pub content_len : (lent : List ℕ) (i : GivenItem) → i.offset + 8 + i.length ≤ length lent → length (given_content lent i) ≡ i.length
 content_len lent i le = length-take-le i.length (drop (i.offset + 8) lent) (omega (arith, length-drop (i.offset + 8) lent))
 
-inside_push : (lent : List ℕ) (xs : List GivenItem) (i : GivenItem) → AllByRecursion (IsInside lent) xs → IsInside lent i → AllByRecursion (IsInside lent) (xs ++ i ∷ [])
+inside_push : (lent : List ℕ) (xs : List GivenItem) (i : GivenItem) → AllByRecursion (IsInside lent) xs → IsInside lent i
+    → AllByRecursion (IsInside lent) (xs ++ i ∷ [])
 inside_push lent [] i h k = (k, tt)
 inside_push lent (x ∷ xs) i h k = (h.0, inside_push lent xs i h.1 k)
 
 -- within a structure the depth is not 0
 content_deep : (r : Reach) (typ : TtlvType) (i : GivenItem) → 0 < i.depth → (advanced r typ i).content ≡ r.content + taken typ i.length
-content_deep r typ i lt = let k : (i.depth == 0) ≡ false = ne_eqb i.depth 0 (omega arith) in ap (λ (b : Bool). if b then 0 else r.content + taken typ i.length) k
+content_deep r typ i lt = let k : (i.depth == 0) ≡ false = ne_eqb i.depth 0 (omega arith) in
+    ap (λ (b : Bool). if b then 0 else r.content + taken typ i.length) k
 
 -- the size after a header
 begun_size : (c : Opened) (tag n : ℕ) → n ≡ length (spine c) → n + 8 ≡ length (spine (within c tag no_trees))
@@ -79,7 +85,13 @@ module _ (lent : List ℕ) (xs : List GivenItem) (o : Opened) (r : Reach) (s : S
   small_by : (c : Opened) → depth_of c ≡ i.depth → since 0 c ≤ r.content + 8 → Small (taken f.typ i.length) c
   small_by (outside done) d le = tt
   small_by (within a tag done) d le =
-      omega (arith, since_more 0 (taken f.typ i.length) (taken f.typ i.length) a tag done (omega arith), content_deep r f.typ i (omega arith), f.room.content, le)
+      omega (
+        arith,
+        since_more 0 (taken f.typ i.length) (taken f.typ i.length) a tag done (omega arith),
+        content_deep r f.typ i (omega arith),
+        f.room.content,
+        le,
+      )
 
   pub small : Small (taken f.typ i.length) (leave i.depth o)
   small = small_by (leave i.depth o) deep (omega (arith, closes.less, s.since))
@@ -89,14 +101,17 @@ module _ (lent : List ℕ) (xs : List GivenItem) (o : Opened) (r : Reach) (s : S
   since_begun (outside done) d le = omega arith
   since_begun (within a tag done) d le = omega (arith, since_more 0 8 8 a tag done (omega arith), content_deep r Structure i (omega arith), le)
 
-  since_leaf : (t : Tree) (typ : TtlvType) → length (bytes t) ≡ taken typ i.length → (c : Opened) → depth_of c ≡ i.depth → since 0 c ≤ r.content + 8 → since 0 (add t c) ≤ (advanced r typ i).content + 8
+  since_leaf : (t : Tree) (typ : TtlvType) → length (bytes t) ≡ taken typ i.length → (c : Opened) → depth_of c ≡ i.depth → since 0 c ≤ r.content + 8
+      → since 0 (add t c) ≤ (advanced r typ i).content + 8
   since_leaf t typ len (outside done) d le = omega arith
   since_leaf t typ len (within a tag done) d le = omega (arith, add_since t a tag done, len, content_deep r typ i (omega arith), le)
 
-  lines_then : (c : Opened) (l : Line) → Closes o c → line_of lent i ≡ l → map (line_of lent) (xs ++ i ∷ []) ≡ told c ++ (l ∷ [])
-  lines_then c l k is = map_push (line_of lent) xs i ∙ ap (λ (ls : List Line). ls ++ (line_of lent i ∷ [])) (s.lines ∙ sym k.said) ∙ ap (λ (m : Line). told c ++ (m ∷ [])) is
+  lines_then : (c : Opened) (l : Line) → Closes o c → line_of lent i ≡ l → map (line_of lent) (xs ++ i ∷ []) ≡ lines_so_far c ++ (l ∷ [])
+  lines_then c l k is = map_push (line_of lent) xs i ∙ ap (λ (ls : List Line). ls ++ (line_of lent i ∷ [])) (s.lines ∙ sym k.said)
+      ∙ ap (λ (m : Line). lines_so_far c ++ (m ∷ [])) is
 
-  stand_node : type_of i.typ ≡ Some Structure → HasRoom r Structure i → Stand lent (xs ++ i ∷ []) (within (leave i.depth o) i.tag no_trees) (advanced r Structure i)
+  stand_node : type_of i.typ ≡ Some Structure → HasRoom r Structure i → Stand lent (xs ++ i ∷ []) (within (leave i.depth o) i.tag no_trees)
+      (advanced r Structure i)
   stand_node e room =
       let c = leave i.depth o in
       let l : line_of lent i ≡ line (depth_of c) i.tag 1 [] = line_structure lent i e ∙ ap (λ (d : ℕ). line d i.tag 1 []) (sym deep) in
@@ -111,16 +126,19 @@ module _ (lent : List ℕ) (xs : List GivenItem) (o : Opened) (r : Reach) (s : S
         total = room.total;
       }
 
-  stand_leaf : (typ : TtlvType) → typ ≢ Structure → type_of i.typ ≡ Some typ → HasValue lent typ i → HasRoom r typ i → taken typ i.length ≡ 8 + i.length + pad_len i.length → opened typ i.depth ≡ i.depth → Stand lent (xs ++ i ∷ []) (add (leaf i.tag typ (given_content lent i)) (leave i.depth o)) (advanced r typ i)
+  stand_leaf : (typ : TtlvType) → typ ≢ Structure → type_of i.typ ≡ Some typ → HasValue lent typ i → HasRoom r typ i
+      → taken typ i.length ≡ 8 + i.length + pad_len i.length → opened typ i.depth ≡ i.depth
+      → Stand lent (xs ++ i ∷ []) (add (leaf i.tag typ (given_content lent i)) (leave i.depth o)) (advanced r typ i)
   stand_leaf typ ne e value room taken-is opened-is =
       let c = leave i.depth o in
       let content = given_content lent i in
       let t = leaf i.tag typ content in
       let n : length content ≡ i.length = content_len lent i value.inside in
-      let l : line_of lent i ≡ line (depth_of c) i.tag (code typ) content = line_leaf lent i typ ne e ∙ ap (λ (d : ℕ). line d i.tag (code typ) content) (sym deep) in
+      let l : line_of lent i ≡ line (depth_of c) i.tag (code typ) content = line_leaf lent i typ ne e ∙ ap (λ (d : ℕ). line d i.tag (code typ) content)
+      (sym deep) in
       let len : length (bytes t) ≡ taken typ i.length = leaf_len i.tag typ content ∙ ap (λ (m : ℕ). 8 + m + pad_len m) n ∙ sym taken-is in
       record {
-        lines = lines_then c (line (depth_of c) i.tag (code typ) content) closes l ∙ sym (add_told t c);
+        lines = lines_then c (line (depth_of c) i.tag (code typ) content) closes l ∙ sym (add_lines_so_far t c);
         inside = inside_push lent xs i s.inside (inr value.inside);
         sound = add_sound t c sound (leaf_text i.tag typ content f.tag ne (omega (arith, n, value.short)) value.valid);
         depth = opened-is ∙ sym deep ∙ sym (add_depth t c);
@@ -130,17 +148,20 @@ module _ (lent : List ℕ) (xs : List GivenItem) (o : Opened) (r : Reach) (s : S
         total = room.total;
       }
 
-  stand_by : (typ : TtlvType) → type_of i.typ ≡ Some typ → (typ ≢ Structure → HasValue lent typ i) → HasRoom r typ i → Stand lent (xs ++ i ∷ []) (entered_as typ lent i (leave i.depth o)) (advanced r typ i)
+  stand_by : (typ : TtlvType) → type_of i.typ ≡ Some typ → (typ ≢ Structure → HasValue lent typ i) → HasRoom r typ i
+      → Stand lent (xs ++ i ∷ []) (entered_as typ lent i (leave i.depth o)) (advanced r typ i)
   stand_by Structure e value room = stand_node e room
   stand_by typ e value room = stand_leaf typ (λ is. absurd cc) e (value (λ is. absurd cc)) room refl refl
 
   -- one more item
   pub stand_step : Stand lent (xs ++ i ∷ []) (entered lent i o) (after r i)
   stand_step =
-      subst (λ (t : TtlvType). Stand lent (xs ++ i ∷ []) (entered_as t lent i (leave i.depth o)) (advanced r t i)) (sym (typ_is i f.typ f.typed)) (stand_by f.typ f.typed f.value f.room)
+      subst (λ (t : TtlvType). Stand lent (xs ++ i ∷ []) (entered_as t lent i (leave i.depth o)) (advanced r t i)) (sym (typ_is i f.typ f.typed))
+      (stand_by f.typ f.typed f.value f.room)
 
 -- all items
-pub stand_all : (lent : List ℕ) (xs ys : List GivenItem) (o : Opened) (r : Reach) → Stand lent xs o r → AllFit lent r ys → (p : Opened) × Stand lent (xs ++ ys) p (after_all r ys)
+stand_all : (lent : List ℕ) (xs ys : List GivenItem) (o : Opened) (r : Reach) → Stand lent xs o r → AllFit lent r ys → (p : Opened)
+    × Stand lent (xs ++ ys) p (after_all r ys)
 stand_all lent xs [] o r s h = (o, subst (λ (zs : List GivenItem). Stand lent zs o r) (sym (append-nil xs)) s)
 stand_all lent xs (y ∷ ys) o r s h =
     let k = stand_all lent (xs ++ y ∷ []) ys (entered lent y o) (after r y) (stand_step lent xs o r s y h.0) h.1 in

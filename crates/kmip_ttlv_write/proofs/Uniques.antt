@@ -1,5 +1,6 @@
 -- A list of lines is that of one list of trees; and the lines of a message's items.
-use Rattle.std.proofs.Common.{◌≡◌, ◌≢◌, inl, inr, ℕ, suc, ◌+◌, ◌<◌, ◌≤◌, Bool, true, false, List, [], ◌∷◌, ◌++◌, length, map, take, drop, refl, ap, sym, subst, ◌∙◌, arith, append_assoc, append-nil, length-append, ◌==◌, if◌then◌else◌}
+use Rattle.std.proofs.Common.{◌≡◌, ◌≢◌, inl, inr, ℕ, suc, ◌+◌, ◌<◌, ◌≤◌, Bool, true, false, List, [], ◌∷◌, ◌++◌, length, map, take, drop, refl, ap, sym, subst}
+use Rattle.std.proofs.Common.{◌∙◌, arith, append_assoc, append-nil, length-append, ◌==◌, if◌then◌else◌}
 use Rattle.std.specs.List.{AllByRecursion}
 use Rattle.std.proofs.lemmas.Bool.{ne_eqb}
 use Rattle.std.proofs.lemmas.List.{drop_at, drop-drop, length-drop}
@@ -43,23 +44,28 @@ leaf_no_node : (d a b : ℕ) (typ : TtlvType) (content : List ℕ) → is_valid 
 leaf_no_node d a b typ content valid e = leaf_not typ content valid (code_one typ Structure (ap (λ (l : Line). l.code) e))
 
 mutual
-  tree_one : (d : ℕ) (t u : Tree) (x y : List ℕ) → IsTreeText t x → IsTreeText u y → (r s : List Line) → lines d t ++ r ≡ lines d u ++ s → IsLow (suc d) r → IsLow (suc d) s → (t ≡ u) × (r ≡ s)
+  tree_one : (d : ℕ) (t u : Tree) (x y : List ℕ) → IsTreeText t x → IsTreeText u y → (r s : List Line) → lines d t ++ r ≡ lines d u ++ s → IsLow (suc d) r
+      → IsLow (suc d) s → (t ≡ u) × (r ≡ s)
   tree_one d (leaf a typ v) (leaf b kind w) x y h k r s e low slow =
       let l : line d a (code typ) v ≡ line d b (code kind) w = cc in
       let rest : r ≡ s = cc in
       (same_leaf a b typ kind v w (ap (λ (m : Line). m.tag) l) (code_one typ kind (ap (λ (m : Line). m.code) l)) (ap (λ (m : Line). m.content) l), rest)
   tree_one d (leaf a typ v) (node b us) x y h k r s e low slow = let l : line d a (code typ) v ≡ line d b 1 [] = cc in absurd (leaf_no_node d a b typ v h.0 l)
-  tree_one d (node a ts) (leaf b kind w) x y h k r s e low slow = let l : line d b (code kind) w ≡ line d a 1 [] = cc in absurd (leaf_no_node d b a kind w k.0 l)
+  tree_one d (node a ts) (leaf b kind w) x y h k r s e low slow = let l : line d b (code kind) w ≡ line d a 1 [] = cc in
+      absurd (leaf_no_node d b a kind w k.0 l)
   tree_one d (node a ts) (node b us) x y h k r s e low slow =
       let l : line d a 1 [] ≡ line d b 1 [] = cc in
       let rest : lines_below (suc d) ts ++ r ≡ lines_below (suc d) us ++ s = cc in
       let one = trees_one (suc d) ts us h.0 k.0 h.2 k.2 r s rest low slow in
       (ap (λ (n : ℕ). node n ts) (ap (λ (m : Line). m.tag) l) ∙ ap (λ (vs : Trees). node b vs) one.0, one.1)
 
-  trees_one : (d : ℕ) (ts us : Trees) (x y : List ℕ) → AreTreeTexts ts x → AreTreeTexts us y → (r s : List Line) → lines_below d ts ++ r ≡ lines_below d us ++ s → IsLow d r → IsLow d s → (ts ≡ us) × (r ≡ s)
+  trees_one : (d : ℕ) (ts us : Trees) (x y : List ℕ) → AreTreeTexts ts x → AreTreeTexts us y → (r s : List Line) → lines_below d ts ++ r ≡ lines_below d us ++ s
+      → IsLow d r → IsLow d s → (ts ≡ us) × (r ≡ s)
   trees_one d no_trees no_trees x y h k r s e low slow = (refl, e)
-  trees_one d no_trees (tree u us) x y h k r s e low slow = absurd (low_not d u r (lines_below d us ++ s) (e ∙ append_assoc (lines d u) (lines_below d us) s) low)
-  trees_one d (tree t ts) no_trees x y h k r s e low slow = absurd (low_not d t s (lines_below d ts ++ r) (sym e ∙ append_assoc (lines d t) (lines_below d ts) r) slow)
+  trees_one d no_trees (tree u us) x y h k r s e low slow =
+      absurd (low_not d u r (lines_below d us ++ s) (e ∙ append_assoc (lines d u) (lines_below d us) s) low)
+  trees_one d (tree t ts) no_trees x y h k r s e low slow =
+      absurd (low_not d t s (lines_below d ts ++ r) (sym e ∙ append_assoc (lines d t) (lines_below d ts) r) slow)
   trees_one d (tree t ts) (tree u us) x y h k r s e low slow =
       let all = sym (append_assoc (lines d t) (lines_below d ts) r) ∙ e ∙ append_assoc (lines d u) (lines_below d us) s in
       let one = tree_one d t u h.0 k.0 h.3 k.3 (lines_below d ts ++ r) (lines_below d us ++ s) all (low_more d ts r low) (low_more d us s slow) in
@@ -68,7 +74,8 @@ mutual
 
 pub one_text : HaveOneText
 one_text xs lent a b v w =
-    let e : lines_below 0 v.trees ++ [] ≡ lines_below 0 w.trees ++ [] = append-nil (lines_below 0 v.trees) ∙ sym v.are ∙ w.are ∙ sym (append-nil (lines_below 0 w.trees)) in
+    let e : lines_below 0 v.trees ++ [] ≡ lines_below 0 w.trees ++ [] = append-nil (lines_below 0 v.trees) ∙ sym v.are ∙ w.are
+    ∙ sym (append-nil (lines_below 0 w.trees)) in
     let same = (trees_one 0 v.trees w.trees a b v.texts w.texts [] [] e tt tt).0 in
     v.canonical ∙ ap bytes_below same ∙ sym w.canonical
 
@@ -87,7 +94,8 @@ mutual
       let ne = leaf_not typ content h.0 in
       record {
         is = leaf_text tag typ content h.1.tag_fits ne h.1.length_fits h.0;
-        len = leaf_len tag typ content ∙ ap (λ (n : ℕ). 8 + length content + n) (sym (padding_is typ (length content) ne)) ∙ sym (text_length (raw_with tag typ content) text h.1);
+        len = leaf_len tag typ content ∙ ap (λ (n : ℕ). 8 + length content + n) (sym (padding_is typ (length content) ne))
+            ∙ sym (text_length (raw_with tag typ content) text h.1);
       }
   canon (node tag below) text h =
       let k = canons below h.0 h.2 in
@@ -104,71 +112,77 @@ mutual
       record { are = (a.is, b.are); len = omega (arith, length-append (bytes t) (bytes_below ts), a.len, b.len, ap length h.2, length-append h.0 h.1) }
 
 -- the lines of a message's items
-pub record Tells (w : List ℕ) (xs : List FoundItem) (ls : List Line) : Type 0 where
+pub record HasLines (w : List ℕ) (xs : List FoundItem) (ls : List Line) : Type 0 where
   pub same : map (line_of w) (map given_of xs) ≡ ls
   pub inside : AllByRecursion (IsInside w) (map given_of xs)
 
-tells_both : (w : List ℕ) (xs ys : List FoundItem) (ls ms : List Line) → Tells w xs ls → Tells w ys ms → Tells w (xs ++ ys) (ls ++ ms)
-tells_both w [] ys ls ms a b = record { same = b.same ∙ ap (λ (s : List Line). s ++ ms) a.same; inside = b.inside }
-tells_both w (x ∷ xs) ys ls ms a b =
-    let k = tells_both w xs ys (map (line_of w) (map given_of xs)) ms record { same = refl; inside = a.inside.1 } b in
+both_have_lines : (w : List ℕ) (xs ys : List FoundItem) (ls ms : List Line) → HasLines w xs ls → HasLines w ys ms → HasLines w (xs ++ ys) (ls ++ ms)
+both_have_lines w [] ys ls ms a b = record { same = b.same ∙ ap (λ (s : List Line). s ++ ms) a.same; inside = b.inside }
+both_have_lines w (x ∷ xs) ys ls ms a b =
+    let k = both_have_lines w xs ys (map (line_of w) (map given_of xs)) ms record { same = refl; inside = a.inside.1 } b in
     record { same = ap (λ (s : List Line). line_of w (given_of x) ∷ s) k.same ∙ ap (λ (s : List Line). s ++ ms) a.same; inside = (a.inside.0, k.inside) }
 
 module _ (w : List ℕ) where
-  leaf_tells : (p d tag : ℕ) (typ : TtlvType) (content text rest : List ℕ) → p ≤ length w → drop p w ≡ text ++ rest → IsTreeText (leaf tag typ content) text → Tells w (listed p d (leaf tag typ content)) (lines d (leaf tag typ content))
-  leaf_tells p d tag typ content text rest le at h =
+  leaf_has_lines : (p d tag : ℕ) (typ : TtlvType) (content text rest : List ℕ) → p ≤ length w → drop p w ≡ text ++ rest → IsTreeText (leaf tag typ content) text
+      → HasLines w (listed p d (leaf tag typ content)) (lines d (leaf tag typ content))
+  leaf_has_lines p d tag typ content text rest le at h =
       let here = item_at_text w p (raw_with tag typ content) text rest le at h.1 in
       let ne = leaf_not typ content h.0 in
       let not-one : code typ ≢ 1 = λ one. ne (code_one typ Structure one) in
       let k : (code typ == 1) ≡ false = ne_eqb (code typ) 1 not-one in
       let there : take (length content) (drop (p + 8) w) ≡ content = ap (λ (n : ℕ). take n (drop (p + 8) w)) here.len ∙ sym here.content in
       record {
-        same = ap (λ (b : Bool). line d tag (code typ) (if b then [] else take (length content) (drop (p + 8) w)) ∷ []) k ∙ ap (λ (c : List ℕ). line d tag (code typ) c ∷ []) there;
+        same = ap (λ (b : Bool). line d tag (code typ) (if b then [] else take (length content) (drop (p + 8) w)) ∷ []) k
+            ∙ ap (λ (c : List ℕ). line d tag (code typ) c ∷ []) there;
         inside = (inr (omega (arith, here.there, here.len)), tt);
       }
 
-  inner_at : (p tag : ℕ) (content text rest : List ℕ) → drop p w ≡ text ++ rest → IsTextOf (raw_with tag Structure content) text → drop (p + 8) w ≡ content ++ rest
+  inner_at : (p tag : ℕ) (content text rest : List ℕ) → drop p w ≡ text ++ rest → IsTextOf (raw_with tag Structure content) text
+      → drop (p + 8) w ≡ content ++ rest
   inner_at p tag content text rest at h =
       let head = header tag Structure (length content) in
       let e : drop p w ≡ head ++ (content ++ (h.pad ++ rest)) = at ∙ ap (λ (s : List ℕ). s ++ rest) h.parts ∙ simp append_assoc in
-      sym (drop-drop 8 p w) ∙ ap (drop 8) e ∙ drop_at head (content ++ (h.pad ++ rest)) 8 refl ∙ ap (λ (s : List ℕ). content ++ (s ++ rest)) (nil h.pad h.pad_length)
+      sym (drop-drop 8 p w) ∙ ap (drop 8) e ∙ drop_at head (content ++ (h.pad ++ rest)) 8 refl
+      ∙ ap (λ (s : List ℕ). content ++ (s ++ rest)) (nil h.pad h.pad_length)
     where
       nil : (s : List ℕ) → length s ≡ 0 → s ≡ []
       nil [] e = refl
       nil (x ∷ s) e = absurd (omega (arith, e))
 
   mutual
-    tree_tells : (p d : ℕ) (t : Tree) (text rest : List ℕ) → p ≤ length w → drop p w ≡ text ++ rest → IsTreeText t text → Tells w (listed p d t) (lines d t)
-    tree_tells p d (leaf tag typ content) text rest le at h = leaf_tells p d tag typ content text rest le at h
-    tree_tells p d (node tag below) text rest le at h =
-        let fits : p + 8 ≤ length w = omega (arith, length-drop p w, ap length at, length-append text rest, text_length (raw_with tag Structure h.0) text h.1) in
-        let k = trees_tell (p + 8) (suc d) below h.0 rest fits (inner_at p tag h.0 text rest at h.1) h.2 in
+    tree_has_lines : (p d : ℕ) (t : Tree) (text rest : List ℕ) → p ≤ length w → drop p w ≡ text ++ rest → IsTreeText t text → HasLines w (listed p d t) (lines d t)
+    tree_has_lines p d (leaf tag typ content) text rest le at h = leaf_has_lines p d tag typ content text rest le at h
+    tree_has_lines p d (node tag below) text rest le at h =
+        let fits : p + 8 ≤ length w = omega (arith, length-drop p w, ap length at, length-append text rest, text_length (raw_with tag Structure h.0) text h.1)
+        in
+        let k = trees_have_lines (p + 8) (suc d) below h.0 rest fits (inner_at p tag h.0 text rest at h.1) h.2 in
         record { same = ap (λ (s : List Line). line d tag 1 [] ∷ s) k.same; inside = (inl refl, k.inside) }
 
-    trees_tell : (p d : ℕ) (ts : Trees) (text rest : List ℕ) → p ≤ length w → drop p w ≡ text ++ rest → AreTreeTexts ts text → Tells w (listed_all p d ts) (lines_below d ts)
-    trees_tell p d no_trees text rest le at h = record { same = refl; inside = tt }
-    trees_tell p d (tree t ts) text rest le at h =
+    trees_have_lines : (p d : ℕ) (ts : Trees) (text rest : List ℕ) → p ≤ length w → drop p w ≡ text ++ rest → AreTreeTexts ts text
+        → HasLines w (listed_all p d ts) (lines_below d ts)
+    trees_have_lines p d no_trees text rest le at h = record { same = refl; inside = tt }
+    trees_have_lines p d (tree t ts) text rest le at h =
         let here : drop p w ≡ h.0 ++ (h.1 ++ rest) = at ∙ ap (λ (s : List ℕ). s ++ rest) h.2 ∙ append_assoc h.0 h.1 rest in
         let long : length h.0 ≡ span t = text_span t h.0 h.3 in
         let next : drop (p + span t) w ≡ h.1 ++ rest = sym (drop-drop (span t) p w) ∙ ap (drop (span t)) here ∙ drop_at h.0 (h.1 ++ rest) (span t) long in
         let fits : p + span t ≤ length w = omega (arith, length-drop p w, ap length here, length-append h.0 (h.1 ++ rest), long) in
-        tells_both w (listed p d t) (listed_all (p + span t) d ts) (lines d t) (lines_below d ts)
-        (tree_tells p d t h.0 (h.1 ++ rest) le here h.3)
-        (trees_tell (p + span t) d ts h.1 rest fits next h.4)
+        both_have_lines w (listed p d t) (listed_all (p + span t) d ts) (lines d t) (lines_below d ts)
+        (tree_has_lines p d t h.0 (h.1 ++ rest) le here h.3)
+        (trees_have_lines (p + span t) d ts h.1 rest fits next h.4)
 
-pub message_tells : (message : List ℕ) (t : Tree) → IsTreeText t message → Tells message (listed 0 0 t) (lines 0 t)
-message_tells message t h = tree_tells message 0 0 t message [] (omega arith) (sym (append-nil message)) h
+pub message_has_lines : (message : List ℕ) (t : Tree) → IsTreeText t message → HasLines message (listed 0 0 t) (lines 0 t)
+message_has_lines message t h = tree_has_lines message 0 0 t message [] (omega arith) (sym (append-nil message)) h
 
 pub written_back : AreWrittenBack
 written_back message xs short h =
     let t = h.message in
     let c = canon t message h.text in
-    let tells = message_tells message t h.text in
+    let has_lines = message_has_lines message t h.text in
     let none : bytes t ++ [] ≡ bytes t = append-nil (bytes t) in
     record {
       trees = tree t no_trees;
-      are = ap (λ (s : List FoundItem). map (line_of message) (map given_of s)) h.items ∙ tells.same ∙ sym (append-nil (lines 0 t));
-      inside = subst (λ (s : List FoundItem). AllByRecursion (IsInside message) (map given_of s)) (sym h.items) tells.inside;
+      are = ap (λ (s : List FoundItem). map (line_of message) (map given_of s)) h.items ∙ has_lines.same ∙ sym (append-nil (lines 0 t));
+      inside = subst (λ (s : List FoundItem). AllByRecursion (IsInside message) (map given_of s)) (sym h.items) has_lines.inside;
       texts = (bytes t, [], sym none, c.is, refl);
       canonical = sym none;
       total = omega (arith, c.len, short);
@@ -185,5 +199,5 @@ are_messages xs lent out w root is whole =
     record {
       found = listed 0 0 root;
       lists = record { message = root; text = text; root = whole; items = refl };
-      same = (message_tells out root text).same ∙ sym (append-nil (lines 0 root)) ∙ sym (ap (lines_below 0) is) ∙ sym w.are;
+      same = (message_has_lines out root text).same ∙ sym (append-nil (lines 0 root)) ∙ sym (ap (lines_below 0) is) ∙ sym w.are;
     }

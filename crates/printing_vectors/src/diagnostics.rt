@@ -246,7 +246,7 @@ fn cut_messages(rt: HostRuntime) -> Result<(), FromHexError> {
 
 // Whether `count` empty structures stay open, each in the one before; or, if they are closed, the first
 // one is the whole message.
-fn tells_empty(alloc: Global, closed: bool, count: usize) -> Result<bool, AllocError> {
+fn prints_empty(alloc: Global, closed: bool, count: usize) -> Result<bool, AllocError> {
     let message = repeated(alloc, "4200690100000000", count, "")?;
     let Ok(bytes) = hex::decode(alloc, message.as_str()) else {
         return Ok(false);
@@ -269,9 +269,12 @@ fn tells_empty(alloc: Global, closed: bool, count: usize) -> Result<bool, AllocE
 fn many_empty_structures(rt: HostRuntime) {
     for count in [1_000, 10_000] {
         assert!(rt;
-            tells_empty(rt.alloc(), false, count) == Ok(true),
+            prints_empty(rt.alloc(), false, count) == Ok(true),
             "{count}"
         );
-        assert!(rt; tells_empty(rt.alloc(), true, count) == Ok(true), "{count}");
+        assert!(rt;
+            prints_empty(rt.alloc(), true, count) == Ok(true),
+            "{count}"
+        );
     }
 }

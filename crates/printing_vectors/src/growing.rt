@@ -69,7 +69,7 @@ enum Outcome {
     // The expected result, and no allocation failed; this many succeeded.
     Whole(u64),
     // Out of memory, and an allocation failed; after that, every call returned its expected result.
-    Refused,
+    OutOfMemory,
     // A wrong result when this allocation failed.
     Wrong(u64),
 }
@@ -86,12 +86,12 @@ fn right_or_wrong(is_right: bool, outcome: Outcome, before: u64) -> Outcome {
 fn one_outcome(alloc: Global, call: Call, bytes: &[u8], before: u64) -> Outcome {
     let heap = BoundedAllocator::failing_after(alloc, before);
     let Ok(printer) = printer(&heap, "4200", false) else {
-        return right_or_wrong(heap.has_failed(), Outcome::Refused, before);
+        return right_or_wrong(heap.has_failed(), Outcome::OutOfMemory, before);
     };
     let answer = is_ample(&printer, call, bytes);
     if heap.has_failed() {
         let is_right = answer.is_err() && answers_all(&printer, bytes);
-        right_or_wrong(is_right, Outcome::Refused, before)
+        right_or_wrong(is_right, Outcome::OutOfMemory, before)
     } else {
         right_or_wrong(answer == Ok(true), Outcome::Whole(before), before)
     }
@@ -100,15 +100,15 @@ fn one_outcome(alloc: Global, call: Call, bytes: &[u8], before: u64) -> Outcome 
 fn outcomes(alloc: Global, call: Call, bytes: &[u8]) -> Outcome {
     for before in 0..100u64 {
         let outcome = one_outcome(alloc, call, bytes, before);
-        if outcome != Outcome::Refused {
+        if outcome != Outcome::OutOfMemory {
             return outcome;
         }
     }
-    Outcome::Refused
+    Outcome::OutOfMemory
 }
 
 #[test]
-fn each_growth_may_be_refused(rt: HostRuntime) -> Result<(), FromHexError> {
+fn each_growth_may_fail(rt: HostRuntime) -> Result<(), FromHexError> {
     let bytes = hex::decode(rt.alloc(), VERSION)?;
     for call in CALLS {
         let outcome = outcomes(rt.alloc(), call, bytes.as_slice());
@@ -151,7 +151,7 @@ fn a_bound_on_memory_holds_for_deep_texts(rt: HostRuntime) {
     assert!(rt; is_bounded(rt.alloc(), 32_000) == Ok(true));
 }
 
-fn is_refused(alloc: Global, before: u64, bytes: &[u8]) -> bool {
+fn is_error(alloc: Global, before: u64, bytes: &[u8]) -> bool {
     let heap = BoundedAllocator::failing_after(alloc, before);
     let printer = PrettyPrinter::new(&heap);
     printer.to_diag_string(bytes).is_err()
@@ -160,7 +160,7 @@ fn is_refused(alloc: Global, before: u64, bytes: &[u8]) -> bool {
 // The first allocation whose failure makes the diagnostic of only one of two messages fail.
 fn difference(alloc: Global, one: &[u8], other: &[u8]) -> Option<u64> {
     for before in 0..20u64 {
-        if is_refused(alloc, before, one) != is_refused(alloc, before, other) {
+        if is_error(alloc, before, one) != is_error(alloc, before, other) {
             return Some(before);
         }
     }
@@ -180,7 +180,7 @@ fn diagnostics_grow_alike_whatever_the_values(rt: HostRuntime) -> Result<(), Fro
         let first = difference(alloc, number.as_slice(), other.as_slice());
         assert_eq!(rt; first, None, "{text}");
     }
-    assert!(rt; is_refused(alloc, 0, number.as_slice()));
-    assert!(rt; !is_refused(alloc, 20, number.as_slice()));
+    assert!(rt; is_error(alloc, 0, number.as_slice()));
+    assert!(rt; !is_error(alloc, 20, number.as_slice()));
     Ok(())
 }

@@ -228,7 +228,7 @@ fn steps(rt: HostRuntime) -> Result<(), FromHexError> {
 }
 
 // Whether the walk and the check return out of memory if and only if this allocation fails.
-fn refuses(alloc: Global, bytes: &[u8], before: u64) -> bool {
+fn returns_error(alloc: Global, bytes: &[u8], before: u64) -> bool {
     let heap = BoundedAllocator::failing_after(alloc, before);
     let mut none: [FoundItem; 0] = [];
     let walked = walk_items(&heap, bytes, &mut none).is_err() == heap.has_failed();
@@ -238,10 +238,13 @@ fn refuses(alloc: Global, bytes: &[u8], before: u64) -> bool {
 }
 
 #[test]
-fn each_growth_may_be_refused(rt: HostRuntime) -> Result<(), FromHexError> {
+fn each_growth_may_fail(rt: HostRuntime) -> Result<(), FromHexError> {
     let bytes = hex::decode(rt.alloc(), NESTED)?;
     for before in 0..4 {
-        assert!(rt; refuses(rt.alloc(), bytes.as_slice(), before), "{before}");
+        assert!(rt;
+            returns_error(rt.alloc(), bytes.as_slice(), before),
+            "{before}"
+        );
     }
     Ok(())
 }

@@ -113,7 +113,7 @@ impl Outcome {
     }
 
     /// Whether nothing was printed but one error line with this beginning.
-    pub fn refuses(&self, beginning: &str) -> bool {
+    pub fn returns_error(&self, beginning: &str) -> bool {
         let line = self.errors.as_slice();
         let feeds = line.iter().filter(|byte| **byte == b'\n').count();
         self.status == 1
@@ -162,16 +162,16 @@ fn prints(alloc: Global, row: Row) -> bool {
 }
 
 // Whether nothing is printed but one error line with this beginning.
-fn refuses(alloc: Global, line: &str, input: &[u8], beginning: &str) -> bool {
+fn returns_error(alloc: Global, line: &str, input: &[u8], beginning: &str) -> bool {
     match run_with(alloc, alloc, line, input) {
-        Ok(outcome) => outcome.refuses(beginning),
+        Ok(outcome) => outcome.returns_error(beginning),
         Err(AllocError) => false,
     }
 }
 
-fn refuses_row(alloc: Global, row: Row) -> bool {
+fn fails_at_row(alloc: Global, row: Row) -> bool {
     let (line, input, beginning) = row;
-    refuses(alloc, line, input.as_bytes(), beginning)
+    returns_error(alloc, line, input.as_bytes(), beginning)
 }
 
 #[test]
@@ -182,9 +182,9 @@ fn texts_are_printed(rt: HostRuntime) {
 }
 
 #[test]
-fn refusals_are_lines(rt: HostRuntime) {
+fn errors_are_lines(rt: HostRuntime) {
     for row in REFUSED {
-        assert!(rt; refuses_row(rt.alloc(), row), "{row:?}");
+        assert!(rt; fails_at_row(rt.alloc(), row), "{row:?}");
     }
-    assert!(rt; refuses(rt.alloc(), "undiag", b"69\xff[", "not UTF-8\n"));
+    assert!(rt; returns_error(rt.alloc(), "undiag", b"69\xff[", "not UTF-8\n"));
 }

@@ -29,7 +29,7 @@ enum Answer {
     // The text, and no allocation failed.
     Whole,
     // The text or out of memory, and an allocation failed.
-    Refused,
+    OutOfMemory,
     // A wrong result when this allocation failed.
     Wrong(u64),
 }
@@ -41,8 +41,8 @@ fn one_answer(alloc: Global, row: Row, before: u64) -> Answer {
     let Ok(outcome) = run_with(&heap, alloc, line, input.as_bytes()) else {
         return Answer::Wrong(before);
     };
-    if heap.has_failed() && (outcome.prints(text) || outcome.refuses("out of memory\n")) {
-        Answer::Refused
+    if heap.has_failed() && (outcome.prints(text) || outcome.returns_error("out of memory\n")) {
+        Answer::OutOfMemory
     } else if !heap.has_failed() && outcome.prints(text) {
         Answer::Whole
     } else {
@@ -54,15 +54,15 @@ fn one_answer(alloc: Global, row: Row, before: u64) -> Answer {
 fn all_answers(alloc: Global, row: Row) -> Answer {
     for before in 0..1000u64 {
         let answer = one_answer(alloc, row, before);
-        if answer != Answer::Refused {
+        if answer != Answer::OutOfMemory {
             return answer;
         }
     }
-    Answer::Refused
+    Answer::OutOfMemory
 }
 
 #[test]
-fn each_growth_may_be_refused(rt: HostRuntime) {
+fn each_growth_may_fail(rt: HostRuntime) {
     for row in GROWN {
         assert_eq!(rt; all_answers(rt.alloc(), row), Answer::Whole, "{row:?}");
     }
@@ -164,7 +164,7 @@ fn a_failing_input_cannot_be_read(rt: HostRuntime) -> Result<(), AllocError> {
     let words = words_of(rt.alloc(), "diag 4200")?;
     for before in 0..=80u64 {
         let failed = run_from(rt.alloc(), words.as_slice(), before, ErrorKind::BrokenPipe);
-        assert!(rt; failed.refuses("cannot read\n"), "at {before}");
+        assert!(rt; failed.returns_error("cannot read\n"), "at {before}");
         let again = run_from(rt.alloc(), words.as_slice(), before, ErrorKind::Interrupted);
         assert!(rt; again.prints(DIAGNOSTIC), "at {before}");
     }

@@ -192,7 +192,7 @@ fn a_text_needs_no_memory_of_its_size(rt: HostRuntime) -> Result<(), AllocError>
 }
 
 // Whether the error is OutOfMemory if the first allocation fails, and nothing was written.
-fn is_refused(alloc: Global, kind: Kind, bytes: &[u8]) -> Result<bool, AllocError> {
+fn is_error(alloc: Global, kind: Kind, bytes: &[u8]) -> Result<bool, AllocError> {
     let heap = BoundedAllocator::failing_after(alloc, 0);
     let printer = PrettyPrinter::new(&heap);
     let mut written = Vec::new(alloc);
@@ -203,10 +203,10 @@ fn is_refused(alloc: Global, kind: Kind, bytes: &[u8]) -> Result<bool, AllocErro
 }
 
 #[test]
-fn memory_for_open_structures_is_refused(rt: HostRuntime) -> Result<(), FromHexError> {
+fn memory_for_open_structures_runs_out(rt: HostRuntime) -> Result<(), FromHexError> {
     let bytes = hex::decode(rt.alloc(), VERSION)?;
     for kind in KINDS {
-        assert!(rt; is_refused(rt.alloc(), kind, &bytes)?, "{kind:?}");
+        assert!(rt; is_error(rt.alloc(), kind, &bytes)?, "{kind:?}");
     }
     Ok(())
 }

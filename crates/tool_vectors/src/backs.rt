@@ -143,7 +143,7 @@ fn prints_within(alloc: Global, count: u64, most: usize) -> Result<bool, AllocEr
 }
 
 #[test]
-fn lines_are_not_held(rt: HostRuntime) {
+fn lines_are_not_stored(rt: HostRuntime) {
     assert_eq!(rt; prints_within(rt.alloc(), 14_000, 65_536), Ok(true));
 }
 

@@ -51,7 +51,7 @@ enum Answer {
     // The text, and no allocation failed.
     Whole,
     // The text, or a beginning of it and out of memory; and an allocation failed.
-    Refused,
+    OutOfMemory,
     // A wrong result when this allocation failed.
     Wrong(u64),
 }
@@ -61,7 +61,7 @@ const NO_MEMORY: &str = "capture: out of memory\n";
 fn answer_of(outcome: &Outcome, text: &str, refused: bool, before: u64) -> Answer {
     let whole = outcome.is(0, text, "");
     if refused && (whole || outcome.begins(3, text, NO_MEMORY)) {
-        Answer::Refused
+        Answer::OutOfMemory
     } else if whole && !refused {
         Answer::Whole
     } else {
@@ -74,7 +74,7 @@ fn one_answer(alloc: Global, task: Task<'_>, text: &str, before: u64) -> Answer 
     let heap = BoundedAllocator::failing_after(alloc, before);
     match run_with(&heap, alloc, task, Encoding::Detected, VERSION.as_bytes()) {
         Ok(outcome) => answer_of(&outcome, text, heap.has_failed(), before),
-        Err(AllocError) if heap.has_failed() => Answer::Refused,
+        Err(AllocError) if heap.has_failed() => Answer::OutOfMemory,
         Err(AllocError) => Answer::Wrong(before),
     }
 }
@@ -84,7 +84,7 @@ fn one_back(alloc: Global, before: u64) -> Answer {
     let text = "Tag: Protocol Version (0x420069), Type: Structure (0x01), Data:\n";
     match back_with(&heap, alloc, "4200", b"69[]") {
         Ok(outcome) => answer_of(&outcome, text, heap.has_failed(), before),
-        Err(AllocError) if heap.has_failed() => Answer::Refused,
+        Err(AllocError) if heap.has_failed() => Answer::OutOfMemory,
         Err(AllocError) => Answer::Wrong(before),
     }
 }
@@ -92,25 +92,25 @@ fn one_back(alloc: Global, before: u64) -> Answer {
 fn all_answers(alloc: Global, task: Task<'_>, text: &str) -> Answer {
     for before in 0..200u64 {
         let answer = one_answer(alloc, task, text, before);
-        if answer != Answer::Refused {
+        if answer != Answer::OutOfMemory {
             return answer;
         }
     }
-    Answer::Refused
+    Answer::OutOfMemory
 }
 
 fn all_backs(alloc: Global) -> Answer {
     for before in 0..200u64 {
         let answer = one_back(alloc, before);
-        if answer != Answer::Refused {
+        if answer != Answer::OutOfMemory {
             return answer;
         }
     }
-    Answer::Refused
+    Answer::OutOfMemory
 }
 
 #[test]
-fn each_growth_may_be_refused(rt: HostRuntime) {
+fn each_growth_may_fail(rt: HostRuntime) {
     for (task, text) in GROWN {
         assert_eq!(rt;
             all_answers(rt.alloc(), task, text),

@@ -299,7 +299,7 @@ impl Read for Zeros {
     }
 }
 
-fn told(
+fn reported(
     alloc: Global,
     bytes: usize,
     total: Option<u64>,
@@ -318,7 +318,7 @@ fn told(
 
 fn tells(alloc: Global, row: (usize, Option<u64>, bool, &str)) -> bool {
     let (bytes, total, shown, text) = row;
-    match told(alloc, bytes, total, shown) {
+    match reported(alloc, bytes, total, shown) {
         Ok(line) => line.as_slice() == text.as_bytes(),
         Err(AllocError) => false,
     }

@@ -64,7 +64,7 @@ fn prints_within(alloc: Global, times: u64, most: usize) -> Result<bool, AllocEr
 }
 
 #[test]
-fn a_text_is_not_held(rt: HostRuntime) {
+fn a_text_is_not_stored(rt: HostRuntime) {
     assert_eq!(rt; prints_within(rt.alloc(), 2000, 300_000), Ok(true));
 }
 
@@ -79,7 +79,7 @@ fn reads_nested_within(alloc: Global, times: u64, most: usize) -> Result<bool, A
 }
 
 #[test]
-fn a_line_that_is_read_back_is_not_held(rt: HostRuntime) {
+fn a_line_that_is_read_back_is_not_stored(rt: HostRuntime) {
     assert_eq!(rt; reads_nested_within(rt.alloc(), 4000, 150_000), Ok(true));
 }
 
@@ -194,7 +194,7 @@ fn stops_within(alloc: Global, times: u64) -> Result<bool, AllocError> {
 }
 
 #[test]
-fn memory_is_refused_while_printing(rt: HostRuntime) {
+fn memory_runs_out_while_printing(rt: HostRuntime) {
     assert_eq!(rt; stops_within(rt.alloc(), 50), Ok(true));
 }
 

@@ -103,7 +103,7 @@ fn a_value_is_no_tag(rt: HostRuntime) {
 }
 
 // Whether reading a table is out of memory if and only if this allocation fails.
-fn refuses(alloc: Global, before: u64) -> bool {
+fn returns_error(alloc: Global, before: u64) -> bool {
     let heap = BoundedAllocator::failing_after(alloc, before);
     let own = own_names(
         &heap,
@@ -113,8 +113,8 @@ fn refuses(alloc: Global, before: u64) -> bool {
 }
 
 #[test]
-fn each_growth_may_be_refused(rt: HostRuntime) {
+fn each_growth_may_fail(rt: HostRuntime) {
     for before in 0..4 {
-        assert!(rt; refuses(rt.alloc(), before), "{before}");
+        assert!(rt; returns_error(rt.alloc(), before), "{before}");
     }
 }

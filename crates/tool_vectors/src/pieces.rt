@@ -259,7 +259,7 @@ fn prints_within(alloc: Global, count: u64, most: usize) -> Result<bool, AllocEr
 }
 
 #[test]
-fn an_input_is_not_held(rt: HostRuntime) {
+fn an_input_is_not_stored(rt: HostRuntime) {
     assert_eq!(rt; prints_within(rt.alloc(), 5000, 65_536), Ok(true));
 }
 

@@ -82,7 +82,7 @@ const BAD: [(&str, JsonError); 12] = [
         "{\"tag\":\"0x42006A\",\"type\":\"Integer\",\"value\":\"0x00000001\"}",
         JsonError::NotStructure,
     ),
-    // The first item that isn't one is told: the second, whose value is too short, and not the third.
+    // The first item that isn't one is reported: the second, whose value is too short, and not the third.
     (
         "{\"tag\":\"0x420069\",\"type\":\"Structure\",\"value\":[{\"tag\":\"0x42006A\",\"type\":\"Integer\",\"value\":\"0x00000001\"},{\"tag\":\"0x42006B\",\"type\":\"Integer\",\"value\":\"0x0001\"},{}]}",
         NO_VALUE,

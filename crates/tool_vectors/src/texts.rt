@@ -312,7 +312,7 @@ const THREE: &str = "QgBpAQAAAABCAGkBAAAAAEIAaQEAAAAA";
 // How they are printed.
 const THREE_LINES: &str = "4200690100000000\n4200690100000000\n4200690100000000\n";
 
-// What is made of them, so many times, and a digit of base64url: whether this is printed of all of them, and this line told.
+// What is made of them, so many times, and a digit of base64url: whether this is printed of all of them, and this line reported.
 fn is_told(alloc: Global, times: u64, line: &str) -> Result<bool, AllocError> {
     let mut text = repeated(alloc, THREE, times)?;
     text.push_str("-")?;
@@ -362,7 +362,7 @@ fn prints_within(
 }
 
 #[test]
-fn a_text_is_not_held(rt: HostRuntime) {
+fn a_text_is_not_stored(rt: HostRuntime) {
     let alloc = rt.alloc();
     // 130,000 and 192,000 characters, in buffers of 65,536.
     assert_eq!(rt;

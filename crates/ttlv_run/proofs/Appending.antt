@@ -6,13 +6,19 @@ use Rattle.ttlv_run.specs.Reasons.{Reports}
 
 -- a text that was written to its end is a beginning of itself
 pub all_front : (old new : Option (List ℕ)) (text : List ℕ) → Appends old new text → AppendsFront old new text
-all_front old new text all = record { count = length text; within = le_refl _; appends = subst (Appends old new) (sym (take_all (length text) text (le_refl _))) all }
+all_front old new text all = record {
+  count = length text;
+  within = le_refl _;
+  appends =
+      subst (Appends old new) (sym (take_all (length text) text (le_refl _))) all;
+}
 
-pub told_front : (writable : Bool) (old new : Option (List ℕ)) (text : List ℕ) → Reports writable old new text → AppendsFront old new text
-told_front true old new text h = all_front old new text h
-told_front false old new text h = h
+pub decided_front : (writable : Bool) (old new : Option (List ℕ)) (text : List ℕ) → Reports writable old new text → AppendsFront old new text
+decided_front true old new text h = all_front old new text h
+decided_front false old new text h = h
 
 -- a text that was sent, to its end or not
-pub sent_front : {T E : Type 0} (r : Result T E) (old new : Option (List ℕ)) (text : List ℕ) → OnOk r (Appends old new text) → OnErr r (AppendsFront old new text) → AppendsFront old new text
+pub sent_front : {T E : Type 0} (r : Result T E) (old new : Option (List ℕ)) (text : List ℕ) → OnOk r (Appends old new text)
+    → OnErr r (AppendsFront old new text) → AppendsFront old new text
 sent_front (Ok x) old new text all some = all_front old new text all
 sent_front (Err e) old new text all some = some

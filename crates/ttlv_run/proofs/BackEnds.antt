@@ -1,16 +1,18 @@
 -- Reading a line of diagnostics back ends somewhere, so each text has a first line that is not whole, or none.
-use Rattle.std.proofs.Common.{◌≡◌, ℕ, zero, suc, ◌+◌, ◌<◌, List, [], ◌∷◌, ◌++◌, length, take, drop, Option, Some, None, refl, sym, ap, subst, ◌∙◌, arith, append_assoc, length-append}
+use Rattle.std.proofs.Common.{◌≡◌, ℕ, zero, suc, ◌+◌, ◌<◌, List, [], ◌∷◌, ◌++◌, length, take, drop, Option, Some, None, refl, sym, ap, subst, ◌∙◌, arith}
+use Rattle.std.proofs.Common.{append_assoc, length-append}
 use Rattle.std.specs.List.{prefix_len}
 use Rattle.std.specs.Str.{trim_end}
 use Rattle.std.proofs.lemmas.List.{take-append-drop}
 use Rattle.std.proofs.Math.Seq.{drop-append_seam}
 use Rattle.kmip_ttlv_types.specs.declared.typ.TtlvType.{TtlvType}
-use Rattle.kmip_ttlv_types.specs.declared.typ.TtlvType.TheVariants.{Structure, Integer, LongInteger, BigInteger, Enumeration, Boolean, TextString, ByteString, DateTime, Interval}
+use Rattle.kmip_ttlv_types.specs.declared.typ.TtlvType.TheVariants.{Structure, Integer, LongInteger, BigInteger, Enumeration, Boolean, TextString, ByteString}
+use Rattle.kmip_ttlv_types.specs.declared.typ.TtlvType.TheVariants.{DateTime, Interval}
 use Rattle.kmip_ttlv_util.specs.Letters.{letter, is_hex}
 use Rattle.kmip_ttlv_util.specs.Undiag.{Step, reads_on, stops_with, step}
 use Rattle.kmip_ttlv_util.specs.ReadBack.{close_part, item_part}
 use Rattle.kmip_ttlv_util.specs.ReadBack.{Part, IsPartTail, IsPartAt, StandAll}
-use Rattle.kmip_ttlv_util.proofs.Longest.{Tells, tells}
+use Rattle.kmip_ttlv_util.proofs.Longest.{StepIs, step_is}
 use Rattle.kmip_ttlv_util.proofs.Reading.{Shorter, step_shorter}
 use Rattle.ttlv_run.specs.declared.back.BackFault.{BackFault}
 use Rattle.ttlv_run.specs.declared.back.BackFaultKind.{BackFaultKind}
@@ -46,14 +48,17 @@ module _ (prefix : List ℕ) where
   part_front depth s close_part rest h = (93 ∷ [], h.1)
   part_front depth s (item_part tag typ shown) rest h =
       let n = prefix_len is_hex s in
-      let f = behind_front typ h.0 shown rest h.3 in
-      (take n s ++ (letter typ ∷ f.0), sym (take-append-drop n s) ∙ ap (λ (t : List ℕ). take n s ++ t) (h.2 ∙ ap (λ (t : List ℕ). letter typ ∷ t) f.1) ∙ sym (append_assoc (take n s) (letter typ ∷ f.0) rest))
+      let f = behind_front typ h.0 shown rest h.3 in (
+        take n s ++ (letter typ ∷ f.0),
+        sym (take-append-drop n s) ∙ ap (λ (t : List ℕ). take n s ++ t) (h.2 ∙ ap (λ (t : List ℕ). letter typ ∷ t) f.1)
+            ∙ sym (append_assoc (take n s) (letter typ ∷ f.0) rest),
+      )
 
   beginning : ℕ → ℕ → List ℕ
   beginning depth tag = []
 
   -- one part more in front
-  more_parts : (depth : ℕ) (s w : List ℕ) (d : ℕ) (r : List ℕ) → Tells beginning prefix depth s (reads_on w d r) → Longest d r → Longest depth s
+  more_parts : (depth : ℕ) (s w : List ℕ) (d : ℕ) (r : List ℕ) → StepIs beginning prefix depth s (reads_on w d r) → Longest d r → Longest depth s
   more_parts depth s w d r t k =
       let f = part_front depth s t.0 r t.1 in
       record {
@@ -68,14 +73,17 @@ module _ (prefix : List ℕ) where
 
   longest : (most depth : ℕ) (s : List ℕ) → length s < most → Longest depth s
   longest zero depth s lt = absurd (omega arith)
-  longest (suc most) depth s lt = by (step beginning prefix depth s) (tells beginning prefix depth s) (step_shorter beginning prefix depth s) (λ d r le. longest most d r le)
+  longest (suc most) depth s lt = by (step beginning prefix depth s) (step_is beginning prefix depth s) (step_shorter beginning prefix depth s)
+      (λ d r le. longest most d r le)
     where
-      by : (t : Step) → Tells beginning prefix depth s t → Shorter beginning depth s t → ((d : ℕ) (r : List ℕ) → length r < most → Longest d r) → Longest depth s
+      by : (t : Step) → StepIs beginning prefix depth s t → Shorter beginning depth s t → ((d : ℕ) (r : List ℕ) → length r < most → Longest d r)
+          → Longest depth s
       by (reads_on w d r) t sh more = more_parts depth s w d r t (more d r (omega (arith, sh.0)))
       by (stops_with w) t sh more = record { parts = []; deep = depth; front = []; rest = s; stand = (refl, refl); split = refl; no_more = t.0 }
 
   -- a line is whole, or it stops being a diagnostic somewhere
-  breaks_at : (at : ℕ) (line : List ℕ) (k : Longest 0 (trim_end line)) (kind : BackFaultKind) → IsWrong kind k.deep (length k.rest) → Breaks prefix at line (record { offset = at + length k.front; kind = kind })
+  breaks_at : (at : ℕ) (line : List ℕ) (k : Longest 0 (trim_end line)) (kind : BackFaultKind) → IsWrong kind k.deep (length k.rest)
+      → Breaks prefix at line (record { offset = at + length k.front; kind = kind })
   breaks_at at line k kind wrong =
       let left : k.rest ≡ drop (length k.front) (trim_end line) = sym (ap (drop (length k.front)) k.split ∙ drop-append_seam k.front k.rest) in
       record {
@@ -95,14 +103,26 @@ module _ (prefix : List ℕ) where
   line_tried at line = by (longest (suc (length (trim_end line))) 0 (trim_end line) (omega arith))
     where
       closed : (k : Longest 0 (trim_end line)) (deep : ℕ) (rest : List ℕ) → k.deep ≡ deep → k.rest ≡ rest → (o : Option BackFault) × Tries prefix at line o
-      closed k zero [] d r = (None, (k.parts, subst (λ (q : List ℕ). StandAll prefix 0 (trim_end line) k.parts 0 q) r (subst (λ (n : ℕ). StandAll prefix 0 (trim_end line) k.parts n k.rest) d k.stand)))
-      closed k (suc deep) [] d r = (Some (record { offset = at + length k.front; kind = LeftOpen }), breaks_at at line k LeftOpen (ap length r, omega (arith, d)))
+      closed k zero [] d r = (
+        None,
+        (
+          k.parts,
+          subst (λ (q : List ℕ). StandAll prefix 0 (trim_end line) k.parts 0 q) r
+              (subst (λ (n : ℕ). StandAll prefix 0 (trim_end line) k.parts n k.rest) d k.stand),
+        ),
+      )
+      closed k (suc deep) [] d r = (
+        Some (record { offset = at + length k.front; kind = LeftOpen }),
+        breaks_at at line k LeftOpen
+            (ap length r, omega (arith, d)),
+      )
       closed k deep (c ∷ rest) d r = (Some (record { offset = at + length k.front; kind = NoPart }), breaks_at at line k NoPart (omega (arith, ap length r)))
 
       by : (k : Longest 0 (trim_end line)) → (o : Option BackFault) × Tries prefix at line o
       by k = closed k k.deep k.rest refl refl
 
-  first_by : (at : ℕ) (line : List ℕ) (more : List (List ℕ)) (o : Option BackFault) → Tries prefix at line o → ((next : ℕ) → (f : Option BackFault) × FirstBreak prefix next more f) → (f : Option BackFault) × FirstBreak prefix at (line ∷ more) f
+  first_by : (at : ℕ) (line : List ℕ) (more : List (List ℕ)) (o : Option BackFault) → Tries prefix at line o
+      → ((next : ℕ) → (f : Option BackFault) × FirstBreak prefix next more f) → (f : Option BackFault) × FirstBreak prefix at (line ∷ more) f
   first_by at line more None tries others = let k = others (at + length line + 1) in (k.0, whole_here at (at + length line + 1) line more k.0 tries refl k.1)
   first_by at line more (Some f) tries others = (Some f, breaks_here at line more f tries)
 

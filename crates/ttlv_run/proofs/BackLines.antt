@@ -1,5 +1,7 @@
 -- Lines of diagnostics that come one behind the other: what they are read back as, the first that is not whole, and text.
-use Rattle.std.proofs.Common.{arith, ◌≡◌, ◌⊎◌, inl, inr, ℕ, suc, ◌+◌, ◌-◌, ◌<◌, ◌≤◌, Bool, true, false, not, List, [], ◌∷◌, ◌++◌, length, get_or, take, drop, take-add, take_all, drop-cons, Option, Some, None, ap, sym, refl, subst, ◌∙◌, append-nil, append_assoc, length-append, take-append-drop}
+use Rattle.std.proofs.Common.{arith, ◌≡◌, ◌⊎◌, inl, inr, ℕ, suc, ◌+◌, ◌-◌, ◌<◌, ◌≤◌, Bool, true, false, not, List, [], ◌∷◌, ◌++◌, length, get_or, take, drop}
+use Rattle.std.proofs.Common.{take-add, take_all, drop-cons, Option, Some, None, ap, sym, refl, subst, ◌∙◌, append-nil, append_assoc, length-append}
+use Rattle.std.proofs.Common.{take-append-drop}
 use Rattle.std.specs.List.{All, flat_map, position_or_len, before_first, after_first}
 use Rattle.std.specs.Option.{option_or}
 use Rattle.std.specs.Str.{IsUtf8}
@@ -18,7 +20,8 @@ use Rattle.kmip_ttlv_names.proofs.Tables.{last_line}
 use Rattle.ttlv_run.specs.declared.back.BackFault.{BackFault}
 use Rattle.ttlv_run.specs.declared.back.BackReached.{BackReached}
 use Rattle.ttlv_run.specs.declared.back.BackReached.TheVariants.{Behind, NoText}
-use Rattle.ttlv_run.specs.Backs.{Tries, FirstBreak, breaks_here, whole_here, all_whole, IsOneLine, IsLineAt, AreLines, FirstFrom, Finds, ReadsLines, ReadsBack, ReadsFront}
+use Rattle.ttlv_run.specs.Backs.{Tries, FirstBreak, breaks_here, whole_here, all_whole, IsOneLine, IsLineAt, AreLines, FirstFrom, Finds, ReadsLines, ReadsBack}
+use Rattle.ttlv_run.specs.Backs.{ReadsFront}
 use Rattle.ttlv_run.specs.Texts.{line_back, text_back}
 use Rattle.ttlv_run.proofs.Backs.{empty_back}
 
@@ -50,13 +53,14 @@ still_one_line before after came is a b k lt h = elim (cases_lt k (length before
 
 -- ---- lines behind lines
 
-pub no_lines : AreLines []
+no_lines : AreLines []
 no_lines = record { lines = []; are = λ more. refl }
 
 pub lines_append : (s t : List ℕ) → AreLines s → AreLines t → AreLines (s ++ t)
 lines_append s t a b = record {
   lines = a.lines ++ b.lines;
-  are = λ more. ap lines_of (append_assoc s t more) ∙ a.are (t ++ more) ∙ ap (λ (ls : List (List ℕ)). a.lines ++ ls) (b.are more) ∙ sym (append_assoc a.lines b.lines (lines_of more));
+  are = λ more. ap lines_of (append_assoc s t more) ∙ a.are (t ++ more) ∙ ap (λ (ls : List (List ℕ)). a.lines ++ ls) (b.are more)
+      ∙ sym (append_assoc a.lines b.lines (lines_of more));
 }
 
 pub one_line : (line : List ℕ) → IsOneLine line → AreLines (with_feed line)
@@ -83,11 +87,13 @@ module _ (tags : ℕ → Option (List ℕ)) (prefix : List ℕ) where
 
   pub back_line : (line : List ℕ) → IsOneLine line → text_back tags prefix (with_feed line) ≡ line_back tags prefix line
   unfolding one_line
-  back_line line one = only_lines_back (with_feed line) (one_line line one) ∙ flat_map-cons (line_back tags prefix) line [] ∙ append-nil (line_back tags prefix line)
+  back_line line one = only_lines_back (with_feed line) (one_line line one) ∙ flat_map-cons (line_back tags prefix) line []
+      ∙ append-nil (line_back tags prefix line)
 
   pub back_last : (line : List ℕ) → IsOneLine line → text_back tags prefix line ≡ line_back tags prefix line
   unfolding text_back
-  back_last line one = ap (flat_map (line_back tags prefix)) (only_line line one) ∙ flat_map-cons (line_back tags prefix) line [] ∙ append-nil (line_back tags prefix line)
+  back_last line one = ap (flat_map (line_back tags prefix)) (only_line line one) ∙ flat_map-cons (line_back tags prefix) line []
+      ∙ append-nil (line_back tags prefix line)
 
 -- ---- the first line that is not whole
 
@@ -99,25 +105,34 @@ module _ (prefix : List ℕ) where
 
   pub finds_line : (at : ℕ) (line : List ℕ) (found : Option BackFault) → IsOneLine line → Tries prefix at line found → Finds prefix at (with_feed line) found
   finds_line at line (Some f) one tries more first h =
-      subst (λ (ls : List (List ℕ)). FirstBreak prefix at ls first) (sym (first_of_lines line more one)) (subst (λ (o : Option BackFault). FirstBreak prefix at (line ∷ lines_of more) o) (sym h) (breaks_here at line (lines_of more) f tries))
+      subst (λ (ls : List (List ℕ)). FirstBreak prefix at ls first) (sym (first_of_lines line more one))
+      (subst (λ (o : Option BackFault). FirstBreak prefix at (line ∷ lines_of more) o) (sym h) (breaks_here at line (lines_of more) f tries))
   finds_line at line None one tries more first h =
       let next : at + length (with_feed line) ≡ at + length line + 1 = omega (arith, length-append line (10 ∷ [])) in
-      subst (λ (ls : List (List ℕ)). FirstBreak prefix at ls first) (sym (first_of_lines line more one)) (whole_here at (at + length (with_feed line)) line (lines_of more) first tries next h)
+      subst (λ (ls : List (List ℕ)). FirstBreak prefix at ls first) (sym (first_of_lines line more one))
+      (whole_here at (at + length (with_feed line)) line (lines_of more) first tries next h)
 
-  pub finds_on : (at : ℕ) (s t : List ℕ) (f g : Option BackFault) → Finds prefix at s f → Finds prefix (at + length s) t g → Finds prefix at (s ++ t) (option_or f g)
-  finds_on at s t (Some f) g a b more first h = subst (λ (u : List ℕ). FirstBreak prefix at (lines_of u) first) (sym (append_assoc s t more)) (a (t ++ more) first h)
+  pub finds_on : (at : ℕ) (s t : List ℕ) (f g : Option BackFault) → Finds prefix at s f → Finds prefix (at + length s) t g
+      → Finds prefix at (s ++ t) (option_or f g)
+  finds_on at s t (Some f) g a b more first h = subst (λ (u : List ℕ). FirstBreak prefix at (lines_of u) first) (sym (append_assoc s t more))
+      (a (t ++ more) first h)
   finds_on at s t None g a b more first h =
       let place : at + length (s ++ t) ≡ at + length s + length t = omega (arith, length-append s t) in
-      subst (λ (u : List ℕ). FirstBreak prefix at (lines_of u) first) (sym (append_assoc s t more)) (a (t ++ more) first (b more first (subst (λ (n : ℕ). FirstFrom prefix n more g first) place h)))
+      subst (λ (u : List ℕ). FirstBreak prefix at (lines_of u) first) (sym (append_assoc s t more))
+      (a (t ++ more) first (b more first (subst (λ (n : ℕ). FirstFrom prefix n more g first) place h)))
 
-  pub finds_last : (at : ℕ) (s t : List ℕ) (f g : Option BackFault) → Finds prefix at s f → FirstBreak prefix (at + length s) (lines_of t) g → FirstBreak prefix at (lines_of (s ++ t)) (option_or f g)
+  pub finds_last : (at : ℕ) (s t : List ℕ) (f g : Option BackFault) → Finds prefix at s f → FirstBreak prefix (at + length s) (lines_of t) g
+      → FirstBreak prefix at (lines_of (s ++ t)) (option_or f g)
   finds_last at s t (Some f) g a b = a t (Some f) refl
   finds_last at s t None g a b = a t g b
 
   -- a line at the end
-  pub first_last : (at : ℕ) (line : List ℕ) (found : Option BackFault) → IsOneLine line → Tries prefix at line found → FirstBreak prefix at (lines_of line) found
-  first_last at line (Some f) one tries = subst (λ (ls : List (List ℕ)). FirstBreak prefix at ls (Some f)) (sym (only_line line one)) (breaks_here at line [] f tries)
-  first_last at line None one tries = subst (λ (ls : List (List ℕ)). FirstBreak prefix at ls None) (sym (only_line line one)) (whole_here at (at + length line + 1) line [] None tries refl (all_whole (at + length line + 1)))
+  pub first_last : (at : ℕ) (line : List ℕ) (found : Option BackFault) → IsOneLine line → Tries prefix at line found
+      → FirstBreak prefix at (lines_of line) found
+  first_last at line (Some f) one tries = subst (λ (ls : List (List ℕ)). FirstBreak prefix at ls (Some f)) (sym (only_line line one))
+      (breaks_here at line [] f tries)
+  first_last at line None one tries = subst (λ (ls : List (List ℕ)). FirstBreak prefix at ls None) (sym (only_line line one))
+      (whole_here at (at + length line + 1) line [] None tries refl (all_whole (at + length line + 1)))
 
 -- ---- text
 
@@ -126,14 +141,19 @@ line_text line u = IsUtf8-append line (10 ∷ []) u (IsUtf8-from_ascii (10 ∷ [
 
 -- the first line of a text is text
 pub first_text : (s line : List ℕ) (others : List (List ℕ)) → lines_of s ≡ line ∷ others → IsUtf8 s → IsUtf8 line
-first_text s line others is u = elim (cases_lt (position_or_len is_line_feed s) (length s)) [ inl lt ↦ inner lt | inr le ↦ all (omega (arith, le, prefix_len-le-length (λ c. not (is_line_feed c)) s)) ]
+first_text s line others is u = elim (cases_lt (position_or_len is_line_feed s) (length s)) [
+  | inl lt ↦ inner lt
+  | inr le ↦
+      all (omega (arith, le, prefix_len-le-length (λ c. not (is_line_feed c)) s))
+]
   where
     inner : position_or_len is_line_feed s < length s → IsUtf8 line
     inner lt =
         let first : before_first is_line_feed s ∷ lines_of (after_first is_line_feed s) ≡ line ∷ others = sym (slice_split_first is_line_feed s 0 lt) ∙ is in
         let same : before_first is_line_feed s ≡ line = cc in
         let feed : get_or s (position_or_len is_line_feed s) 0 ≡ 10 = eqb-true _ 10 (passes_at_first is_line_feed s 0 lt) in
-        subst IsUtf8 same (IsUtf8-take s (position_or_len is_line_feed s) u (IsCharBoundary-before_ascii s (position_or_len is_line_feed s) lt (omega (arith, feed))))
+        subst IsUtf8 same (IsUtf8-take s (position_or_len is_line_feed s) u (IsCharBoundary-before_ascii s (position_or_len is_line_feed s) lt
+        (omega (arith, feed))))
 
     all : position_or_len is_line_feed s ≡ length s → IsUtf8 line
     all end =
@@ -151,7 +171,8 @@ module _ (bytes : List ℕ) (at : ℕ) (line : List ℕ) (l : IsLineAt bytes at 
   feed_there : take (length line + 1) (drop at bytes) ≡ with_feed line
   feed_there =
       let lt : at + length line < length bytes = l.within in
-      let rest : drop (length line) (drop at bytes) ≡ get_or bytes (at + length line) 0 ∷ drop (suc (at + length line)) bytes = drop-drop (length line) at bytes ∙ drop-cons bytes (at + length line) 0 lt in
+      let rest : drop (length line) (drop at bytes) ≡ get_or bytes (at + length line) 0 ∷ drop (suc (at + length line)) bytes = drop-drop (length line) at bytes
+      ∙ drop-cons bytes (at + length line) 0 lt in
       take-add (length line) 1 (drop at bytes)
       ∙ ap (λ (s : List ℕ). s ++ take 1 (drop (length line) (drop at bytes))) (sym l.is)
       ∙ ap (λ (s : List ℕ). line ++ take 1 s) rest
@@ -197,13 +218,25 @@ module _ (tags : ℕ → Option (List ℕ)) (prefix : List ℕ) (base : ℕ) (by
                 ∙ ap (text_back tags prefix) (sym whole);
           }
 
-      pub line_more : IsUtf8 line → (fault : Option BackFault) → Tries prefix (base + at) line fault → Lined tags prefix base bytes (at + (length line + 1)) (option_or found fault) (text ++ line_back tags prefix line)
+      pub line_more : IsUtf8 line → (fault : Option BackFault) → Tries prefix (base + at) line fault → Lined tags prefix base bytes (at + (length line + 1))
+          (option_or found fault) (text ++ line_back tags prefix line)
       line_more u fault tries =
-          let tried : Finds prefix (base + length (take at bytes)) (with_feed line) fault = subst (λ (n : ℕ). Finds prefix (base + n) (with_feed line) fault) (sym long) (finds_line prefix (base + at) line fault l.one_line tries) in
-          (line_read u, subst (λ (s : List ℕ). Finds prefix base s (option_or found fault)) (sym (through_line bytes at line l)) (finds_on prefix base (take at bytes) (with_feed line) found fault read.1 tried))
+          let tried : Finds prefix (base + length (take at bytes)) (with_feed line) fault = subst (λ (n : ℕ). Finds prefix (base + n) (with_feed line) fault)
+          (sym long) (finds_line prefix (base + at) line fault l.one_line tries) in (
+            line_read u,
+            subst (λ (s : List ℕ). Finds prefix base s (option_or found fault)) (sym (through_line bytes at line l))
+                (finds_on prefix base (take at bytes) (with_feed line) found fault read.1 tried),
+          )
 
       pub line_broken : (last : Bool) → IsUtf8 line → ReadsFront tags prefix bytes last (text ++ line_back tags prefix line)
-      line_broken last u = let r = line_read u in record { count = at + (length line + 1); within = r.within; ends = inl r.lines; is_text = r.is_text; is = r.is }
+      line_broken last u = let r = line_read u in record {
+        count = at + (length line + 1);
+        within = r.within;
+        ends = inl r.lines;
+        is_text =
+            r.is_text;
+        is = r.is;
+      }
 
       pub line_no_text : (last : Bool) → (IsUtf8 line → ⊥) → ReadsBack tags prefix base bytes last NoText text
       line_no_text last other = (
@@ -212,7 +245,12 @@ module _ (tags : ℕ → Option (List ℕ)) (prefix : List ℕ) (base : ℕ) (by
         record {
           line = line;
           no_text = other;
-          first = λ more end. (lines_of (drop (at + (length line + 1)) bytes ++ more), ap (λ (s : List ℕ). lines_of (s ++ more)) (behind_line bytes at line l) ∙ ap lines_of (append_assoc (with_feed line) (drop (at + (length line + 1)) bytes) more) ∙ first_of_lines line (drop (at + (length line + 1)) bytes ++ more) l.one_line);
+          first = λ more end. (
+            lines_of (drop (at + (length line + 1)) bytes ++ more),
+            ap (λ (s : List ℕ). lines_of (s ++ more)) (behind_line bytes at line l)
+                ∙ ap lines_of (append_assoc (with_feed line) (drop (at + (length line + 1)) bytes) more)
+                ∙ first_of_lines line (drop (at + (length line + 1)) bytes ++ more) l.one_line,
+          );
         },
       )
 
@@ -231,15 +269,30 @@ module _ (tags : ℕ → Option (List ℕ)) (prefix : List ℕ) (base : ℕ) (by
       all_text : IsUtf8 (drop at bytes) → IsUtf8 bytes
       all_text u = subst IsUtf8 (take-append-drop at bytes) (IsUtf8-append (take at bytes) (drop at bytes) read.0.is_text u)
 
-      pub last_more : IsUtf8 (drop at bytes) → (fault : Option BackFault) → Tries prefix (base + at) (drop at bytes) fault → ReadsBack tags prefix base bytes true (Behind (length bytes) (option_or found fault)) (text ++ line_back tags prefix (drop at bytes))
+      pub last_more : IsUtf8 (drop at bytes) → (fault : Option BackFault) → Tries prefix (base + at) (drop at bytes) fault
+          → ReadsBack tags prefix base bytes true (Behind (length bytes) (option_or found fault)) (text ++ line_back tags prefix (drop at bytes))
       last_more u fault tries =
-          let tried : FirstBreak prefix (base + length (take at bytes)) (lines_of (drop at bytes)) fault = subst (λ (n : ℕ). FirstBreak prefix (base + n) (lines_of (drop at bytes)) fault) (sym long) (first_last prefix (base + at) (drop at bytes) fault one tries) in
-          (refl, all_text u, all_read, subst (λ (s : List ℕ). FirstBreak prefix base (lines_of s) (option_or found fault)) (take-append-drop at bytes) (finds_last prefix base (take at bytes) (drop at bytes) found fault read.1 tried))
+          let tried : FirstBreak prefix (base + length (take at bytes)) (lines_of (drop at bytes)) fault =
+          subst (λ (n : ℕ). FirstBreak prefix (base + n) (lines_of (drop at bytes)) fault) (sym long)
+          (first_last prefix (base + at) (drop at bytes) fault one tries) in (
+            refl,
+            all_text u,
+            all_read,
+            subst (λ (s : List ℕ). FirstBreak prefix base (lines_of s) (option_or found fault)) (take-append-drop at bytes)
+                (finds_last prefix base (take at bytes) (drop at bytes) found fault read.1 tried),
+          )
 
       pub last_broken : IsUtf8 (drop at bytes) → ReadsFront tags prefix bytes true (text ++ line_back tags prefix (drop at bytes))
       last_broken u =
           let all : take (length bytes) bytes ≡ bytes = take_all (length bytes) bytes (omega arith) in
-          record { count = length bytes; within = omega arith; ends = inr (refl, refl); is_text = subst IsUtf8 (sym all) (all_text u); is = all_read ∙ ap (text_back tags prefix) (sym all) }
+          record {
+            count = length bytes;
+            within = omega arith;
+            ends = inr (refl, refl);
+            is_text = subst IsUtf8 (sym all) (all_text u);
+            is = all_read
+                ∙ ap (text_back tags prefix) (sym all);
+          }
 
       pub last_no_text : (IsUtf8 (drop at bytes) → ⊥) → ReadsBack tags prefix base bytes true NoText text
       last_no_text other = (
@@ -248,7 +301,11 @@ module _ (tags : ℕ → Option (List ℕ)) (prefix : List ℕ) (base : ℕ) (by
         record {
           line = drop at bytes;
           no_text = other;
-          first = λ more end. ([], ap (λ (m : List ℕ). lines_of (drop at bytes ++ m)) (end refl) ∙ ap lines_of (append-nil (drop at bytes)) ∙ only_line (drop at bytes) one);
+          first = λ more end. (
+            [],
+            ap (λ (m : List ℕ). lines_of (drop at bytes ++ m)) (end refl) ∙ ap lines_of (append-nil (drop at bytes))
+                ∙ only_line (drop at bytes) one,
+          );
         },
       )
 
@@ -261,7 +318,8 @@ module _ (tags : ℕ → Option (List ℕ)) (prefix bytes : List ℕ) where
   pub front_any : (last : Bool) (text : List ℕ) → ReadsFront tags prefix bytes false text → ReadsFront tags prefix bytes last text
   front_any last text r = record { count = r.count; within = r.within; ends = by r.ends; is_text = r.is_text; is = r.is }
     where
-      by : AreLines (take r.count bytes) ⊎ ((false ≡ true) × (r.count ≡ length bytes)) → AreLines (take r.count bytes) ⊎ ((last ≡ true) × (r.count ≡ length bytes))
+      by : AreLines (take r.count bytes) ⊎ ((false ≡ true) × (r.count ≡ length bytes)) → AreLines (take r.count bytes)
+          ⊎ ((last ≡ true) × (r.count ≡ length bytes))
       by (inl a) = inl a
       by (inr b) = absurd (false_is_true b.0)
 
@@ -273,9 +331,17 @@ module _ (tags : ℕ → Option (List ℕ)) (prefix bytes : List ℕ) where
     no_text_any last text r = (r.0, r.1, record { line = r.2.line; no_text = r.2.no_text; first = λ more end. r.2.first more (λ f. absurd (false_is_true f)) })
 
     -- what was read back is that of a front
-    pub back_front : (last : Bool) (reached : BackReached) (text : List ℕ) → ReadsBack tags prefix base bytes last reached text → ReadsFront tags prefix bytes last text
+    pub back_front : (last : Bool) (reached : BackReached) (text : List ℕ) → ReadsBack tags prefix base bytes last reached text
+        → ReadsFront tags prefix bytes last text
     back_front last NoText text r = record { count = r.0; within = r.1.within; ends = inl r.1.lines; is_text = r.1.is_text; is = r.1.is }
     back_front false (Behind count found) text r = record { count = count; within = r.0.within; ends = inl r.0.lines; is_text = r.0.is_text; is = r.0.is }
     back_front true (Behind count found) text r =
         let all : take (length bytes) bytes ≡ bytes = take_all (length bytes) bytes (omega arith) in
-        record { count = length bytes; within = omega arith; ends = inr (refl, refl); is_text = subst IsUtf8 (sym all) r.1; is = r.2 ∙ ap (text_back tags prefix) (sym all) }
+        record {
+          count = length bytes;
+          within = omega arith;
+          ends = inr (refl, refl);
+          is_text = subst IsUtf8 (sym all) r.1;
+          is = r.2
+              ∙ ap (text_back tags prefix) (sym all);
+        }

@@ -18,7 +18,8 @@ module _ (tags : ℕ → Option (List ℕ)) (prefix : List ℕ) where
   empty_back line (c ∷ t) is none = absurd (omega (arith, none))
 
   -- any other
-  pub some_back : (line t : List ℕ) → t ≡ trim_end line → length t ≢ 0 → line_back tags prefix line ≡ trim_end (undiag_lines (bounded_part tags) prefix t) ++ 10 ∷ []
+  pub some_back : (line t : List ℕ) → t ≡ trim_end line → length t ≢ 0
+      → line_back tags prefix line ≡ trim_end (undiag_lines (bounded_part tags) prefix t) ++ 10 ∷ []
   unfolding line_back
   some_back line [] is some = absurd (some refl)
   some_back line (c ∷ t) is some = rw (← is) refl
@@ -29,8 +30,9 @@ empty_whole prefix line [] is none = ([], (refl, is))
 empty_whole prefix line (c ∷ t) is none = absurd (omega (arith, none))
 
 module _ (beginning : ℕ → ℕ → List ℕ) (prefix : List ℕ) where
-  -- what reading the trimmed line tells
-  trimmed_tries : (at : ℕ) (line answer : List ℕ) (used deep offset left : ℕ) (o : Option BackFault) → EndsAt beginning prefix (trim_end line) answer used deep → Stopped offset deep left o → offset ≡ at + used → left ≡ length (trim_end line) - used → Tries prefix at line o
+  -- what reading the trimmed line gives
+  trimmed_tries : (at : ℕ) (line answer : List ℕ) (used deep offset left : ℕ) (o : Option BackFault) → EndsAt beginning prefix (trim_end line) answer used deep
+      → Stopped offset deep left o → offset ≡ at + used → left ≡ length (trim_end line) - used → Tries prefix at line o
   trimmed_tries at line answer used deep offset left None reads stopped offset_is left_is =
       let none : drop used (trim_end line) ≡ [] = drop_of_length-le (trim_end line) (omega (arith, stopped.0, left_is)) in
       let all = subst (λ (d : ℕ). StandAll prefix 0 (trim_end line) reads.parts d (drop used (trim_end line))) stopped.1 reads.stand in
@@ -50,6 +52,8 @@ module _ (beginning : ℕ → ℕ → List ℕ) (prefix : List ℕ) where
         offset = stopped.0 ∙ offset_is;
       }
 
-  pub line_tries : (at : ℕ) (line t answer : List ℕ) (used deep offset left : ℕ) (o : Option BackFault) → t ≡ trim_end line → EndsAt beginning prefix t answer used deep → Stopped offset deep left o → offset ≡ at + used → left ≡ length t - used → Tries prefix at line o
+  pub line_tries : (at : ℕ) (line t answer : List ℕ) (used deep offset left : ℕ) (o : Option BackFault) → t ≡ trim_end line
+      → EndsAt beginning prefix t answer used deep → Stopped offset deep left o → offset ≡ at + used → left ≡ length t - used → Tries prefix at line o
   line_tries at line t answer used deep offset left o is reads stopped offset_is left_is =
-      trimmed_tries at line answer used deep offset left o (subst (λ (s : List ℕ). EndsAt beginning prefix s answer used deep) is reads) stopped offset_is (left_is ∙ ap (λ (s : List ℕ). length s - used) is)
+      trimmed_tries at line answer used deep offset left o (subst (λ (s : List ℕ). EndsAt beginning prefix s answer used deep) is reads) stopped offset_is
+      (left_is ∙ ap (λ (s : List ℕ). length s - used) is)

@@ -1,5 +1,6 @@
 -- The bits of a number of 32 bits, one after the other.
-use Rattle.std.proofs.Common.{◌≡◌, ℕ, zero, suc, ◌+◌, ◌*◌, ◌/◌, ◌%◌, ◌<◌, ◌≤◌, ◌^◌, ◌==◌, Bool, true, false, List, [], ◌∷◌, ◌++◌, length, Option, None, Bor, ap, refl, ◌∙◌, arith}
+use Rattle.std.proofs.Common.{◌≡◌, ℕ, zero, suc, ◌+◌, ◌*◌, ◌/◌, ◌%◌, ◌<◌, ◌≤◌, ◌^◌, ◌==◌, Bool, true, false, List, [], ◌∷◌, ◌++◌, length, Option, None, Bor, ap}
+use Rattle.std.proofs.Common.{refl, ◌∙◌, arith}
 use Rattle.std.specs.HashMap.{hash_map_len}
 use Rattle.std.proofs.Math.Nat.{two-pow-succ}
 use Rattle.std.proofs.Math.Pow.{pow_mono}
@@ -17,26 +18,27 @@ pub record Place (bit rest : ℕ) : Type 0 where
 abbrev pub first_place : (n : ℕ) → n < 2 ^ 32 → Place 1 n
 first_place n lt = record { place = 0; left = 32; all = refl; is = refl; few = lt }
 
--- where something is left, the bit is one of the 32
-pub bit_small : (bit rest : ℕ) → Place bit rest → 0 < rest → bit ≤ 2_147_483_648
-bit_small bit rest p some = by p.left p.all p.few
-  where
-    by : (n : ℕ) → p.place + n ≡ 32 → rest < 2 ^ n → bit ≤ 2_147_483_648
-    by zero all few = absurd (omega (arith, few, some))
-    by (suc n) all few = let le : p.place ≤ 31 = omega (arith, all) in let m : 2 ^ p.place ≤ 2 ^ 31 = pow_mono le in omega (arith, p.is, m)
-
 -- the next one, and the names from there on
 pub record Next (names : ℕ → Option (List ℕ)) (bit rest : ℕ) (first : Bool) (p : Place bit rest) : Type 0 where
   pub to : Place (bit * 2) (rest / 2)
-  pub names_are : bit_names names p.left bit rest first ≡ behind_mark first (set_name names bit (rest % 2 == 1)) ++ bit_names names to.left (bit * 2) (rest / 2) (still_first first (set_name names bit (rest % 2 == 1)))
+  pub names_are : bit_names names p.left bit rest first ≡ behind_mark first (set_name names bit (rest % 2 == 1)) ++ bit_names names to.left (bit * 2) (rest / 2)
+      (still_first first (set_name names bit (rest % 2 == 1)))
 
 pub next_place : (names : ℕ → Option (List ℕ)) (bit rest : ℕ) (first : Bool) (p : Place bit rest) → 0 < rest → Next names bit rest first p
 next_place names bit rest first p some = by p.left p.all p.few
   where
-    by : (n : ℕ) (all : p.place + n ≡ 32) (few : rest < 2 ^ n) → Next names bit rest first (record { place = p.place; left = n; all = all; is = p.is; few = few })
+    by : (n : ℕ) (all : p.place + n ≡ 32) (few : rest < 2 ^ n)
+        → Next names bit rest first (record { place = p.place; left = n; all = all; is = p.is; few = few })
     by zero all few = absurd (omega (arith, few, some))
     by (suc n) all few = record {
-      to = record { place = suc p.place; left = n; all = omega (arith, all); is = omega (arith, p.is, two-pow-succ p.place); few = omega (arith, few, two-pow-succ n) };
+      to = record {
+        place = suc p.place;
+        left = n;
+        all = omega (arith, all);
+        is = omega (arith, p.is, two-pow-succ p.place);
+        few =
+            omega (arith, few, two-pow-succ n);
+      };
       names_are = refl;
     }
 
@@ -49,7 +51,8 @@ none_left names (suc n) bit first = none_left names n (bit * 2) (still_first fir
 pub none_named : (names : ℕ → Option (List ℕ)) → ((bit : ℕ) → names bit ≡ None) → (n bit rest : ℕ) (first : Bool) → bit_names names n bit rest first ≡ []
 none_named names none zero bit rest first = refl
 none_named names none (suc n) bit rest first =
-    ap (λ (s : List ℕ). behind_mark first (set_name names bit (rest % 2 == 1)) ++ s) (none_named names none n (bit * 2) (rest / 2) (still_first first (set_name names bit (rest % 2 == 1))))
+    ap (λ (s : List ℕ). behind_mark first (set_name names bit (rest % 2 == 1)) ++ s)
+    (none_named names none n (bit * 2) (rest / 2) (still_first first (set_name names bit (rest % 2 == 1))))
     ∙ ap (λ (o : Option (List ℕ)). behind_mark first o ++ []) (unset (rest % 2 == 1))
   where
     unset : (is_set : Bool) → set_name names bit is_set ≡ None

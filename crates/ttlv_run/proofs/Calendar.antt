@@ -3,7 +3,8 @@ use Rattle.std.proofs.Common.{◌≡◌, ℕ, zero, suc, ◌+◌, ◌-◌, ◌*�
 use Rattle.std.specs.Str.{IsAscii}
 use Rattle.std.proofs.lemmas.Str.Ascii.{IsAscii-nil, IsAscii-cons}
 use Rattle.std.proofs.lemmas.Bool.{lt-ltb, le-ltb}
-use Rattle.ttlv_run.specs.Dates.{is_leap, days_in_year, days_in_month, in_year, in_month, digit_at, two, calendar_text, year_text, day_text, clock_text, time_text}
+use Rattle.ttlv_run.specs.Dates.{is_leap, days_in_year, days_in_month, in_year, in_month, digit_at, two, calendar_text, year_text, day_text, clock_text}
+use Rattle.ttlv_run.specs.Dates.{time_text}
 
 -- a year has days, and so has a month
 pub year_some : (y : ℕ) → 0 < days_in_year y
@@ -61,7 +62,7 @@ two_first : (v : ℕ) (rest : List ℕ) → IsAscii rest → IsAscii (two v ++ r
 two_first v rest h = digit_first v 10 (digit_at v 1 ∷ rest) (digit_first v 1 rest h)
 
 -- dates and times are ASCII
-pub calendar_ascii : (y m d : ℕ) → IsAscii (calendar_text y m d)
+calendar_ascii : (y m d : ℕ) → IsAscii (calendar_text y m d)
 calendar_ascii y m d =
     let days = digit_first d 10 (digit_at d 1 ∷ []) (digit_first d 1 [] IsAscii-nil) in
     let months = two_first m (45 ∷ two d) (IsAscii-cons 45 (two d) (lit< tt) days) in

@@ -1,5 +1,6 @@
 -- What is printed of an input exists, and goes on behind what is printed of a beginning of it.
-use Rattle.std.proofs.Common.{◌≡◌, inl, inr, ℕ, zero, suc, ◌+◌, ◌-◌, ◌<◌, ◌≤◌, ◌&&◌, Bool, true, false, if◌then◌else◌, List, [], ◌∷◌, ◌++◌, length, drop, get_or, Option, Some, None, ap, sym, refl, subst, ◌∙◌, arith, append_assoc, append-nil}
+use Rattle.std.proofs.Common.{◌≡◌, inl, inr, ℕ, zero, suc, ◌+◌, ◌-◌, ◌<◌, ◌≤◌, ◌&&◌, Bool, true, false, if◌then◌else◌, List, [], ◌∷◌, ◌++◌, length, drop}
+use Rattle.std.proofs.Common.{get_or, Option, Some, None, ap, sym, refl, subst, ◌∙◌, arith, append_assoc, append-nil}
 use Rattle.std.specs.Prelude.{nat_le}
 use Rattle.std.specs.List.{flat_map}
 use Rattle.std.proofs.lemmas.Bool.{cases_lt, leb-true, and_parts}
@@ -22,7 +23,8 @@ use Rattle.ttlv_run.specs.Texts.{Names, reach_after, no_reach, item_text, lines_
 first_within : (r : List ℕ) → 0 < length r → (0 < first_size r) × (first_size r ≤ length r)
 first_within r lt = by (nat_le 8 (length r) && nat_le (8 + length_at r 0) (length r)) refl
   where
-    by : (b : Bool) → (nat_le 8 (length r) && nat_le (8 + length_at r 0) (length r)) ≡ b → (0 < (if b then 8 + length_at r 0 else length r)) × ((if b then 8 + length_at r 0 else length r) ≤ length r)
+    by : (b : Bool) → (nat_le 8 (length r) && nat_le (8 + length_at r 0) (length r)) ≡ b → (0 < (if b then 8 + length_at r 0 else length r))
+        × ((if b then 8 + length_at r 0 else length r) ≤ length r)
     by true is = (omega arith, leb-true (8 + length_at r 0) (length r) (and_parts (nat_le 8 (length r)) (nat_le (8 + length_at r 0) (length r)) is).1)
     by false is = (lt, omega arith)
 
@@ -62,34 +64,47 @@ reach_all names look r [] = r
 reach_all names look r (i ∷ is) = reach_all names look (reach_after names look r i) is
 
 module _ (names : Names) (look : Look) (at : ℕ) (bytes : List ℕ) where
-  pub lines-append : (r : Reach) (xs ys : List FoundItem) → lines_from names look at bytes r (xs ++ ys) ≡ lines_from names look at bytes r xs ++ lines_from names look at bytes (reach_all names look r xs) ys
+  pub lines-append : (r : Reach) (xs ys : List FoundItem) → lines_from names look at bytes r (xs ++ ys) ≡ lines_from names look at bytes r xs
+      ++ lines_from names look at bytes (reach_all names look r xs) ys
   lines-append r [] ys = refl
   lines-append r (x ∷ xs) ys =
       let s = reach_after names look r x in
       let line = item_text names look s at bytes x in
-      ap (λ (t : List ℕ). line ++ t) (lines-append s xs ys) ∙ sym (append_assoc line (lines_from names look at bytes s xs) (lines_from names look at bytes (reach_all names look s xs) ys))
+      ap (λ (t : List ℕ). line ++ t) (lines-append s xs ys)
+      ∙ sym (append_assoc line (lines_from names look at bytes s xs) (lines_from names look at bytes (reach_all names look s xs) ys))
 
   -- one more
-  pub lines-more : (r : Reach) (x : FoundItem) (xs : List FoundItem) → lines_from names look at bytes r (xs ++ (x ∷ [])) ≡ lines_from names look at bytes r xs ++ item_text names look (reach_after names look (reach_all names look r xs) x) at bytes x
+  pub lines-more : (r : Reach) (x : FoundItem) (xs : List FoundItem) → lines_from names look at bytes r (xs ++ (x ∷ [])) ≡ lines_from names look at bytes r xs
+      ++ item_text names look (reach_after names look (reach_all names look r xs) x) at bytes x
   lines-more r x xs =
-      lines-append r xs (x ∷ []) ∙ ap (λ (s : List ℕ). lines_from names look at bytes r xs ++ s) (append-nil (item_text names look (reach_after names look (reach_all names look r xs) x) at bytes x))
+      lines-append r xs (x ∷ []) ∙ ap (λ (s : List ℕ). lines_from names look at bytes r xs ++ s)
+      (append-nil (item_text names look (reach_after names look (reach_all names look r xs) x) at bytes x))
 
-  pub reach-more : (r : Reach) (x : FoundItem) (xs : List FoundItem) → reach_all names look r (xs ++ (x ∷ [])) ≡ reach_after names look (reach_all names look r xs) x
+  pub reach-more : (r : Reach) (x : FoundItem) (xs : List FoundItem) → reach_all names look r (xs ++ (x ∷ [])) ≡ reach_after names look
+      (reach_all names look r xs) x
   reach-more r x [] = refl
   reach-more r x (y ∷ ys) = reach-more (reach_after names look r y) x ys
 
 module _ (names : Names) (task : Task) (bytes : List ℕ) where
   -- behind a beginning too
   back : (front more : List ℕ) → Continues names task bytes (front ++ more) → Continues names task bytes front
-  back front more h = record { more = more ++ h.more; place = h.place; prints = subst (λ (s : List ℕ). Prints names task bytes s h.place) (append_assoc front more h.more) h.prints }
+  back front more h = record {
+    more = more ++ h.more;
+    place = h.place;
+    prints = subst (λ (s : List ℕ). Prints names task bytes s h.place)
+        (append_assoc front more h.more) h.prints;
+  }
 
   -- a message is whole, and the next one is due; or it has a fault
-  here : (p : ℕ) (front : List ℕ) → Whole names task bytes p front → p < length bytes → (reported : List ℕ) (fault : Option Fault) → IsMessageText names task p (message_at bytes p) reported fault
-      → (Whole names task bytes (p + length (message_at bytes p)) (front ++ reported) → Continues names task bytes (front ++ reported)) → Continues names task bytes (front ++ reported)
+  here : (p : ℕ) (front : List ℕ) → Whole names task bytes p front → p < length bytes → (reported : List ℕ) (fault : Option Fault)
+      → IsMessageText names task p (message_at bytes p) reported fault
+      → (Whole names task bytes (p + length (message_at bytes p)) (front ++ reported) → Continues names task bytes (front ++ reported))
+      → Continues names task bytes (front ++ reported)
   here p front whole lt reported fault tells further = by fault tells (is_taken task (message_at bytes p)) refl
     where
       -- it ends here
-      breaks : (f : Option Fault) → IsMessageText names task p (message_at bytes p) reported f → (place : Place) → IsWrong task (message_at bytes p) p place f → Continues names task bytes (front ++ reported)
+      breaks : (f : Option Fault) → IsMessageText names task p (message_at bytes p) reported f → (place : Place) → IsWrong task (message_at bytes p) p place f
+          → Continues names task bytes (front ++ reported)
       breaks f tells place wrong =
           let text = front ++ reported in
           let breaks : Breaks names task bytes text place = record {
@@ -105,18 +120,31 @@ module _ (names : Names) (task : Task) (bytes : List ℕ) where
           } in
           record { more = []; place = Some place; prints = subst (λ (s : List ℕ). Breaks names task bytes s place) (sym (append-nil text)) breaks }
 
-      by : (f : Option Fault) → IsMessageText names task p (message_at bytes p) reported f → (b : Bool) → is_taken task (message_at bytes p) ≡ b → Continues names task bytes (front ++ reported)
+      by : (f : Option Fault) → IsMessageText names task p (message_at bytes p) reported f → (b : Bool) → is_taken task (message_at bytes p) ≡ b
+          → Continues names task bytes (front ++ reported)
       by None tells true taken = further (whole_more p (p + length (message_at bytes p)) front (front ++ reported) reported whole lt tells taken refl refl)
-      by None tells false other = breaks None tells (record { offset = p; tag = tag_there (message_at bytes p) 0; wrong = NotKmip }) (not_taken other refl refl refl)
-      by (Some f) tells b taken = breaks (Some f) tells (record { offset = p + f.offset; tag = tag_there (message_at bytes p) f.offset; wrong = Malformed f.kind }) (malformed f refl refl refl)
+      by None tells false other = breaks None tells (record { offset = p; tag = tag_there (message_at bytes p) 0; wrong = NotKmip })
+          (not_taken other refl refl refl)
+      by (Some f) tells b taken = breaks (Some f) tells (record {
+        offset = p + f.offset;
+        tag = tag_there (message_at bytes p) f.offset;
+        wrong =
+            Malformed f.kind;
+      }) (malformed f refl refl refl)
 
   module _ (plain : (k : ℕ) → get_or bytes k 0 < 256) where
     -- all messages are whole
     all_whole : (p : ℕ) (front : List ℕ) → p ≡ length bytes → Whole names task bytes p front → Continues names task bytes front
-    all_whole p front at whole = record { more = []; place = None; prints = subst (λ (s : List ℕ). Whole names task bytes (length bytes) s) (sym (append-nil front)) (subst (λ (q : ℕ). Whole names task bytes q front) at whole) }
+    all_whole p front at whole = record {
+      more = [];
+      place = None;
+      prints = subst (λ (s : List ℕ). Whole names task bytes (length bytes) s)
+          (sym (append-nil front)) (subst (λ (q : ℕ). Whole names task bytes q front) at whole);
+    }
 
     -- one message more
-    one_whole : (p : ℕ) (front : List ℕ) → p < length bytes → Whole names task bytes p front → ((text : List ℕ) → Whole names task bytes (p + length (message_at bytes p)) text → Continues names task bytes text) → Continues names task bytes front
+    one_whole : (p : ℕ) (front : List ℕ) → p < length bytes → Whole names task bytes p front
+        → ((text : List ℕ) → Whole names task bytes (p + length (message_at bytes p)) text → Continues names task bytes text) → Continues names task bytes front
     one_whole p front lt whole further =
         let message = message_at bytes p in
         let end : Ends message [] = ends message (message_plain bytes p lt plain) 0 [] [] (at_first refl refl refl) in
@@ -128,7 +156,8 @@ module _ (names : Names) (task : Task) (bytes : List ℕ) where
     whole_by zero p front few le whole = all_whole p front (omega (arith, few, le)) whole
     whole_by (suc n) p front few le whole =
         elim (cases_lt p (length bytes)) [
-          | inl lt ↦ one_whole p front lt whole (λ text next. whole_by n (p + length (message_at bytes p)) text (omega (arith, few, message_some bytes p lt)) (message_within bytes p lt) next)
+          | inl lt ↦ one_whole p front lt whole (λ text next. whole_by n (p + length (message_at bytes p)) text (omega (arith, few, message_some bytes p lt))
+              (message_within bytes p lt) next)
           | inr past ↦ all_whole p front (omega (arith, le, past)) whole
         ]
 
@@ -137,12 +166,15 @@ module _ (names : Names) (task : Task) (bytes : List ℕ) where
     whole_goes p front le whole = whole_by (length bytes - p) p front (omega arith) le whole
 
     -- behind a message, of which this is printed
-    pub goes_behind : (p : ℕ) (front : List ℕ) → p < length bytes → Whole names task bytes p front → (t : List ℕ) (fault : Option Fault) → IsMessageText names task p (message_at bytes p) t fault → Continues names task bytes (front ++ t)
-    goes_behind p front lt whole t fault tells = here p front whole lt t fault tells (λ next. whole_goes (p + length (message_at bytes p)) (front ++ t) (message_within bytes p lt) next)
+    pub goes_behind : (p : ℕ) (front : List ℕ) → p < length bytes → Whole names task bytes p front → (t : List ℕ) (fault : Option Fault)
+        → IsMessageText names task p (message_at bytes p) t fault → Continues names task bytes (front ++ t)
+    goes_behind p front lt whole t fault tells =
+        here p front whole lt t fault tells (λ next. whole_goes (p + length (message_at bytes p)) (front ++ t) (message_within bytes p lt) next)
 
 module _ (names : Names) (look : Look) (bytes : List ℕ) (plain : (k : ℕ) → get_or bytes k 0 < 256) where
   -- behind the lines of the items that were met of a message
-  pub items_go : (p : ℕ) (front : List ℕ) → p < length bytes → Whole names (Show look) bytes p front → (q : ℕ) (es : List ℕ) (xs : List FoundItem) → Meets (message_at bytes p) q es xs
+  pub items_go : (p : ℕ) (front : List ℕ) → p < length bytes → Whole names (Show look) bytes p front → (q : ℕ) (es : List ℕ) (xs : List FoundItem)
+      → Meets (message_at bytes p) q es xs
       → Continues names (Show look) bytes (front ++ lines_from names look p (message_at bytes p) no_reach xs)
   items_go p front lt whole q es xs met =
       let message = message_at bytes p in
@@ -150,6 +182,8 @@ module _ (names : Names) (look : Look) (bytes : List ℕ) (plain : (k : ℕ) →
       let first = lines_from names look p message no_reach xs in
       let rest = lines_from names look p message (reach_all names look no_reach xs) end.more in
       let reported = lines_from names look p message no_reach (xs ++ end.more) in
-      let is : (front ++ first) ++ rest ≡ front ++ reported = append_assoc front first rest ∙ ap (λ (s : List ℕ). front ++ s) (sym (lines-append names look p message no_reach xs end.more)) in
-      let all : Continues names (Show look) bytes (front ++ reported) = goes_behind names (Show look) bytes plain p front lt whole reported end.fault (record { found = xs ++ end.more; ended = end.ended; is = refl }) in
+      let is : (front ++ first) ++ rest ≡ front ++ reported = append_assoc front first rest
+      ∙ ap (λ (s : List ℕ). front ++ s) (sym (lines-append names look p message no_reach xs end.more)) in
+      let all : Continues names (Show look) bytes (front ++ reported) = goes_behind names (Show look) bytes plain p front lt whole reported end.fault
+      (record { found = xs ++ end.more; ended = end.ended; is = refl }) in
       back names (Show look) bytes (front ++ first) rest (subst (Continues names (Show look) bytes) (sym is) all)

@@ -9,7 +9,8 @@ use Rattle.ttlv_run.specs.declared.form.LinePart.{LinePart}
 use Rattle.ttlv_run.specs.declared.form.LinePart.TheVariants.{Begin, Indent, Mark, Offset, Colon, Group, Gap, Between, Half, Whole, Aside, Free}
 use Rattle.ttlv_run.specs.declared.form.Step.{Step}
 use Rattle.ttlv_run.specs.declared.form.Step.TheVariants.{Counts, Skips, Wrong}
-use Rattle.ttlv_run.specs.Columns.{is_hex_digit, is_base64_digit, is_url_digit, is_blank, is_between, is_edge, is_mark, is_in_mark, is_in_indent, is_in_aside, is_at_begin, step, Reads, begins, counts, skips, between, in_dump, aside, freely}
+use Rattle.ttlv_run.specs.Columns.{is_hex_digit, is_base64_digit, is_url_digit, is_blank, is_between, is_edge, is_mark, is_in_mark, is_in_indent, is_in_aside}
+use Rattle.ttlv_run.specs.Columns.{is_at_begin, step, Reads, begins, counts, skips, between, in_dump, aside, freely}
 
 abbrev NoCount : Step → Type 0
 NoCount x = (next : LinePart) → x ≡ Counts next → ⊥
@@ -39,28 +40,38 @@ later_test false d x y none only next e = only next e
 never : (d : Bool) (x : Step) → NoCount x → CountsDigits d x
 never d x none next e = absurd (none next e)
 
-in_byte_digit : (whole d : Bool) (b : ℕ) → is_hex_digit b ≡ d → CountsDigits d (if not whole && d then Counts Whole else if whole && not d then between b else Wrong)
+in_byte_digit : (whole d : Bool) (b : ℕ) → is_hex_digit b ≡ d
+    → CountsDigits d (if not whole && d then Counts Whole else if whole && not d then between b else Wrong)
 in_byte_digit true true b is next e = refl
 in_byte_digit true false b is next e = sym is ∙ between_digit b next e
   where
     between_digit : (c : ℕ) → CountsDigits (is_hex_digit c) (between c)
-    between_digit c = first_test (is_hex_digit c) _ _ (either_none (is_blank c) _ _ (skipped_none Between) (either_none (c == 10) _ _ (skipped_none Begin) (either_none (is_edge c) _ _ (skipped_none Aside) wrong_none)))
+    between_digit c = first_test (is_hex_digit c) _ _
+        (either_none (is_blank c) _ _ (skipped_none Between)
+        (either_none (c == 10) _ _ (skipped_none Begin) (either_none (is_edge c) _ _ (skipped_none Aside) wrong_none)))
 in_byte_digit false true b is next e = refl
 in_byte_digit false false b is next e = cc e
 
 aside_none : (b : ℕ) → NoCount (aside b)
 aside_none b = either_none (b == 10) _ _ (skipped_none Begin) (skipped_none Aside)
 
-group_digit : (blank : LinePart) (b : ℕ) → CountsDigits (is_hex_digit b) (if is_hex_digit b then Counts Group else if is_blank b then Skips blank else if b == 10 then Skips Begin else Wrong)
-group_digit blank b = first_test (is_hex_digit b) _ _ (either_none (is_blank b) _ _ (skipped_none blank) (either_none (b == 10) _ _ (skipped_none Begin) wrong_none))
+group_digit : (blank : LinePart) (b : ℕ)
+    → CountsDigits (is_hex_digit b) (if is_hex_digit b then Counts Group else if is_blank b then Skips blank else if b == 10 then Skips Begin else Wrong)
+group_digit blank b = first_test (is_hex_digit b) _ _
+    (either_none (is_blank b) _ _ (skipped_none blank) (either_none (b == 10) _ _ (skipped_none Begin) wrong_none))
 
 dump_digit : (part : LinePart) (b : ℕ) → CountsDigits (is_hex_digit b) (in_dump part b)
-dump_digit Begin b = never (is_hex_digit b) _ (either_none (is_hex_digit b) _ _ (skipped_none Offset) (either_none (b == 10 || is_blank b) _ _ (skipped_none Begin) wrong_none))
-dump_digit Offset b = never (is_hex_digit b) _ (either_none (is_hex_digit b) _ _ (skipped_none Offset) (either_none (b == 58) _ _ (skipped_none Colon) (either_none (is_blank b) _ _ (skipped_none Between) (either_none (b == 10) _ _ (skipped_none Begin) wrong_none))))
+dump_digit Begin b = never (is_hex_digit b) _ (either_none (is_hex_digit b) _ _ (skipped_none Offset)
+    (either_none (b == 10 || is_blank b) _ _ (skipped_none Begin) wrong_none))
+dump_digit Offset b = never (is_hex_digit b) _ (either_none (is_hex_digit b) _ _ (skipped_none Offset)
+    (either_none (b == 58) _ _ (skipped_none Colon)
+    (either_none (is_blank b) _ _ (skipped_none Between) (either_none (b == 10) _ _ (skipped_none Begin) wrong_none))))
 dump_digit Colon b = group_digit Colon b
 dump_digit Group b = group_digit Gap b
 dump_digit Gap b = group_digit Aside b
-dump_digit Between b = first_test (is_hex_digit b) _ _ (either_none (is_blank b) _ _ (skipped_none Between) (either_none (b == 10) _ _ (skipped_none Begin) (either_none (is_edge b) _ _ (skipped_none Aside) wrong_none)))
+dump_digit Between b = first_test (is_hex_digit b) _ _
+    (either_none (is_blank b) _ _ (skipped_none Between)
+    (either_none (b == 10) _ _ (skipped_none Begin) (either_none (is_edge b) _ _ (skipped_none Aside) wrong_none)))
 dump_digit Half b = in_byte_digit false (is_hex_digit b) b refl
 dump_digit Whole b = in_byte_digit true (is_hex_digit b) b refl
 dump_digit Aside b = never (is_hex_digit b) _ (aside_none b)
@@ -68,8 +79,10 @@ dump_digit Indent b = never (is_hex_digit b) Wrong wrong_none
 dump_digit Mark b = never (is_hex_digit b) Wrong wrong_none
 dump_digit Free b = never (is_hex_digit b) Wrong wrong_none
 
-indent_digit : (part : LinePart) (b n : ℕ) → CountsDigits (is_hex_digit b) (if is_blank b then Skips Indent else if is_in_indent part && is_mark b n then Skips Mark else aside b)
-indent_digit part b n = never (is_hex_digit b) _ (either_none (is_blank b) _ _ (skipped_none Indent) (either_none (is_in_indent part && is_mark b n) _ _ (skipped_none Mark) (aside_none b)))
+indent_digit : (part : LinePart) (b n : ℕ)
+    → CountsDigits (is_hex_digit b) (if is_blank b then Skips Indent else if is_in_indent part && is_mark b n then Skips Mark else aside b)
+indent_digit part b n = never (is_hex_digit b) _
+    (either_none (is_blank b) _ _ (skipped_none Indent) (either_none (is_in_indent part && is_mark b n) _ _ (skipped_none Mark) (aside_none b)))
 
 packet_digit : (part : LinePart) (b n : ℕ) → CountsDigits (is_hex_digit b) (step PacketText part b n)
 packet_digit Begin b n = indent_digit Begin b n
@@ -105,7 +118,8 @@ counted_digit Base64Text part b n = freely_digit (is_base64_digit b) (is_between
 counted_digit Base64UrlText part b n = freely_digit (is_url_digit b) (is_between b)
 counted_digit ArmouredText part b n =
     later_test (b == 10) (is_base64_digit b) _ _ (skipped_none Begin)
-    (later_test (is_in_aside part || (is_at_begin part && b == 45)) (is_base64_digit b) _ _ (skipped_none Aside) (freely_digit (is_base64_digit b) (is_blank b)))
+    (later_test (is_in_aside part || (is_at_begin part && b == 45)) (is_base64_digit b) _ _ (skipped_none Aside)
+    (freely_digit (is_base64_digit b) (is_blank b)))
 counted_digit DumpText part b n = dump_digit part b
 counted_digit PacketText part b n = packet_digit part b n
 
@@ -136,5 +150,6 @@ more_bytes (c ∷ s) b bytes small (suc i) = more_bytes s b (λ k. bytes (suc k)
 pub read_bytes : (form : Form) (first : LinePart) (s digits : List ℕ) (part : LinePart) (rest : List ℕ) → Reads form first s digits part rest → IsBytes digits
 read_bytes form first s digits part rest begins = λ i. omega arith
 read_bytes form first s digits part rest (counts before more at then_ b others r is all) =
-    subst IsBytes (sym all) (more_bytes before b (read_bytes form first s before at (b ∷ others) r) (digit_small form b (counted_digit form at b (slice_index others 0) then_ is)))
+    subst IsBytes (sym all) (more_bytes before b (read_bytes form first s before at (b ∷ others) r)
+    (digit_small form b (counted_digit form at b (slice_index others 0) then_ is)))
 read_bytes form first s digits part rest (skips before at then_ b others r is) = read_bytes form first s before at (b ∷ others) r

@@ -1,5 +1,6 @@
 -- A decoder of digits: what it knows of them, and what it has read, character by character.
-use Rattle.std.proofs.Common.{◌≡◌, ◌≢◌, ℕ, ◌+◌, ◌%◌, ◌<◌, ◌≤◌, true, List, [], ◌∷◌, ◌++◌, length, take, drop, Option, Some, None, Result, Ok, Err, ap, sym, refl, subst, ◌∙◌, arith, append-nil, append_assoc, length-append}
+use Rattle.std.proofs.Common.{◌≡◌, ◌≢◌, ℕ, ◌+◌, ◌%◌, ◌<◌, ◌≤◌, true, List, [], ◌∷◌, ◌++◌, length, take, drop, Option, Some, None, Result, Ok, Err, ap, sym}
+use Rattle.std.proofs.Common.{refl, subst, ◌∙◌, arith, append-nil, append_assoc, length-append}
 use Rattle.std.specs.Prelude.{slice_index, slice_set}
 use Rattle.std.specs.Io.KnownBytes.{prepend_known}
 use Rattle.std.proofs.lemmas.Grind.{take_at_read, take-set_at}
@@ -17,7 +18,8 @@ use Rattle.ttlv_run.specs.declared.decoder.Made.{Made}
 use Rattle.ttlv_run.specs.declared.decoder.Made.TheVariants.{Nothing, Bytes, Failed}
 use Rattle.ttlv_run.specs.declared.decoder.Phase.{Phase}
 use Rattle.ttlv_run.specs.declared.decoder.Phase.TheVariants.{Groups, Padded, Spoilt}
-use Rattle.ttlv_run.specs.Decoding.{one_or_none, bytes_in, begun, Continues, IsOpen, IsPadded, IsSpoilt, Knows, Yields, Ends, Holds, Takes, Reading, Stuck, Pushes, AllBytes, Finishes, Grows, Puts, DecodesPiece, DecodesMore}
+use Rattle.ttlv_run.specs.Decoding.{one_or_none, bytes_in, begun, Continues, IsOpen, IsPadded, IsSpoilt, Knows, Yields, Ends, Holds, Takes, Reading, Stuck}
+use Rattle.ttlv_run.specs.Decoding.{Pushes, AllBytes, Finishes, Grows, Puts, DecodesPiece, DecodesMore}
 use Rattle.ttlv_run.specs.Fronts.{ReadsBytes}
 use Rattle.ttlv_run.specs.Inputs.{decode_form, width, Makes}
 use Rattle.ttlv_run.proofs.Groups.{behind, group_of, behind_group, group_known, no_group, group_then, nothing, least_group, more_whole, some_width}
@@ -51,7 +53,8 @@ module _ (form : Form) (front bytes : List ℕ) (continues : Continues form fron
     goes_further : (x : List ℕ) → group_of form g ≡ Some x → Continues form (front ++ g) (bytes ++ x)
     goes_further x is = record {
       whole = more_groups;
-      on = λ rest. ap (decode_form form) (append_assoc front g rest) ∙ continues.on (g ++ rest) ∙ ap (prepend_known bytes) (group_then form g x long plain is rest)
+      on = λ rest. ap (decode_form form) (append_assoc front g rest) ∙ continues.on (g ++ rest)
+          ∙ ap (prepend_known bytes) (group_then form g x long plain is rest)
           ∙ prepended bytes x (decode_form form rest);
     }
 
@@ -86,7 +89,8 @@ module _ (form : Form) (front bytes : List ℕ) (continues : Continues form fron
       where
         none : (rest : List ℕ) → decode_form form (front ++ (g ++ rest)) ≡ None
         none [] = ap (λ (t : List ℕ). decode_form form (front ++ t)) (append-nil g) ∙ on_none g is
-        none (b ∷ rest) = ap (decode_form form) (sym (append_assoc front g (b ∷ rest))) ∙ ends_here (no_group form g long plain (λ y same. cc (sym is ∙ same))) b rest
+        none (b ∷ rest) = ap (decode_form form) (sym (append_assoc front g (b ∷ rest)))
+            ∙ ends_here (no_group form g long plain (λ y same. cc (sym is ∙ same))) b rest
 
 module _ (form : Form) (digits left bytes : List ℕ) (o : IsOpen form digits left bytes) (b : ℕ) where
   pub all_digits : digits ++ b ∷ [] ≡ o.front ++ (left ++ b ∷ [])
@@ -124,8 +128,13 @@ module _ (form : Form) (digits left bytes : List ℕ) (o : IsOpen form digits le
     open_spoilt none = subst (λ (t : List ℕ). IsSpoilt form t bytes) same (group_spoilt form o.front bytes o.continues g long plain none)
 
 -- a digit put behind those of a group makes it whole
-pub filled : (ds : List ℕ) (count w b : ℕ) → w ≡ count + 1 → w ≤ length ds → (take w (slice_set ds count b) ≡ take count ds ++ b ∷ []) × (length (take w (slice_set ds count b)) ≡ w)
-filled ds count w b is le = (take-set_at ds count w b is (omega (arith, is, le)), length-take-le w (slice_set ds count b) (omega (arith, le, length-set ds count b)))
+pub filled : (ds : List ℕ) (count w b : ℕ) → w ≡ count + 1 → w ≤ length ds → (take w (slice_set ds count b) ≡ take count ds ++ b ∷ [])
+    × (length (take w (slice_set ds count b)) ≡ w)
+filled ds count w b is le = (
+  take-set_at ds count w b is (omega (arith, is, le)),
+  length-take-le w (slice_set ds count b)
+      (omega (arith, le, length-set ds count b)),
+)
 
 -- a digit behind padding
 pub padded_more : (form : Form) (digits bytes : List ℕ) (b : ℕ) → IsPadded form digits bytes → IsSpoilt form (digits ++ b ∷ []) bytes
@@ -146,7 +155,8 @@ spoilt_more form digits bytes b p = record {
   front = p.front;
   bad = p.bad;
   more = p.more ++ b ∷ [];
-  are = ap (λ (t : List ℕ). t ++ b ∷ []) p.are ∙ append_assoc p.front (p.bad ++ p.more) (b ∷ []) ∙ ap (λ (t : List ℕ). p.front ++ t) (append_assoc p.bad p.more (b ∷ []));
+  are = ap (λ (t : List ℕ). t ++ b ∷ []) p.are ∙ append_assoc p.front (p.bad ++ p.more) (b ∷ [])
+      ∙ ap (λ (t : List ℕ). p.front ++ t) (append_assoc p.bad p.more (b ∷ []));
   whole = p.whole;
   made = p.made;
   few = p.few;
@@ -156,7 +166,8 @@ spoilt_more form digits bytes b p = record {
 -- groups that begin with what is spoilt
 begins_with : (bad more groups others : List ℕ) → bad ++ more ≡ groups ++ others → length bad ≤ length groups → groups ≡ bad ++ drop (length bad) groups
 begins_with bad more groups others is le =
-    let front : take (length bad) groups ≡ bad = sym (take-append-le (length bad) groups others le) ∙ ap (take (length bad)) (sym is) ∙ take-append_seam bad more in
+    let front : take (length bad) groups ≡ bad = sym (take-append-le (length bad) groups others le) ∙ ap (take (length bad)) (sym is)
+    ∙ take-append_seam bad more in
     sym (take-append-drop (length bad) groups) ∙ ap (λ (t : List ℕ). t ++ drop (length bad) groups) front
 
 -- whatever is known of digits, it says their bytes
@@ -167,7 +178,13 @@ knows_makes Groups form digits left bytes o = record {
   are = o.are;
   whole = o.continues.whole;
   made = goes_made form o.front bytes o.continues;
-  most = λ groups more is some whole. absurd (omega (arith, least_group form (length groups) some whole, o.few, ap (λ (t : List ℕ). length t) is, length-append groups more));
+  most = λ groups more is some whole. absurd (omega (
+    arith,
+    least_group form (length groups) some whole,
+    o.few,
+    ap (λ (t : List ℕ). length t) is,
+    length-append groups more,
+  ));
 }
 knows_makes Padded form digits left bytes p = record {
   front = digits;
@@ -185,19 +202,14 @@ knows_makes Spoilt form digits left bytes p = record {
   made = p.made;
   most = λ groups more is some whole.
       let least = least_group form (length groups) some whole in
-      ap (λ (t : List ℕ). decode_form form (p.front ++ t)) (begins_with p.bad p.more groups more is (omega (arith, least, p.few))) ∙ p.none (drop (length p.bad) groups);
+      ap (λ (t : List ℕ). decode_form form (p.front ++ t)) (begins_with p.bad p.more groups more is (omega (arith, least, p.few)))
+      ∙ p.none (drop (length p.bad) groups);
 }
 
 -- the digits of a text that ended are bytes
-pub open_ends : (form : Form) (digits left bytes x : List ℕ) → IsOpen form digits left bytes → decode_form form left ≡ Some x → decode_form form digits ≡ Some (bytes ++ x)
+pub open_ends : (form : Form) (digits left bytes x : List ℕ) → IsOpen form digits left bytes → decode_form form left ≡ Some x
+    → decode_form form digits ≡ Some (bytes ++ x)
 open_ends form digits left bytes x o is = ap (decode_form form) o.are ∙ on_some form o.front bytes o.continues left x is
-
--- or none
-pub open_fails : (form : Form) (digits left bytes : List ℕ) → IsOpen form digits left bytes → decode_form form left ≡ None → decode_form form digits ≡ None
-open_fails form digits left bytes o is = ap (decode_form form) o.are ∙ on_none form o.front bytes o.continues left is
-
-pub spoilt_fails : (form : Form) (digits bytes : List ℕ) → IsSpoilt form digits bytes → decode_form form digits ≡ None
-spoilt_fails form digits bytes p = ap (decode_form form) p.are ∙ p.none p.more
 
 -- ---- one character
 
@@ -214,7 +226,8 @@ counted_takes old new s bytes b rest then_ made h is yields form part = by made 
   where
     reads : Reads new.form (first_part new.form) s (h.digits ++ b ∷ []) new.part rest
     reads = subst (λ (f : Form). Reads f (first_part f) s (h.digits ++ b ∷ []) new.part rest) (sym form)
-        (subst (λ (p : LinePart). Reads old.form (first_part old.form) s (h.digits ++ b ∷ []) p rest) (sym part) (counts h.digits (h.digits ++ b ∷ []) old.part then_ b rest h.reads is refl))
+        (subst (λ (p : LinePart). Reads old.form (first_part old.form) s (h.digits ++ b ∷ []) p rest) (sym part)
+        (counts h.digits (h.digits ++ b ∷ []) old.part then_ b rest h.reads is refl))
 
     by : (m : Made) → Yields new (h.digits ++ b ∷ []) bytes m → Takes old new s bytes b rest m
     by Nothing c = record { digits = h.digits ++ b ∷ []; reads = reads; knows = c }
@@ -231,8 +244,10 @@ pub record Same (new old : Decoder) : Type 0 where
 same_holds : (new old : Decoder) → Same new old → (s bytes rest : List ℕ) → Holds old s bytes rest → Holds new s bytes rest
 same_holds new old same s bytes rest h = record {
   digits = h.digits;
-  reads = subst (λ (f : Form). Reads f (first_part f) s h.digits new.part rest) (sym same.form) (subst (λ (p : LinePart). Reads old.form (first_part old.form) s h.digits p rest) (sym same.part) h.reads);
-  knows = subst (λ (p : Phase). Knows p new.form h.digits (begun new) bytes) (sym same.phase) (subst (λ (f : Form). Knows old.phase f h.digits (begun new) bytes) (sym same.form)
+  reads = subst (λ (f : Form). Reads f (first_part f) s h.digits new.part rest) (sym same.form)
+      (subst (λ (p : LinePart). Reads old.form (first_part old.form) s h.digits p rest) (sym same.part) h.reads);
+  knows = subst (λ (p : Phase). Knows p new.form h.digits (begun new) bytes) (sym same.phase)
+      (subst (λ (f : Form). Knows old.phase f h.digits (begun new) bytes) (sym same.form)
       (subst (λ (g : List ℕ). Knows old.phase old.form h.digits g bytes) (sym same.begun) h.knows));
 }
 
@@ -248,8 +263,10 @@ pub skipped_takes :
     → Holds new s bytes rest
 skipped_takes old new s bytes b rest then_ h is form part phase begun_is = record {
   digits = h.digits;
-  reads = subst (λ (f : Form). Reads f (first_part f) s h.digits new.part rest) (sym form) (subst (λ (p : LinePart). Reads old.form (first_part old.form) s h.digits p rest) (sym part) (skips h.digits old.part then_ b rest h.reads is));
-  knows = subst (λ (p : Phase). Knows p new.form h.digits (begun new) bytes) (sym phase) (subst (λ (f : Form). Knows old.phase f h.digits (begun new) bytes) (sym form)
+  reads = subst (λ (f : Form). Reads f (first_part f) s h.digits new.part rest) (sym form)
+      (subst (λ (p : LinePart). Reads old.form (first_part old.form) s h.digits p rest) (sym part) (skips h.digits old.part then_ b rest h.reads is));
+  knows = subst (λ (p : Phase). Knows p new.form h.digits (begun new) bytes) (sym phase)
+      (subst (λ (f : Form). Knows old.phase f h.digits (begun new) bytes) (sym form)
       (subst (λ (g : List ℕ). Knows old.phase old.form h.digits g bytes) (sym begun_is) h.knows));
 }
 
@@ -275,12 +292,15 @@ no_digits form = record {
     none_in_front (Some x) = refl
 
 -- in front of a text
-pub starts_reading : (d : Decoder) (mark : ℕ) → d.part ≡ first_part d.form → d.phase ≡ Groups → d.count ≡ 0 → d.waiting ≡ None → d.offset ≡ mark → Reading d mark [] []
+pub starts_reading : (d : Decoder) (mark : ℕ) → d.part ≡ first_part d.form → d.phase ≡ Groups → d.count ≡ 0 → d.waiting ≡ None → d.offset ≡ mark
+    → Reading d mark [] []
 starts_reading d mark part phase count waiting offset = record {
   reads = λ more. record {
     digits = [];
-    reads = subst (λ (w : Option ℕ). Reads d.form (first_part d.form) more [] d.part (one_or_none w ++ more)) (sym waiting) (subst (λ (p : LinePart). Reads d.form (first_part d.form) more [] p more) (sym part) begins);
-    knows = subst (λ (p : Phase). Knows p d.form [] (begun d) []) (sym phase) (subst (λ (n : ℕ). IsOpen d.form [] (take n d.digits) []) (sym count) (no_digits d.form));
+    reads = subst (λ (w : Option ℕ). Reads d.form (first_part d.form) more [] d.part (one_or_none w ++ more)) (sym waiting)
+        (subst (λ (p : LinePart). Reads d.form (first_part d.form) more [] p more) (sym part) begins);
+    knows = subst (λ (p : Phase). Knows p d.form [] (begun d) []) (sym phase) (subst (λ (n : ℕ). IsOpen d.form [] (take n d.digits) []) (sym count)
+        (no_digits d.form));
   };
   start = λ e. (refl, refl);
   at = omega (arith, offset, ap (λ (w : Option ℕ). length (one_or_none w)) waiting);
@@ -296,7 +316,14 @@ module _ (d : Decoder) (mark : ℕ) (s bytes : List ℕ) (b : ℕ) (r : Reading 
         (subst (λ (t : List ℕ). Holds d t bytes (b ∷ more)) (sym (append_assoc s (b ∷ []) more))
         (subst (λ (w : Option ℕ). Holds d (s ++ b ∷ more) bytes (one_or_none w ++ b ∷ more)) none (r.reads (b ∷ more)))));
     start = λ e. cc (sym e ∙ waits);
-    at = omega (arith, r.at, offset, ap (λ (w : Option ℕ). length (one_or_none w)) none, ap (λ (w : Option ℕ). length (one_or_none w)) waits, length-append s (b ∷ []));
+    at = omega (
+      arith,
+      r.at,
+      offset,
+      ap (λ (w : Option ℕ). length (one_or_none w)) none,
+      ap (λ (w : Option ℕ). length (one_or_none w)) waits,
+      length-append s (b ∷ []),
+    );
   }
 
   -- what waits, in front of the character that came
@@ -304,7 +331,8 @@ module _ (d : Decoder) (mark : ℕ) (s bytes : List ℕ) (b : ℕ) (r : Reading 
   waits w is more = subst (λ (o : Option ℕ). Holds d (s ++ b ∷ more) bytes (one_or_none o ++ b ∷ more)) is (r.reads (b ∷ more))
 
   -- was taken
-  pub took : (w : ℕ) (all : List ℕ) (mid new : Decoder) → d.waiting ≡ Some w → mid.offset ≡ d.offset → Same new mid → new.waiting ≡ Some b → new.offset ≡ mid.offset + 1
+  pub took : (w : ℕ) (all : List ℕ) (mid new : Decoder) → d.waiting ≡ Some w → mid.offset ≡ d.offset → Same new mid → new.waiting ≡ Some b
+      → new.offset ≡ mid.offset + 1
       → ((more : List ℕ) → Holds mid (s ++ b ∷ more) all (b ∷ more))
       → Reading new mark (s ++ b ∷ []) all
   took w all mid new is offset same waits further holds = record {
@@ -312,12 +340,21 @@ module _ (d : Decoder) (mark : ℕ) (s bytes : List ℕ) (b : ℕ) (r : Reading 
         (subst (λ (o : Option ℕ). Holds mid ((s ++ b ∷ []) ++ more) all (one_or_none o ++ more)) (sym waits)
         (subst (λ (t : List ℕ). Holds mid t all (b ∷ more)) (sym (append_assoc s (b ∷ []) more)) (holds more)));
     start = λ e. cc (sym e ∙ waits);
-    at = omega (arith, r.at, offset, further, ap (λ (o : Option ℕ). length (one_or_none o)) is, ap (λ (o : Option ℕ). length (one_or_none o)) waits, length-append s (b ∷ []));
+    at = omega (
+      arith,
+      r.at,
+      offset,
+      further,
+      ap (λ (o : Option ℕ). length (one_or_none o)) is,
+      ap (λ (o : Option ℕ). length (one_or_none o)) waits,
+      length-append s (b ∷ []),
+    );
   }
 
 module _ (d mid : Decoder) (mark : ℕ) (s bytes : List ℕ) (b w : ℕ) (r : Reading d mark s bytes) (is : d.waiting ≡ Some w) where
   -- a character can't stand where it does
-  here : (t rest : List ℕ) → Holds d t bytes (w ∷ rest) → length t ≡ length s + length rest → (why : Undecoded) → Takes d mid t bytes w rest (Failed why) → Stuck d.form mark t bytes why
+  here : (t rest : List ℕ) → Holds d t bytes (w ∷ rest) → length t ≡ length s + length rest → (why : Undecoded) → Takes d mid t bytes w rest (Failed why)
+      → Stuck d.form mark t bytes why
   here t rest h len why wrong =
       let at : d.offset + length (w ∷ rest) ≡ mark + length t = omega (arith, r.at, ap (λ (o : Option ℕ). length (one_or_none o)) is, len) in
       subst (Stuck d.form mark t bytes) (sym wrong.1) (record { rest = rest; reads = holds_bytes d t bytes (w ∷ rest) h; wrong = wrong.0; at = at })
@@ -327,7 +364,8 @@ module _ (d mid : Decoder) (mark : ℕ) (s bytes : List ℕ) (b w : ℕ) (r : Re
       → ((more : List ℕ) → Takes d mid (s ++ b ∷ more) bytes w (b ∷ more) made)
       → Pushes d new mark s b bytes made
   pushes new Nothing offset kept waiting further takes = took d mark s bytes b r w bytes mid new is offset kept waiting further takes
-  pushes new (Bytes g) offset kept waiting further takes = took d mark s bytes b r w (bytes ++ bytes_in g) mid new is offset kept waiting further (λ more. (takes more).0)
+  pushes new (Bytes g) offset kept waiting further takes = took d mark s bytes b r w (bytes ++ bytes_in g) mid new is offset kept waiting further
+      (λ more. (takes more).0)
   pushes new (Failed why) offset kept waiting further takes = λ more.
       here (s ++ b ∷ more) (b ∷ more) (waits d mark s bytes b r w is more) (length-append s (b ∷ more)) why (takes more)
 
@@ -341,7 +379,8 @@ module _ (d mid : Decoder) (mark : ℕ) (s bytes : List ℕ) (b w : ℕ) (r : Re
   module _ (form : mid.form ≡ d.form) where
     pub finishes_with : (made : Made) → made ≢ Nothing → Takes d mid s bytes w [] made → Finishes d.form mark s bytes made
     finishes_with Nothing other takes = absurd (other refl)
-    finishes_with (Bytes g) other takes = subst (λ (f : Form). AllBytes f s (bytes ++ bytes_in g)) form (record { digits = takes.0.digits; part = mid.part; reads = takes.0.reads; are = takes.1 })
+    finishes_with (Bytes g) other takes = subst (λ (f : Form). AllBytes f s (bytes ++ bytes_in g)) form
+        (record { digits = takes.0.digits; part = mid.part; reads = takes.0.reads; are = takes.1 })
     finishes_with (Failed why) other takes = here s [] last_taken (omega arith) why takes
 
     pub finishes : (made : Made) → mid.offset ≡ d.offset → (h : Holds mid s bytes []) → Ends mid h.digits bytes made → Finishes d.form mark s bytes made
@@ -383,33 +422,40 @@ module _
         sym (append_assoc (s ++ take i piece) (b ∷ []) (drop (i + 1) piece ++ more))
         ∙ ap (λ (t : List ℕ). t ++ (drop (i + 1) piece ++ more)) (joined s)
         ∙ append_assoc s (take (i + 1) piece) (drop (i + 1) piece ++ more)
-        ∙ ap (λ (t : List ℕ). s ++ t) (sym (append_assoc (take (i + 1) piece) (drop (i + 1) piece) more) ∙ ap (λ (t : List ℕ). t ++ more) (take-append-drop (i + 1) piece))
+        ∙ ap (λ (t : List ℕ). s ++ t) (sym (append_assoc (take (i + 1) piece) (drop (i + 1) piece) more)
+        ∙ ap (λ (t : List ℕ). t ++ more) (take-append-drop (i + 1) piece))
         ∙ sym (append_assoc s piece more)
 
     -- one that is no error
-    pub piece_more : Puts h1 h2 made (Ok None) → Grows h0 h2 (λ came. (mark : ℕ) (s all : List ℕ) → Reading d0 mark s all → Reading d2 mark (s ++ take (i + 1) piece) (all ++ came))
+    pub piece_more : Puts h1 h2 made (Ok None) → Grows h0 h2 (λ came. (mark : ℕ) (s all : List ℕ) → Reading d0 mark s all
+        → Reading d2 mark (s ++ take (i + 1) piece) (all ++ came))
     piece_more h = by made pushed h
       where
-        by : (m : Made) → ((mark : ℕ) (s bytes : List ℕ) → Reading d1 mark s bytes → Pushes d1 d2 mark s b bytes m) → Puts h1 h2 m (Ok None) → Grows h0 h2 (λ came. (mark : ℕ) (s all : List ℕ) → Reading d0 mark s all → Reading d2 mark (s ++ take (i + 1) piece) (all ++ came))
+        by : (m : Made) → ((mark : ℕ) (s bytes : List ℕ) → Reading d1 mark s bytes → Pushes d1 d2 mark s b bytes m) → Puts h1 h2 m (Ok None)
+            → Grows h0 h2 (λ came. (mark : ℕ) (s all : List ℕ) → Reading d0 mark s all → Reading d2 mark (s ++ take (i + 1) piece) (all ++ came))
         by Nothing push put = record {
           came = g.came;
           are = put.1 ∙ g.are;
-          holds = λ mark s all r. subst (λ (t : List ℕ). Reading d2 mark t (all ++ g.came)) (joined s) (push mark (s ++ take i piece) (all ++ g.came) (g.holds mark s all r));
+          holds = λ mark s all r. subst (λ (t : List ℕ). Reading d2 mark t (all ++ g.came)) (joined s)
+              (push mark (s ++ take i piece) (all ++ g.came) (g.holds mark s all r));
         }
         by (Bytes x) push put = record {
           came = g.came ++ bytes_in x;
           are = put.1 ∙ ap (λ (t : List ℕ). t ++ bytes_in x) g.are ∙ append_assoc h0 g.came (bytes_in x);
           holds = λ mark s all r.
               subst (Reading d2 mark (s ++ take (i + 1) piece)) (append_assoc all g.came (bytes_in x))
-              (subst (λ (t : List ℕ). Reading d2 mark t ((all ++ g.came) ++ bytes_in x)) (joined s) (push mark (s ++ take i piece) (all ++ g.came) (g.holds mark s all r)));
+              (subst (λ (t : List ℕ). Reading d2 mark t ((all ++ g.came) ++ bytes_in x)) (joined s)
+              (push mark (s ++ take i piece) (all ++ g.came) (g.holds mark s all r)));
         }
         by (Failed why) push put = cc put.0
 
     -- an error
-    pub piece_wrong : (why : Undecoded) → Puts h1 h2 made (Ok (Some why)) → d2.form ≡ d1.form → Grows h0 h2 (λ came. (mark : ℕ) (s all : List ℕ) → Reading d0 mark s all → DecodesPiece d2 mark s piece (all ++ came) (Ok (Some why)))
+    pub piece_wrong : (why : Undecoded) → Puts h1 h2 made (Ok (Some why)) → d2.form ≡ d1.form
+        → Grows h0 h2 (λ came. (mark : ℕ) (s all : List ℕ) → Reading d0 mark s all → DecodesPiece d2 mark s piece (all ++ came) (Ok (Some why)))
     piece_wrong why h form = by made pushed h
       where
-        by : (m : Made) → ((mark : ℕ) (s bytes : List ℕ) → Reading d1 mark s bytes → Pushes d1 d2 mark s b bytes m) → Puts h1 h2 m (Ok (Some why)) → Grows h0 h2 (λ came. (mark : ℕ) (s all : List ℕ) → Reading d0 mark s all → DecodesPiece d2 mark s piece (all ++ came) (Ok (Some why)))
+        by : (m : Made) → ((mark : ℕ) (s bytes : List ℕ) → Reading d1 mark s bytes → Pushes d1 d2 mark s b bytes m) → Puts h1 h2 m (Ok (Some why))
+            → Grows h0 h2 (λ came. (mark : ℕ) (s all : List ℕ) → Reading d0 mark s all → DecodesPiece d2 mark s piece (all ++ came) (Ok (Some why)))
         by Nothing push put = cc put.0
         by (Bytes x) push put = cc put.0
         by (Failed other) push put = record {
@@ -423,10 +469,12 @@ module _
         }
 
     -- or memory ran out
-    pub piece_fails : (d : Decoder) (why : RunError) → Puts h1 h2 made (Err why) → Grows h0 h2 (λ came. (mark : ℕ) (s all : List ℕ) → Reading d0 mark s all → DecodesPiece d mark s piece (all ++ came) (Err why))
+    pub piece_fails : (d : Decoder) (why : RunError) → Puts h1 h2 made (Err why) → Grows h0 h2 (λ came. (mark : ℕ) (s all : List ℕ) → Reading d0 mark s all
+        → DecodesPiece d mark s piece (all ++ came) (Err why))
     piece_fails d why h = by made h
       where
-        by : (m : Made) → Puts h1 h2 m (Err why) → Grows h0 h2 (λ came. (mark : ℕ) (s all : List ℕ) → Reading d0 mark s all → DecodesPiece d mark s piece (all ++ came) (Err why))
+        by : (m : Made) → Puts h1 h2 m (Err why) → Grows h0 h2 (λ came. (mark : ℕ) (s all : List ℕ) → Reading d0 mark s all
+            → DecodesPiece d mark s piece (all ++ came) (Err why))
         by Nothing put = record { came = g.came; are = put.1 ∙ g.are; holds = λ mark s all r. put.0 }
         by (Bytes x) put = record { came = g.came; are = put.1 ∙ g.are; holds = λ mark s all r. put.0 }
         by (Failed other) put = record { came = g.came; are = put.1 ∙ g.are; holds = λ mark s all r. put.0 }
@@ -449,12 +497,18 @@ module _
         → ((mark : ℕ) (s bytes : List ℕ) → Reading d1 mark s bytes → Finishes d1.form mark s bytes made)
         → Puts h1 h2 made r
         → Ended d0 d2 h0 h2 piece r
-    more_ended Nothing (Ok None) end h = record { came = g.came; are = h.1 ∙ g.are; holds = λ mark s all q. all_there (s ++ piece) (all ++ g.came) (end mark (s ++ piece) (all ++ g.came) (g.holds mark s all q)) }
+    more_ended Nothing (Ok None) end h = record {
+      came = g.came;
+      are = h.1 ∙ g.are;
+      holds = λ mark s all q. all_there (s ++ piece) (all ++ g.came)
+          (end mark (s ++ piece) (all ++ g.came) (g.holds mark s all q));
+    }
     more_ended Nothing (Ok (Some why)) end h = cc h.0
     more_ended (Bytes x) (Ok None) end h = record {
       came = g.came ++ bytes_in x;
       are = h.1 ∙ ap (λ (t : List ℕ). t ++ bytes_in x) g.are ∙ append_assoc h0 g.came (bytes_in x);
-      holds = λ mark s all q. subst (AllBytes d2.form (s ++ piece)) (append_assoc all g.came (bytes_in x)) (all_there (s ++ piece) ((all ++ g.came) ++ bytes_in x) (end mark (s ++ piece) (all ++ g.came) (g.holds mark s all q)));
+      holds = λ mark s all q. subst (AllBytes d2.form (s ++ piece)) (append_assoc all g.came (bytes_in x))
+          (all_there (s ++ piece) ((all ++ g.came) ++ bytes_in x) (end mark (s ++ piece) (all ++ g.came) (g.holds mark s all q)));
     }
     more_ended (Bytes x) (Ok (Some why)) end h = cc h.0
     more_ended (Failed other) (Ok None) end h = cc h.0
@@ -465,7 +519,8 @@ module _
           let stuck = end mark (s ++ piece) (all ++ g.came) (g.holds mark s all q) in
           let now = subst (λ (f : Form). Stuck f mark (s ++ piece) (all ++ g.came) other) (sym form) stuck in
           let same : (s ++ piece) ++ more ≡ s ++ piece = ap (λ (t : List ℕ). (s ++ piece) ++ t) (none refl) ∙ append-nil (s ++ piece) in
-          subst (λ (t : List ℕ). Stuck d2.form mark t (all ++ g.came) why) (sym same) (subst (Stuck d2.form mark (s ++ piece) (all ++ g.came)) (some_same (sym h.0)) now);
+          subst (λ (t : List ℕ). Stuck d2.form mark t (all ++ g.came) why) (sym same) (subst (Stuck d2.form mark (s ++ piece) (all ++ g.came))
+          (some_same (sym h.0)) now);
     }
     more_ended Nothing (Err why) end h = record { came = g.came; are = h.1 ∙ g.are; holds = λ mark s all q. h.0 }
     more_ended (Bytes x) (Err why) end h = record { came = g.came; are = h.1 ∙ g.are; holds = λ mark s all q. h.0 }

@@ -9,7 +9,8 @@ use Rattle.ttlv_run.specs.declared.form.LinePart.{LinePart}
 use Rattle.ttlv_run.specs.declared.form.LinePart.TheVariants.{Begin, Offset, Colon, Group, Gap, Between, Half, Whole, Aside}
 use Rattle.ttlv_run.specs.declared.form.Step.TheVariants.{Counts, Skips}
 use Rattle.ttlv_run.specs.Columns.{is_hex_digit, step, Reads, counts, skips}
-use Rattle.ttlv_run.specs.DumpLines.{only, is_space, is_in_line, is_offset, spaced, joined, are_groups, ColonLine, DumpedByte, is_dumped, are_dumped, dumped, digits_of, BareLine}
+use Rattle.ttlv_run.specs.DumpLines.{only, is_space, is_in_line, is_offset, spaced, joined, are_groups, ColonLine, DumpedByte, is_dumped, are_dumped, dumped}
+use Rattle.ttlv_run.specs.DumpLines.{digits_of, BareLine}
 
 -- two tests at once
 left : (a b : Bool) → a && b ≡ true → a ≡ true
@@ -59,7 +60,8 @@ module _ (form : Form) (s : List ℕ) where
   count_all part same digits (b ∷ t) rest of reads =
       subst (λ (d : List ℕ). Reads form Begin s d part rest) (append_assoc digits (b ∷ []) t)
       (count_all part same (digits ++ b ∷ []) t rest (right (is_hex_digit b) (only is_hex_digit t) of)
-      (counts digits (digits ++ b ∷ []) part part b (t ++ rest) reads (same b (slice_index (t ++ rest) 0) (left (is_hex_digit b) (only is_hex_digit t) of)) refl))
+      (counts digits (digits ++ b ∷ []) part part b (t ++ rest) reads (same b (slice_index (t ++ rest) 0) (left (is_hex_digit b) (only is_hex_digit t) of))
+      refl))
 
   -- a group of digits, and the blank behind it
   group_read :
@@ -73,7 +75,8 @@ module _ (form : Form) (s : List ℕ) where
       → Reads form Begin s (digits ++ group) Gap rest
   group_read part first more blank digits [] rest of reads = cc of
   group_read part first more blank digits (b ∷ t) rest of reads =
-      let one = counts digits (digits ++ b ∷ []) part Group b (t ++ 32 ∷ rest) reads (first b (slice_index (t ++ 32 ∷ rest) 0) (left (is_hex_digit b) (only is_hex_digit t) of)) refl in
+      let one = counts digits (digits ++ b ∷ []) part Group b (t ++ 32 ∷ rest) reads
+      (first b (slice_index (t ++ 32 ∷ rest) 0) (left (is_hex_digit b) (only is_hex_digit t) of)) refl in
       let all = count_all Group more (digits ++ b ∷ []) t (32 ∷ rest) (right (is_hex_digit b) (only is_hex_digit t) of) one in
       let same : (digits ++ b ∷ []) ++ t ≡ digits ++ (b ∷ t) = append_assoc digits (b ∷ []) t in
       skips (digits ++ (b ∷ t)) Group Gap 32 rest (subst (λ (d : List ℕ). Reads form Begin s d Group (32 ∷ rest)) same all) (blank (slice_index rest 0))
@@ -144,27 +147,35 @@ module _ (s : List ℕ) where
   dumped_read (d ∷ ds) digits rest of reads =
       let one = left (is_dumped d) (are_dumped ds) of in
       let two = right (is_hex_digit d.high) (is_hex_digit d.low && only is_space d.spaces) one in
-      let high = counts digits (digits ++ d.high ∷ []) Between Half d.high (d.low ∷ 32 ∷ (d.spaces ++ dumped ds rest)) reads (yes (is_hex_digit d.high) _ _ (left (is_hex_digit d.high) (is_hex_digit d.low && only is_space d.spaces) one)) refl in
-      let low = counts (digits ++ d.high ∷ []) (digits ++ (d.high ∷ d.low ∷ [])) Half Whole d.low (32 ∷ (d.spaces ++ dumped ds rest)) high (yes (is_hex_digit d.low) _ _ (left (is_hex_digit d.low) (only is_space d.spaces) two)) (sym (append_assoc digits (d.high ∷ []) (d.low ∷ []))) in
+      let high = counts digits (digits ++ d.high ∷ []) Between Half d.high (d.low ∷ 32 ∷ (d.spaces ++ dumped ds rest)) reads
+      (yes (is_hex_digit d.high) _ _ (left (is_hex_digit d.high) (is_hex_digit d.low && only is_space d.spaces) one)) refl in
+      let low = counts (digits ++ d.high ∷ []) (digits ++ (d.high ∷ d.low ∷ [])) Half Whole d.low (32 ∷ (d.spaces ++ dumped ds rest)) high
+      (yes (is_hex_digit d.low) _ _ (left (is_hex_digit d.low) (only is_space d.spaces) two)) (sym (append_assoc digits (d.high ∷ []) (d.low ∷ []))) in
       let behind = skips (digits ++ (d.high ∷ d.low ∷ [])) Whole Between 32 (d.spaces ++ dumped ds rest) low refl in
-      let apart = skip_all DumpText s Between is_space between_space (digits ++ (d.high ∷ d.low ∷ [])) d.spaces (dumped ds rest) (right (is_hex_digit d.low) (only is_space d.spaces) two) behind in
+      let apart = skip_all DumpText s Between is_space between_space (digits ++ (d.high ∷ d.low ∷ [])) d.spaces (dumped ds rest)
+      (right (is_hex_digit d.low) (only is_space d.spaces) two) behind in
       subst (λ (e : List ℕ). Reads DumpText Begin s e Between rest) (append_assoc digits (d.high ∷ d.low ∷ []) (digits_of ds))
       (dumped_read ds (digits ++ (d.high ∷ d.low ∷ [])) rest (right (is_dumped d) (are_dumped ds) of) apart)
 
   -- a line of xxd
-  pub colon_line : (t column rest digits : List ℕ) → ColonLine t column rest → Reads DumpText Begin s digits Begin t → Reads DumpText Begin s (digits ++ column) Begin rest
+  pub colon_line : (t column rest digits : List ℕ) → ColonLine t column rest → Reads DumpText Begin s digits Begin t
+      → Reads DumpText Begin s (digits ++ column) Begin rest
   colon_line t column rest digits l reads =
       let end : List ℕ = 32 ∷ (l.characters ++ 10 ∷ rest) in
       let from = subst (λ (u : List ℕ). Reads DumpText Begin s digits Begin u) l.is reads in
       let behind = skips digits Offset Colon 58 _ (offset_read digits l.offset _ l.of_offset from) refl in
       let first = skip_all DumpText s Colon is_space colon_space digits l.spaces _ l.of_spaces behind in
-      let one = group_read DumpText s Colon colon_digit group_digit (λ n. refl) digits l.group (spaced l.groups end) (left (is_offset l.group) (are_groups l.groups) l.of_groups) first in
-      let all = groups_read DumpText s gap_digit group_digit (λ n. refl) l.groups (digits ++ l.group) end (right (is_offset l.group) (are_groups l.groups) l.of_groups) one in
+      let one = group_read DumpText s Colon colon_digit group_digit (λ n. refl) digits l.group (spaced l.groups end)
+      (left (is_offset l.group) (are_groups l.groups) l.of_groups) first in
+      let all = groups_read DumpText s gap_digit group_digit (λ n. refl) l.groups (digits ++ l.group) end
+      (right (is_offset l.group) (are_groups l.groups) l.of_groups) one in
       let done = characters_read ((digits ++ l.group) ++ joined l.groups) l.characters rest l.in_line (skips _ Gap Aside 32 _ all refl) in
-      subst (λ (d : List ℕ). Reads DumpText Begin s d Begin rest) (append_assoc digits l.group (joined l.groups) ∙ ap (λ (d : List ℕ). digits ++ d) (sym l.column_is)) done
+      subst (λ (d : List ℕ). Reads DumpText Begin s d Begin rest) (append_assoc digits l.group (joined l.groups)
+      ∙ ap (λ (d : List ℕ). digits ++ d) (sym l.column_is)) done
 
   -- a line of hexdump
-  pub bare_line : (t column rest digits : List ℕ) → BareLine t column rest → Reads DumpText Begin s digits Begin t → Reads DumpText Begin s (digits ++ column) Begin rest
+  pub bare_line : (t column rest digits : List ℕ) → BareLine t column rest → Reads DumpText Begin s digits Begin t
+      → Reads DumpText Begin s (digits ++ column) Begin rest
   bare_line t column rest digits l reads =
       let from = subst (λ (u : List ℕ). Reads DumpText Begin s digits Begin u) l.is reads in
       let behind = skips digits Offset Between 32 _ (offset_read digits l.offset _ l.of_offset from) refl in

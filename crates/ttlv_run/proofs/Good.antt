@@ -4,7 +4,7 @@ use Rattle.kmip_ttlv_types.specs.Leaves.{is_valid}
 use Rattle.kmip_ttlv_types.specs.Places.{length_at}
 use Rattle.kmip_ttlv_items.specs.declared.found.FoundItem.{FoundItem}
 use Rattle.kmip_ttlv_items.specs.declared.found.Fault.{Fault}
-use Rattle.kmip_ttlv_items.specs.ItemWalks.{content_at, IsWhole, StepEnds, at_root, inside, behind, Ended}
+use Rattle.kmip_ttlv_items.specs.ItemWalks.{content_at, IsWhole, StopsAt, at_root, inside, behind, Ended}
 use Rattle.kmip_ttlv_items.proofs.Spans.{size_least, own_least, own_leaf}
 use Rattle.kmip_ttlv_items.proofs.Walks.{walked}
 use Rattle.ttlv_run.specs.Items.{IsGood}
@@ -22,7 +22,7 @@ whole_good w p e depth i h = record {
 pub fault_within : (w : List ℕ) (xs : List FoundItem) (f : Fault) → Ended w xs (Some f) → f.offset ≤ length w
 fault_within w xs f h = by h.0
   where
-    by : StepEnds w xs f → f.offset ≤ length w
+    by : StopsAt w xs f → f.offset ≤ length w
     by (at_root none at wrong) = omega (arith, at)
     by (inside e es walks lt wrong) = (walked w f.offset (e ∷ es) xs walks).here
     by (behind walks lt is) = omega (arith, lt)

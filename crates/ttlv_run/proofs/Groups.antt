@@ -1,5 +1,6 @@
 -- Digits decode group by group: the bytes of a whole group, and then those of the rest.
-use Rattle.std.proofs.Common.{◌≡◌, ℕ, zero, suc, ◌+◌, ◌-◌, ◌*◌, ◌/◌, ◌%◌, ◌<◌, ◌≤◌, true, false, Bool, if◌then◌else◌, List, [], ◌∷◌, ◌++◌, length, take, drop, slice_index, Option, None, Some, Result, Ok, Err, refl, sym, ap, subst, ◌∙◌, arith, ◌⊎◌, inl, inr}
+use Rattle.std.proofs.Common.{◌≡◌, ℕ, zero, suc, ◌+◌, ◌-◌, ◌*◌, ◌/◌, ◌%◌, ◌<◌, ◌≤◌, true, false, Bool, if◌then◌else◌, List, [], ◌∷◌, ◌++◌, length, take, drop}
+use Rattle.std.proofs.Common.{slice_index, Option, None, Some, Result, Ok, Err, refl, sym, ap, subst, ◌∙◌, arith, ◌⊎◌, inl, inr}
 use Rattle.std.specs.Io.KnownBytes.{prepend_known}
 use Rattle.std.proofs.lemmas.List.{append-nil, append_assoc, length-append, take_all, take-append-drop, get_or-append_right, length-drop, length-take-le}
 use Rattle.std.proofs.lemmas.Bool.{lt-ltb}
@@ -122,7 +123,8 @@ unfolding groups_error
 first_group dec s zero none = none
 first_group dec s (suc k) none = first_group dec s k (or_front (groups_error dec s (suc k)) (group_error dec s (4 * suc k)) none)
 
-symbol_small : (enc dec s : List ℕ) (i : ℕ) → is_inverse enc dec ≡ true → slice_index s i < 256 → symbol_error dec s i ≡ None → slice_index dec (slice_index s i) < 64
+symbol_small : (enc dec s : List ℕ) (i : ℕ) → is_inverse enc dec ≡ true → slice_index s i < 256 → symbol_error dec s i ≡ None
+    → slice_index dec (slice_index s i) < 64
 symbol_small enc dec s i inv byte none = elim (encode-decode_table enc dec inv (slice_index s i) byte) [
   | inl bad ↦ cc (rw bad at none)
   | inr good ↦ good.0
@@ -138,7 +140,8 @@ group_is_bytes : (m0 m1 m2 m3 : ℕ) → m0 < 64 → m1 < 64 → m2 < 64 → m3 
 group_is_bytes m0 m1 m2 m3 l0 l1 l2 l3 = three_are_bytes _ _ _ (omega arith) (omega arith) (omega arith)
 
 -- a first group without an error is three bytes
-first_is_bytes : (enc dec s : List ℕ) → is_inverse enc dec ≡ true → IsBytes s → groups_error dec s 1 ≡ None → IsBytes (groups_bytes dec s 1) × (length (groups_bytes dec s 1) ≡ 3)
+first_is_bytes : (enc dec s : List ℕ) → is_inverse enc dec ≡ true → IsBytes s → groups_error dec s 1 ≡ None → IsBytes (groups_bytes dec s 1)
+    × (length (groups_bytes dec s 1) ≡ 3)
 unfolding groups_error groups_bytes
 first_is_bytes enc dec s inv bytes none =
     let rest1 = or_behind (symbol_error dec s 0) (or_else (symbol_error dec s 1) (or_else (symbol_error dec s 2) (symbol_error dec s 3))) none in
@@ -225,22 +228,34 @@ module _ (e : GeneralPurpose) where
 
   module _ (strict : IsStrict e) (consistent : IsConsistent e) (g : List ℕ) (four : length g ≡ 4) (bytes : IsBytes g) where
     -- a whole group is these bytes by itself
-    four_whole : (r : Option DecodeError) (x : List ℕ) → groups_error dec g 1 ≡ r → found r (groups_bytes dec g 1) ≡ Some x → (decode_of e g ≡ Ok x) × (length x ≡ 3)
+    four_whole : (r : Option DecodeError) (x : List ℕ) → groups_error dec g 1 ≡ r → found r (groups_bytes dec g 1) ≡ Some x → (decode_of e g ≡ Ok x)
+        × (length x ≡ 3)
     four_whole (Some f) x is found = cc found
     four_whole None x is found =
         let made : groups_bytes dec g 1 ≡ x = some_same found in
         let three = first_is_bytes enc dec g inverse bytes is in
         let front : take (4 * 1) g ≡ encode_symbols enc (groups_bytes dec g 1) = take_groups enc dec g 1 inverse bytes (omega (arith, four)) is in
-        let none : pads (groups_bytes dec g 1) ≡ [] = no_padding e.config.encode_padding (padding_len (length (groups_bytes dec g 1))) e.padding.value (rw three.1 refl) in
+        let none : pads (groups_bytes dec g 1) ≡ [] = no_padding e.config.encode_padding (padding_len (length (groups_bytes dec g 1))) e.padding.value
+        (rw three.1 refl) in
         let all : g ≡ encode_of e (groups_bytes dec g 1) =
-        sym (take_all (4 * 1) g (omega (arith, four))) ∙ front ∙ sym (append-nil (encode_symbols enc (groups_bytes dec g 1))) ∙ ap (λ (t : List ℕ). encode_symbols enc (groups_bytes dec g 1) ++ t) (sym none) in
-        (ap (decode_of e) all ∙ decode_of-encode_of e (groups_bytes dec g 1) consistent three.0 ∙ ap (λ (t : List ℕ). Ok t) made, sym (ap (λ (t : List ℕ). length t) made) ∙ three.1)
+        sym (take_all (4 * 1) g (omega (arith, four))) ∙ front ∙ sym (append-nil (encode_symbols enc (groups_bytes dec g 1)))
+        ∙ ap (λ (t : List ℕ). encode_symbols enc (groups_bytes dec g 1) ++ t) (sym none) in (
+          ap (decode_of e) all ∙ decode_of-encode_of e (groups_bytes dec g 1) consistent three.0 ∙ ap (λ (t : List ℕ). Ok t) made,
+          sym (ap (λ (t : List ℕ). length t) made) ∙ three.1,
+        )
 
     -- where it is three bytes, it is a whole group
     four_known : (x : List ℕ) → IsBytes x → 3 ≤ length x → decode_of e g ≡ Ok x → whole_group g ≡ Some x
     four_known x are least ok =
         let is : g ≡ encode_symbols enc x ++ pads x = decode_of_strict e g x strict bytes ok in
-        let three : length x ≡ 3 = omega (arith, four, ap (λ (t : List ℕ). length t) is, length-append (encode_symbols enc x) (pads x), length-encode_symbols enc x, least) in
+        let three : length x ≡ 3 = omega (
+          arith,
+          four,
+          ap (λ (t : List ℕ). length t) is,
+          length-append (encode_symbols enc x) (pads x),
+          length-encode_symbols enc x,
+          least,
+        ) in
         let groups = groups_encoded enc dec x (pads x) e.padding.value 1 e.tables are (omega (arith, three)) in
         ap whole_group is ∙ ap (λ (r : Option DecodeError). found r (groups_bytes dec (encode_symbols enc x ++ pads x) 1)) groups.0
         ∙ ap (λ (t : List ℕ). Some t) (groups.1 ∙ take_all (3 * 1) x (omega (arith, three)))
@@ -279,7 +294,8 @@ four_of (a ∷ b ∷ c ∷ []) four = absurd (omega (arith, four))
 four_of (a ∷ b ∷ c ∷ d ∷ []) four = record { a = a; b = b; c = c; d = d; are = refl }
 four_of (a ∷ b ∷ c ∷ d ∷ e ∷ more) four = absurd (omega (arith, four))
 
-base64_behind : (e : GeneralPurpose) (g : List ℕ) (x : ℕ) (rest : List ℕ) → length g ≡ 4 → answer_of (decode_of e (g ++ x ∷ rest)) ≡ behind (whole_group e g) (answer_of (decode_of e (x ∷ rest)))
+base64_behind : (e : GeneralPurpose) (g : List ℕ) (x : ℕ) (rest : List ℕ) → length g ≡ 4 → answer_of (decode_of e (g ++ x ∷ rest)) ≡ behind (whole_group e g)
+    (answer_of (decode_of e (x ∷ rest)))
 base64_behind e g x rest four =
     let f = four_of g four in
     subst (λ (t : List ℕ). answer_of (decode_of e (t ++ x ∷ rest)) ≡ behind (whole_group e t) (answer_of (decode_of e (x ∷ rest)))) (sym f.are)
@@ -296,7 +312,8 @@ padding_behind g x rest =
     ∙ ap (λ (n : ℕ). n == 61) (get_or-append_right g (x ∷ rest) (length g) (length g + length rest) 0 refl (omega arith) ∙ ap (slice_index (x ∷ rest)) same)
     ∙ sym (ap (λ (b : Bool). b && slice_index (x ∷ rest) (length (x ∷ rest) - 1) == 61) (lt-ltb 0 (length (x ∷ rest)) (omega arith)))
 
-url_behind : (g : List ℕ) (x : ℕ) (rest : List ℕ) → length g ≡ 4 → decode_form Base64UrlText (g ++ x ∷ rest) ≡ behind (whole_group url_safe g) (decode_form Base64UrlText (x ∷ rest))
+url_behind : (g : List ℕ) (x : ℕ) (rest : List ℕ) → length g ≡ 4 → decode_form Base64UrlText (g ++ x ∷ rest) ≡ behind (whole_group url_safe g)
+    (decode_form Base64UrlText (x ∷ rest))
 url_behind g x rest four = ap (λ (p : Bool). decode_digits (url_alphabet p) (g ++ x ∷ rest)) (padding_behind g x rest) ∙ by (has_padding (x ∷ rest))
   where
     by : (p : Bool) → decode_digits (url_alphabet p) (g ++ x ∷ rest) ≡ behind (whole_group url_safe g) (decode_digits (url_alphabet p) (x ∷ rest))
@@ -304,7 +321,8 @@ url_behind g x rest four = ap (λ (p : Bool). decode_digits (url_alphabet p) (g 
     by false = base64_behind url_safe_no_pad g x rest four
 
 -- digits of a group, in front of one more
-pub behind_group : (form : Form) (g : List ℕ) (x : ℕ) (rest : List ℕ) → length g ≡ width form → decode_form form (g ++ x ∷ rest) ≡ behind (group_of form g) (decode_form form (x ∷ rest))
+pub behind_group : (form : Form) (g : List ℕ) (x : ℕ) (rest : List ℕ) → length g ≡ width form → decode_form form (g ++ x ∷ rest) ≡ behind (group_of form g)
+    (decode_form form (x ∷ rest))
 behind_group HexadecimalText g x rest two = hex_behind g (x ∷ rest) two
 behind_group Base64Text g x rest four = base64_behind standard g x rest four
 behind_group Base64UrlText g x rest four = url_behind g x rest four
@@ -319,16 +337,19 @@ hex_whole (a ∷ []) x two is = absurd (omega (arith, two))
 hex_whole (high ∷ low ∷ []) x two is = (hex_pairs (high ∷ low ∷ []) ∙ is, omega (arith, pair_long high low x is))
 hex_whole (a ∷ b ∷ c ∷ more) x two is = absurd (omega (arith, two))
 
-base64_whole : (e : GeneralPurpose) → IsStrict e → IsConsistent e → (g x : List ℕ) → length g ≡ 4 → IsBytes g → whole_group e g ≡ Some x → (answer_of (decode_of e g) ≡ Some x) × (length x + 1 ≡ 4)
+base64_whole : (e : GeneralPurpose) → IsStrict e → IsConsistent e → (g x : List ℕ) → length g ≡ 4 → IsBytes g → whole_group e g ≡ Some x
+    → (answer_of (decode_of e g) ≡ Some x) × (length x + 1 ≡ 4)
 base64_whole e strict consistent g x four bytes is =
     let w = four_whole e strict consistent g four bytes (groups_error e.decode_table g 1) x refl is in
     (ap answer_of w.0, omega (arith, w.1))
 
-url_whole : (p : Bool) (g x : List ℕ) → length g ≡ 4 → IsBytes g → whole_group url_safe g ≡ Some x → (decode_digits (url_alphabet p) g ≡ Some x) × (length x + 1 ≡ 4)
+url_whole : (p : Bool) (g x : List ℕ) → length g ≡ 4 → IsBytes g → whole_group url_safe g ≡ Some x → (decode_digits (url_alphabet p) g ≡ Some x)
+    × (length x + 1 ≡ 4)
 url_whole true g x four bytes is = base64_whole url_safe (refl, refl) refl g x four bytes is
 url_whole false g x four bytes is = base64_whole url_safe_no_pad (refl, refl) refl g x four bytes is
 
-pub whole_decodes : (form : Form) (g x : List ℕ) → length g ≡ width form → IsBytes g → group_of form g ≡ Some x → (decode_form form g ≡ Some x) × (length x + 1 ≡ width form)
+whole_decodes : (form : Form) (g x : List ℕ) → length g ≡ width form → IsBytes g → group_of form g ≡ Some x → (decode_form form g ≡ Some x)
+    × (length x + 1 ≡ width form)
 whole_decodes HexadecimalText g x two bytes is = hex_whole g x two is
 whole_decodes Base64Text g x four bytes is = base64_whole standard (refl, refl) refl g x four bytes is
 whole_decodes Base64UrlText g x four bytes is = url_whole (has_padding g) g x four bytes is
@@ -337,14 +358,18 @@ whole_decodes DumpText g x two bytes is = hex_whole g x two is
 whole_decodes PacketText g x two bytes is = hex_whole g x two is
 
 -- so are the other way round as many bytes as a group can be
-base64_known : (e : GeneralPurpose) → IsStrict e → IsConsistent e → (g x : List ℕ) → length g ≡ 4 → IsBytes g → IsBytes x → 4 ≤ length x + 1 → answer_of (decode_of e g) ≡ Some x → whole_group e g ≡ Some x
-base64_known e strict consistent g x four bytes are least is = four_known e strict consistent g four bytes x are (omega (arith, least)) (error_none (decode_of e g) x is)
+base64_known : (e : GeneralPurpose) → IsStrict e → IsConsistent e → (g x : List ℕ) → length g ≡ 4 → IsBytes g → IsBytes x → 4 ≤ length x + 1
+    → answer_of (decode_of e g) ≡ Some x → whole_group e g ≡ Some x
+base64_known e strict consistent g x four bytes are least is = four_known e strict consistent g four bytes x are (omega (arith, least))
+    (error_none (decode_of e g) x is)
 
-url_known : (p : Bool) (g x : List ℕ) → length g ≡ 4 → IsBytes g → IsBytes x → 4 ≤ length x + 1 → decode_digits (url_alphabet p) g ≡ Some x → whole_group url_safe g ≡ Some x
+url_known : (p : Bool) (g x : List ℕ) → length g ≡ 4 → IsBytes g → IsBytes x → 4 ≤ length x + 1 → decode_digits (url_alphabet p) g ≡ Some x
+    → whole_group url_safe g ≡ Some x
 url_known true g x four bytes are least is = base64_known url_safe (refl, refl) refl g x four bytes are least is
 url_known false g x four bytes are least is = base64_known url_safe_no_pad (refl, refl) refl g x four bytes are least is
 
-pub group_known : (form : Form) (g x : List ℕ) → length g ≡ width form → IsBytes g → IsBytes x → width form ≤ length x + 1 → decode_form form g ≡ Some x → group_of form g ≡ Some x
+pub group_known : (form : Form) (g x : List ℕ) → length g ≡ width form → IsBytes g → IsBytes x → width form ≤ length x + 1 → decode_form form g ≡ Some x
+    → group_of form g ≡ Some x
 group_known HexadecimalText g x two bytes are least is = sym (hex_pairs g) ∙ is
 group_known Base64Text g x four bytes are least is = base64_known standard (refl, refl) refl g x four bytes are least is
 group_known Base64UrlText g x four bytes are least is = url_known (has_padding g) g x four bytes are least is
@@ -353,7 +378,8 @@ group_known DumpText g x two bytes are least is = sym (hex_pairs g) ∙ is
 group_known PacketText g x two bytes are least is = sym (hex_pairs g) ∙ is
 
 -- and less is none
-pub no_group : (form : Form) (g : List ℕ) → length g ≡ width form → IsBytes g → ((x : List ℕ) → decode_form form g ≡ Some x → length x + 1 < width form) → group_of form g ≡ None
+pub no_group : (form : Form) (g : List ℕ) → length g ≡ width form → IsBytes g → ((x : List ℕ) → decode_form form g ≡ Some x → length x + 1 < width form)
+    → group_of form g ≡ None
 no_group form g long bytes less = by (group_of form g) refl
   where
     by : (o : Option (List ℕ)) → group_of form g ≡ o → o ≡ None
@@ -376,9 +402,11 @@ nothing DumpText = hex_pairs []
 nothing PacketText = hex_pairs []
 
 -- a whole group in front of any digits
-pub group_then : (form : Form) (g x : List ℕ) → length g ≡ width form → IsBytes g → group_of form g ≡ Some x → (rest : List ℕ) → decode_form form (g ++ rest) ≡ prepend_known x (decode_form form rest)
+pub group_then : (form : Form) (g x : List ℕ) → length g ≡ width form → IsBytes g → group_of form g ≡ Some x → (rest : List ℕ)
+    → decode_form form (g ++ rest) ≡ prepend_known x (decode_form form rest)
 group_then form g x long bytes is [] =
-    ap (decode_form form) (append-nil g) ∙ (whole_decodes form g x long bytes is).0 ∙ ap (λ (t : List ℕ). Some t) (sym (append-nil x)) ∙ ap (prepend_known x) (sym (nothing form))
+    ap (decode_form form) (append-nil g) ∙ (whole_decodes form g x long bytes is).0 ∙ ap (λ (t : List ℕ). Some t) (sym (append-nil x))
+    ∙ ap (prepend_known x) (sym (nothing form))
 group_then form g x long bytes is (b ∷ rest) = behind_group form g b rest long ∙ ap (λ (o : Option (List ℕ)). behind o (decode_form form (b ∷ rest))) is
 
 -- ---- whole groups
@@ -419,7 +447,8 @@ behind_parts None r all e = cc e
 behind_parts (Some x) r all e = (x, refl)
 
 -- a group in front of a digit, where all are bytes
-first_known : (form : Form) (g s all : List ℕ) → length g ≡ width form → 0 < length s → decode_form form (g ++ s) ≡ Some all → (x : List ℕ) × (group_of form g ≡ Some x)
+first_known : (form : Form) (g s all : List ℕ) → length g ≡ width form → 0 < length s → decode_form form (g ++ s) ≡ Some all → (x : List ℕ)
+    × (group_of form g ≡ Some x)
 first_known form g [] all long some is = absurd (omega (arith, some))
 first_known form g (b ∷ rest) all long some is = behind_parts (group_of form g) (decode_form form (b ∷ rest)) all (sym (behind_group form g b rest long) ∙ is)
 
@@ -465,7 +494,8 @@ split_of form s some whole =
       less = omega (arith, left, least, some_width form);
     }
 
-pub digits_behind : (form : Form) (n : ℕ) (s t front all : List ℕ) → length s ≤ n → length s % width form ≡ 0 → IsBytes s → decode_form form s ≡ Some front → decode_form form (s ++ t) ≡ Some all
+pub digits_behind : (form : Form) (n : ℕ) (s t front all : List ℕ) → length s ≤ n → length s % width form ≡ 0 → IsBytes s → decode_form form s ≡ Some front
+    → decode_form form (s ++ t) ≡ Some all
     → (more : List ℕ) × (all ≡ front ++ more)
 digits_behind form n s [] front all le whole bytes is of_all = ([], some_same (sym of_all ∙ ap (decode_form form) (append-nil s) ∙ is) ∙ sym (append-nil front))
 digits_behind form n [] (b ∷ t) front all le whole bytes is of_all = (all, ap (λ (x : List ℕ). x ++ all) (some_same (sym (nothing form) ∙ is)))
@@ -473,12 +503,14 @@ digits_behind form zero (c ∷ s) (b ∷ t) front all le whole bytes is of_all =
 digits_behind form (suc n) (c ∷ s) (b ∷ t) front all le whole bytes is of_all =
     let p = split_of form (c ∷ s) (omega arith) whole in
     let parts : IsBytes (p.g ++ p.r) = subst IsBytes p.are bytes in
-    let over : decode_form form (p.g ++ (p.r ++ b ∷ t)) ≡ Some all = sym (ap (λ (u : List ℕ). decode_form form (u ++ b ∷ t)) p.are ∙ ap (decode_form form) (append_assoc p.g p.r (b ∷ t))) ∙ of_all in
+    let over : decode_form form (p.g ++ (p.r ++ b ∷ t)) ≡ Some all = sym (ap (λ (u : List ℕ). decode_form form (u ++ b ∷ t)) p.are
+    ∙ ap (decode_form form) (append_assoc p.g p.r (b ∷ t))) ∙ of_all in
     let first = first_known form p.g (p.r ++ b ∷ t) all p.long (omega (arith, length-append p.r (b ∷ t))) over in
     front_step form p.g p.r (b ∷ t) front all first.0 p.long (front_bytes p.g p.r parts) first.1 (sym (ap (decode_form form) p.are) ∙ is) over
     (λ fs xs here there. digits_behind form n p.r (b ∷ t) fs xs (omega (arith, p.less, le)) p.whole (back_bytes p.g p.r parts) here there)
 
 -- a call of base64 decodes a group to three bytes at most
-pub decoded_within : (e : GeneralPurpose) (g old new : List ℕ) (r : Result ℕ DecodeError) → length old ≡ 3 → IfOk r (λ n. IsDecodedInto e g n old new) → IfSome (result_ok r) (λ n. n ≤ 3)
+pub decoded_within : (e : GeneralPurpose) (g old new : List ℕ) (r : Result ℕ DecodeError) → length old ≡ 3 → IfOk r (λ n. IsDecodedInto e g n old new)
+    → IfSome (result_ok r) (λ n. n ≤ 3)
 decoded_within e g old new (Err f) three ok = tt
 decoded_within e g old new (Ok n) three ok = omega (arith, three, ok.2)

@@ -1,5 +1,6 @@
 -- Lines of JSON that come piece by piece, printed one after the other.
-use Rattle.std.proofs.Common.{arith, ◌≡◌, ◌∙◌, inl, inr, ℕ, ◌+◌, ◌≤◌, Bool, true, false, List, [], ◌∷◌, ◌++◌, length, take, drop, Option, Some, None, Ok, refl, ap, sym, subst, append_assoc, append-nil, length-append, take-append-drop}
+use Rattle.std.proofs.Common.{arith, ◌≡◌, ◌∙◌, inl, inr, ℕ, ◌+◌, ◌≤◌, Bool, true, false, List, [], ◌∷◌, ◌++◌, length, take, drop, Option, Some, None, Ok, refl}
+use Rattle.std.proofs.Common.{ap, sym, subst, append_assoc, append-nil, length-append, take-append-drop}
 use Rattle.std.specs.Io.KnownBytes.{Appends, Consumes, IsAtEnd}
 use Rattle.std.specs.Prelude.{slice_index}
 use Rattle.std.specs.Str.{IsUtf8}
@@ -10,21 +11,23 @@ use Rattle.kmip_ttlv_names.specs.NameTables.{lines_of}
 use Rattle.kmip_ttlv_json.specs.declared.failure.JsonError.{JsonError}
 use Rattle.ttlv_run.specs.declared.job.JsonJob.{JsonJob}
 use Rattle.ttlv_run.specs.declared.run_error.RunError.{RunError}
-use Rattle.ttlv_run.specs.declared.run_error.RunError.TheVariants.{UnopenedInput, UnreadableInput, MisreadInput, NotUtf8, UnwritableOutput, ClosedPipe, NoMemory}
+use Rattle.ttlv_run.specs.declared.run_error.RunError.TheVariants.{UnopenedInput, UnreadableInput, MisreadInput, NotUtf8, UnwritableOutput, ClosedPipe}
+use Rattle.ttlv_run.specs.declared.run_error.RunError.TheVariants.{NoMemory}
 use Rattle.ttlv_run.specs.Backs.{IsOneLine, IsLineAt}
 use Rattle.ttlv_run.specs.Inputs.{IsUnread}
-use Rattle.ttlv_run.specs.JsonLines.{GivesLine, Spoils, PrintsBytes, FailsAt, no_line, one_more, GivesLines, NextLine, PrintedJson, FaultsJson, NoTextJson, UnwrittenJson, FailsJson, RespondsJson, fault_at}
+use Rattle.ttlv_run.specs.JsonLines.{GivesLine, Spoils, PrintsBytes, FailsAt, no_line, one_more, GivesLines, NextLine, PrintedJson, FaultsJson, NoTextJson}
+use Rattle.ttlv_run.specs.JsonLines.{UnwrittenJson, FailsJson, RespondsJson, fault_at}
 use Rattle.ttlv_run.specs.Reasons.{IsOfPrinting}
 use Rattle.ttlv_run.specs.Runs.{Streams}
 use Rattle.ttlv_run.specs.Streaming.{Yields}
 use Rattle.ttlv_run.proofs.Appending.{all_front}
 use Rattle.ttlv_run.proofs.BackLines.{with_feed, first_of_lines, only_line, line_text, through_line, behind_line, within_line}
-use Rattle.ttlv_run.proofs.Told.{front_more}
+use Rattle.ttlv_run.proofs.Decided.{front_more}
 use Rattle.ttlv_run.proofs.Windows.{Left, left_of}
 
 -- ---- lines that were printed
 
-pub gives_none : (raw : Bool) (bytes : List ℕ) → GivesLines raw bytes 0 []
+gives_none : (raw : Bool) (bytes : List ℕ) → GivesLines raw bytes 0 []
 gives_none raw bytes = record { within = omega arith; lines = []; are = λ more. refl; is_text = IsUtf8-nil; give = no_line }
 
 module _ (raw : Bool) (bytes : List ℕ) (place : ℕ) (text : List ℕ) (g : GivesLines raw bytes place text) where
@@ -46,7 +49,8 @@ module _ (raw : Bool) (bytes : List ℕ) (place : ℕ) (text : List ℕ) (g : Gi
   -- all lines
   all_lines : (left : List ℕ) → lines_of (bytes ++ left) ≡ g.lines ++ lines_of (drop place bytes ++ left)
   all_lines left =
-      ap (λ (t : List ℕ). lines_of (t ++ left)) (sym (take-append-drop place bytes)) ∙ ap lines_of (append_assoc (take place bytes) (drop place bytes) left) ∙ g.are (drop place bytes ++ left)
+      ap (λ (t : List ℕ). lines_of (t ++ left)) (sym (take-append-drop place bytes)) ∙ ap lines_of (append_assoc (take place bytes) (drop place bytes) left)
+      ∙ g.are (drop place bytes ++ left)
 
   -- the next one, with its line feed
   module _ (line : List ℕ) (l : IsLineAt bytes place line) where
@@ -57,7 +61,8 @@ module _ (raw : Bool) (bytes : List ℕ) (place : ℕ) (text : List ℕ) (g : Gi
           within = within_line bytes place line l;
           lines = g.lines ++ line ∷ [];
           are = λ more.
-              ap (λ (t : List ℕ). lines_of (t ++ more)) whole ∙ ap lines_of (append_assoc (take place bytes) (with_feed line) more) ∙ g.are (with_feed line ++ more)
+              ap (λ (t : List ℕ). lines_of (t ++ more)) whole ∙ ap lines_of (append_assoc (take place bytes) (with_feed line) more)
+              ∙ g.are (with_feed line ++ more)
               ∙ ap (λ (ls : List (List ℕ)). g.lines ++ ls) (first_of_lines line more l.one_line) ∙ sym (append_assoc g.lines (line ∷ []) (lines_of more));
           is_text = subst IsUtf8 (sym whole) (IsUtf8-append (take place bytes) (with_feed line) g.is_text (line_text line u));
           give = one_more g.lines (g.lines ++ line ∷ []) line text part (text ++ part) place (place + (length line + 1)) g.give gives refl refl (omega arith);
@@ -68,7 +73,8 @@ module _ (raw : Bool) (bytes : List ℕ) (place : ℕ) (text : List ℕ) (g : Gi
         let more = drop (place + (length line + 1)) bytes in
         record {
           others = lines_of (more ++ left);
-          first = ap lines_of (rest_behind left) ∙ ap (λ (t : List ℕ). lines_of (t ++ left)) (behind_line bytes place line l) ∙ ap lines_of (append_assoc (with_feed line) more left) ∙ first_of_lines line (more ++ left) l.one_line;
+          first = ap lines_of (rest_behind left) ∙ ap (λ (t : List ℕ). lines_of (t ++ left)) (behind_line bytes place line l)
+              ∙ ap lines_of (append_assoc (with_feed line) more left) ∙ first_of_lines line (more ++ left) l.one_line;
         }
 
   -- or without
@@ -109,7 +115,8 @@ module _ (job : JsonJob) (known output : Option (List ℕ)) where
           within = omega (arith, l.within, long);
           is = l.is ∙ ap (take (length line)) (sym place_is);
           one_line = l.one_line;
-          ends = ap (slice_index p.taken) (sym same) ∙ sym (get_or-drop base p.taken (at + length line) 0) ∙ ap (λ (t : List ℕ). slice_index t (at + length line)) p.are ∙ l.ends;
+          ends = ap (slice_index p.taken) (sym same) ∙ sym (get_or-drop base p.taken (at + length line) 0)
+              ∙ ap (λ (t : List ℕ). slice_index t (at + length line)) p.are ∙ l.ends;
         }
 
     module _ (new : Option (List ℕ)) where
@@ -117,7 +124,8 @@ module _ (job : JsonJob) (known output : Option (List ℕ)) where
       streams = record { input = known; input_left = now; output = output; output_now = new }
 
       -- a line more
-      pub json_line : (line : List ℕ) → IsLineAt bytes at line → PrintsBytes job.raw line mid new None → JsonReading job known now output new base (at + (length line + 1)) bytes
+      pub json_line : (line : List ℕ) → IsLineAt bytes at line → PrintsBytes job.raw line mid new None
+          → JsonReading job known now output new base (at + (length line + 1)) bytes
       json_line line l reported =
           let here : base + at + (length line + 1) ≡ base + (at + (length line + 1)) = omega arith in
           record {
@@ -125,25 +133,31 @@ module _ (job : JsonJob) (known output : Option (List ℕ)) where
             text = p.text ++ reported.1.0;
             consumed = p.consumed;
             are = p.are;
-            gives = subst (λ (n : ℕ). GivesLines job.raw p.taken n (p.text ++ reported.1.0)) here (gives_line job.raw p.taken (base + at) p.text p.gives line (line_here line l) reported.1.0 reported.0 reported.1.1);
+            gives = subst (λ (n : ℕ). GivesLines job.raw p.taken n (p.text ++ reported.1.0)) here (gives_line job.raw p.taken (base + at) p.text p.gives line
+                (line_here line l) reported.1.0 reported.0 reported.1.1);
             appended = Appends-trans output mid new p.text reported.1.0 p.appended reported.1.2;
           }
 
       -- that is the last
-      pub json_printed : IsAtEnd now → (line : List ℕ) → line ≡ drop at bytes → IsOneLine (drop at bytes) → PrintsBytes job.raw line mid new None → PrintedJson job streams
+      pub json_printed : IsAtEnd now → (line : List ℕ) → line ≡ drop at bytes → IsOneLine (drop at bytes) → PrintsBytes job.raw line mid new None
+          → PrintedJson job streams
       json_printed end line is one reported =
           let rest : line ≡ drop (base + at) p.taken = is ∙ sym place_is in
           let one_rest : IsOneLine (drop (base + at) p.taken) = subst IsOneLine (sym place_is) one in
           let all : lines_of p.taken ≡ p.gives.lines ++ line ∷ [] =
-          ap lines_of (sym (append-nil p.taken)) ∙ all_lines job.raw p.taken (base + at) p.text p.gives [] ∙ ap (λ (t : List ℕ). p.gives.lines ++ lines_of t) (append-nil (drop (base + at) p.taken))
-          ∙ ap (λ (ls : List (List ℕ)). p.gives.lines ++ ls) (only_line (drop (base + at) p.taken) one_rest) ∙ ap (λ (t : List ℕ). p.gives.lines ++ t ∷ []) (sym rest) in
+          ap lines_of (sym (append-nil p.taken)) ∙ all_lines job.raw p.taken (base + at) p.text p.gives [] ∙ ap (λ (t : List ℕ). p.gives.lines ++ lines_of t)
+          (append-nil (drop (base + at) p.taken))
+          ∙ ap (λ (ls : List (List ℕ)). p.gives.lines ++ ls) (only_line (drop (base + at) p.taken) one_rest)
+          ∙ ap (λ (t : List ℕ). p.gives.lines ++ t ∷ []) (sym rest) in
           record {
             input = p.taken;
             text = p.text ++ reported.1.0;
             place = base + at + length line + 1;
             taken = record { taken = p.consumed; ended = end };
-            is_text = subst IsUtf8 (take-append-drop (base + at) p.taken) (IsUtf8-append (take (base + at) p.taken) (drop (base + at) p.taken) p.gives.is_text (subst IsUtf8 rest reported.0));
-            give = one_more p.gives.lines (lines_of p.taken) line p.text reported.1.0 (p.text ++ reported.1.0) (base + at) (base + at + length line + 1) p.gives.give reported.1.1 all refl refl;
+            is_text = subst IsUtf8 (take-append-drop (base + at) p.taken) (IsUtf8-append (take (base + at) p.taken) (drop (base + at) p.taken) p.gives.is_text
+                (subst IsUtf8 rest reported.0));
+            give = one_more p.gives.lines (lines_of p.taken) line p.text reported.1.0 (p.text ++ reported.1.0) (base + at) (base + at + length line + 1)
+                p.gives.give reported.1.1 all refl refl;
             appended = Appends-trans output mid new p.text reported.1.0 p.appended reported.1.2;
           }
 
@@ -152,7 +166,8 @@ module _ (job : JsonJob) (known output : Option (List ℕ)) where
 
       -- or that is bad, or no text, or fails
       module _ (last : Bool) (l : Left now last) (line : List ℕ) (next : NextLine (p.taken ++ l.left) (base + at) line) where
-        pub json_bad : (error : JsonError) → PrintsBytes job.raw line mid new (Some error) → FaultsJson job streams (record { offset = base + at; error = error })
+        pub json_bad : (error : JsonError) → PrintsBytes job.raw line mid new (Some error)
+            → FaultsJson job streams (record { offset = base + at; error = error })
         json_bad error reported = record {
           input = p.taken ++ l.left;
           text = p.text;
@@ -179,7 +194,8 @@ module _ (job : JsonJob) (known output : Option (List ℕ)) where
         }
 
         whole : lines_of (p.taken ++ l.left) ≡ p.gives.lines ++ line ∷ next.others
-        whole = all_lines job.raw p.taken (base + at) p.text p.gives l.left ∙ ap (λ (t : List ℕ). p.gives.lines ++ lines_of t) (sym (rest_behind job.raw p.taken (base + at) p.text p.gives l.left)) ∙ ap (λ (ls : List (List ℕ)). p.gives.lines ++ ls) next.first
+        whole = all_lines job.raw p.taken (base + at) p.text p.gives l.left ∙ ap (λ (t : List ℕ). p.gives.lines ++ lines_of t)
+            (sym (rest_behind job.raw p.taken (base + at) p.text p.gives l.left)) ∙ ap (λ (ls : List (List ℕ)). p.gives.lines ++ ls) next.first
 
         spoiled : Spoils job.raw line mid new → UnwrittenJson job streams
         spoiled (inl h) = record {
@@ -190,7 +206,8 @@ module _ (job : JsonJob) (known output : Option (List ℕ)) where
           place = base + at + length line + 1;
           taken = record { front = p.taken; left = l.left; are = refl; taken = p.consumed; rest = l.are };
           there = whole ∙ sym (append_assoc p.gives.lines (line ∷ []) next.others);
-          give = one_more p.gives.lines (p.gives.lines ++ line ∷ []) line p.text h.0 (p.text ++ h.0) (base + at) (base + at + length line + 1) p.gives.give h.1 refl refl refl;
+          give = one_more p.gives.lines (p.gives.lines ++ line ∷ []) line p.text h.0 (p.text ++ h.0) (base + at) (base + at + length line + 1) p.gives.give h.1
+              refl refl refl;
           appended = front_more output mid new p.text h.0 p.appended h.2;
         }
         spoiled (inr none) = record {
@@ -233,9 +250,11 @@ module _ (job : JsonJob) (known output : Option (List ℕ)) where
     pub json_next : (line : List ℕ) → IsLineAt bytes at line → (left : List ℕ) → NextLine (p.taken ++ left) (base + at) line
     json_next line l left = next_feed job.raw p.taken (base + at) p.text p.gives line (line_here line l) left
 
-    pub json_rest : (line : List ℕ) → line ≡ drop at bytes → IsOneLine (drop at bytes) → (left : List ℕ) → left ≡ [] → NextLine (p.taken ++ left) (base + at) line
+    pub json_rest : (line : List ℕ) → line ≡ drop at bytes → IsOneLine (drop at bytes) → (left : List ℕ) → left ≡ []
+        → NextLine (p.taken ++ left) (base + at) line
     json_rest line is one left none =
-        subst (NextLine (p.taken ++ left) (base + at)) (place_is ∙ sym is) (next_last job.raw p.taken (base + at) p.text p.gives left none (subst IsOneLine (sym place_is) one))
+        subst (NextLine (p.taken ++ left) (base + at)) (place_is ∙ sym is) (next_last job.raw p.taken (base + at) p.text p.gives left none
+        (subst IsOneLine (sym place_is) one))
 
     -- the input ended behind a line
     pub json_ended :
@@ -250,7 +269,8 @@ module _ (job : JsonJob) (known output : Option (List ℕ)) where
         json_bad new true l line (json_rest line is one l.left (l.none refl)) error reported
 
     -- more bytes came
-    pub json_came : (next : Option (List ℕ)) (after : List ℕ) → Yields now next (drop at bytes) after → JsonReading job known next output mid (base + at) 0 after
+    pub json_came : (next : Option (List ℕ)) (after : List ℕ) → Yields now next (drop at bytes) after
+        → JsonReading job known next output mid (base + at) 0 after
     json_came next after yields =
         let here : base + at ≡ base + at + 0 = omega arith in
         record {
@@ -258,7 +278,8 @@ module _ (job : JsonJob) (known output : Option (List ℕ)) where
           text = p.text;
           consumed = Consumes-trans known now next p.taken yields.came p.consumed yields.consumed;
           are = rest_behind job.raw p.taken (base + at) p.text p.gives yields.came ∙ ap (λ (t : List ℕ). t ++ yields.came) place_is ∙ sym yields.are;
-          gives = subst (λ (n : ℕ). GivesLines job.raw (p.taken ++ yields.came) n p.text) here (gives_longer job.raw p.taken (base + at) p.text p.gives yields.came);
+          gives = subst (λ (n : ℕ). GivesLines job.raw (p.taken ++ yields.came) n p.text) here
+              (gives_longer job.raw p.taken (base + at) p.text p.gives yields.came);
           appended = p.appended;
         }
 
@@ -279,8 +300,18 @@ module _ (job : JsonJob) (known output : Option (List ℕ)) where
         }
 
     -- reading failed, or memory ran out for it
-    pub json_read_fails : IsOneLine (drop at bytes) → (why : RunError) → IsUnread why → FailsJson job (record { input = known; input_left = now; output = output; output_now = mid }) why
-    json_read_fails one UnreadableInput h = record { bytes = p.taken; place = base + at; text = p.text; taken = p.consumed; gives = p.gives; one_line = subst IsOneLine (sym place_is) one; appended = p.appended }
+    pub json_read_fails : IsOneLine (drop at bytes) → (why : RunError) → IsUnread why
+        → FailsJson job (record { input = known; input_left = now; output = output; output_now = mid }) why
+    json_read_fails one UnreadableInput h = record {
+      bytes = p.taken;
+      place = base + at;
+      text = p.text;
+      taken = p.consumed;
+      gives = p.gives;
+      one_line =
+          subst IsOneLine (sym place_is) one;
+      appended = p.appended;
+    }
     json_read_fails one NoMemory h = json_no_memory
     json_read_fails one UnopenedInput h = absurd h
     json_read_fails one (MisreadInput m) h = absurd h

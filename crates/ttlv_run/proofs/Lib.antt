@@ -9,7 +9,7 @@ pub mod Completion
 pub mod Counting
 pub mod Decoders
 pub mod DumpLines
-pub mod FrontsTold
+pub mod FrontsDecided
 pub mod Good
 pub mod Groups
 pub mod Inputs
@@ -19,6 +19,6 @@ pub mod Prefixes
 pub mod Printing
 pub mod Sequences
 pub mod TextStreams
-pub mod Told
+pub mod Decided
 pub mod Windows
 pub mod JsonReads

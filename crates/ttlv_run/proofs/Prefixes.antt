@@ -1,5 +1,6 @@
 -- What a front of a text stands for is a front of what all of it stands for.
-use Rattle.std.proofs.Common.{◌≡◌, ℕ, zero, suc, ◌+◌, Bool, true, false, List, [], ◌∷◌, ◌++◌, length, drop, Some, None, Option, ap, sym, refl, subst, ◌∙◌, arith, append-nil, append_assoc}
+use Rattle.std.proofs.Common.{◌≡◌, ℕ, zero, suc, ◌+◌, Bool, true, false, List, [], ◌∷◌, ◌++◌, length, drop, Some, None, Option, ap, sym, refl, subst, ◌∙◌}
+use Rattle.std.proofs.Common.{arith, append-nil, append_assoc}
 use Rattle.std.specs.Prelude.{slice_index}
 use Rattle.std.proofs.Math.Seq.{drop-append_seam}
 use Rattle.kmip_ttlv_items.specs.ItemWalks.{AreBytes}
@@ -56,13 +57,15 @@ record Walked (form : Form) (first : LinePart) (s digits : List ℕ) (part : Lin
   walked : walk form (record { digits = []; part = first; rest = s }) count ≡ Some (record { digits = digits; part = part; rest = rest })
   long : length s ≡ count + length rest
 
-walked_of : (form : Form) (first : LinePart) (s digits : List ℕ) (part : LinePart) (rest : List ℕ) → Reads form first s digits part rest → Walked form first s digits part rest
+walked_of : (form : Form) (first : LinePart) (s digits : List ℕ) (part : LinePart) (rest : List ℕ) → Reads form first s digits part rest
+    → Walked form first s digits part rest
 walked_of form first s digits part rest begins = record { count = 0; walked = refl; long = omega arith }
 walked_of form first s digits part rest (counts before more at then_ b others r is all) =
     let w = walked_of form first s before at (b ∷ others) r in
     record {
       count = suc w.count;
-      walked = ap (next_if form) w.walked ∙ ap (after before b others) is ∙ ap (λ (d : List ℕ). Some (record { digits = d; part = then_; rest = others })) (sym all);
+      walked = ap (next_if form) w.walked ∙ ap (after before b others) is
+          ∙ ap (λ (d : List ℕ). Some (record { digits = d; part = then_; rest = others })) (sym all);
       long = omega (arith, w.long);
     }
 walked_of form first s digits part rest (skips before at then_ b others r is) =
@@ -86,7 +89,8 @@ behind_trans : (a b : List ℕ) (p : Place) → (more : List ℕ) → b ≡ a ++
 behind_trans a b p more is h = (more ++ h.0, h.1 ∙ ap (λ (d : List ℕ). d ++ h.0) is ∙ append_assoc a more h.0)
 
 -- the place in front of the last character
-before_last : (form : Form) (o : Option Place) (q : Place) → next_if form o ≡ Some q → (p : Place) × (o ≡ Some p) × (next_of form p.digits p.part p.rest ≡ Some q)
+before_last : (form : Form) (o : Option Place) (q : Place) → next_if form o ≡ Some q → (p : Place) × (o ≡ Some p)
+    × (next_of form p.digits p.part p.rest ≡ Some q)
 before_last form None q e = cc e
 before_last form (Some p) q e = (p, refl, e)
 
@@ -101,11 +105,13 @@ further form start p (suc k) n (suc m) is from q to =
     behind_trans p.digits l.0.digits q h.0 h.1 (behind_next form l.0.digits l.0.part l.0.rest q l.2)
 
 -- the digits of a front are a front of all digits
-digits_more : (form : Form) (first : LinePart) (s d1 d2 : List ℕ) (p1 p2 : LinePart) (rest : List ℕ) → Reads form first s d1 p1 rest → Reads form first s d2 p2 [] → (more : List ℕ) × (d2 ≡ d1 ++ more)
+digits_more : (form : Form) (first : LinePart) (s d1 d2 : List ℕ) (p1 p2 : LinePart) (rest : List ℕ) → Reads form first s d1 p1 rest
+    → Reads form first s d2 p2 [] → (more : List ℕ) × (d2 ≡ d1 ++ more)
 digits_more form first s d1 d2 p1 p2 rest r1 r2 =
     let w1 = walked_of form first s d1 p1 rest r1 in
     let w2 = walked_of form first s d2 p2 [] r2 in
-    further form (record { digits = []; part = first; rest = s }) (record { digits = d1; part = p1; rest = rest }) (length rest) w1.count w2.count (omega (arith, w1.long, w2.long)) w1.walked (record { digits = d2; part = p2; rest = [] }) w2.walked
+    further form (record { digits = []; part = first; rest = s }) (record { digits = d1; part = p1; rest = rest }) (length rest) w1.count w2.count
+    (omega (arith, w1.long, w2.long)) w1.walked (record { digits = d2; part = p2; rest = [] }) w2.walked
 
 -- and none is missing at the end
 digits_same : (form : Form) (first : LinePart) (s d1 d2 : List ℕ) (p1 p2 : LinePart) → Reads form first s d1 p1 [] → Reads form first s d2 p2 [] → d1 ≡ d2
@@ -121,7 +127,8 @@ text_front form s front rest all d w =
     let m = digits_more form (first_part form) (body s) d.digits w.digits d.part w.kept.last rest d.reads w.kept.reads in
     let k = d.makes in
     let split : w.digits ≡ k.front ++ (k.left ++ m.0) = m.1 ∙ ap (λ (t : List ℕ). t ++ m.0) k.are ∙ append_assoc k.front k.left m.0 in
-    let plain : IsBytes k.front = front_bytes k.front (k.left ++ m.0) (subst IsBytes split (read_bytes form (first_part form) (body s) w.digits w.kept.last [] w.kept.reads)) in
+    let plain : IsBytes k.front = front_bytes k.front (k.left ++ m.0)
+    (subst IsBytes split (read_bytes form (first_part form) (body s) w.digits w.kept.last [] w.kept.reads)) in
     digits_behind form (length k.front) k.front (k.left ++ m.0) front all (omega arith) k.whole plain k.made (sym (ap (decode_form form) split) ∙ w.are)
 
 front_in : (f : Option Form) (s front all : List ℕ) → StandsFrontIn f s front → StandsIn f s all → (more : List ℕ) × (all ≡ front ++ more)
@@ -146,7 +153,12 @@ record Further (bytes all : List ℕ) (last : Bool) : Type 0 where
   are : all ≡ bytes ++ more
 
 further_of : (e : Encoding) (s bytes all : List ℕ) (last : Bool) → StandsUpTo e s bytes last → Stands e s all → Further bytes all last
-further_of e s bytes all true v w = record { more = []; none = λ _. refl; are = stands_once (form_of (encoding_of e s)) s bytes all v w ∙ sym (append-nil bytes) }
+further_of e s bytes all true v w = record {
+  more = [];
+  none = λ _. refl;
+  are = stands_once (form_of (encoding_of e s)) s bytes all v w
+      ∙ sym (append-nil bytes);
+}
 further_of e s bytes all false v w =
     let p = front_of_all e s bytes all v w in
     record { more = p.0; none = λ end. cc end; are = p.1 }
@@ -162,5 +174,6 @@ module _ (names : Names) (job : Job) (s : Streams) (all : List ℕ) where
   pub beginning_of_all : (u : Unwritten names job s) → AreBytes all → Stands job.encoding u.input all → Continues names job.task all u.text
   beginning_of_all u plain stands =
       let h = further_of job.encoding u.input u.bytes all u.last u.stands stands in
-      let others : AreBytes h.more = subst AreBytes (ap (drop (length u.bytes)) h.are ∙ drop-append_seam u.bytes h.more) (bytes_drop (length u.bytes) all plain) in
+      let others : AreBytes h.more = subst AreBytes (ap (drop (length u.bytes)) h.are ∙ drop-append_seam u.bytes h.more)
+      (bytes_drop (length u.bytes) all plain) in
       subst (λ (b : List ℕ). Continues names job.task b u.text) (sym h.are) (u.continues h.more h.none others)

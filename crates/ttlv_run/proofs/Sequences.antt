@@ -7,12 +7,15 @@ use Rattle.ttlv_run.specs.Texts.{Names}
 
 module _ {O I : Type 0} (how : Opening O I) (names : Names) (asked : Asked) (start : At O) (files : List (Bor (List ℕ))) where
   -- with one file more
-  pub done_more : (k : ℕ) (d : Bor (List ℕ)) (then_ now : At O) (before status greatest : ℕ) → AllDone how names asked start (take k files) then_ before → before ≢ 3 → k < length files → FileDone how names asked (get_or files k d) then_ now status → greatest ≡ greater before status → AllDone how names asked start (take (k + 1) files) now greatest
+  pub done_more : (k : ℕ) (d : Bor (List ℕ)) (then_ now : At O) (before status greatest : ℕ) → AllDone how names asked start (take k files) then_ before
+      → before ≢ 3 → k < length files → FileDone how names asked (get_or files k d) then_ now status → greatest ≡ greater before status
+      → AllDone how names asked start (take (k + 1) files) now greatest
   done_more k d then_ now before status greatest all ne lt done is =
       one_more (take k files) (take (k + 1) files) (get_or files k d) then_ now before status greatest all ne done (take_at_read files k d lt).1 is
 
   -- and no other, where its status is 3
-  pub done_last : (k : ℕ) (now : At O) (greatest : ℕ) → AllDone how names asked start (take (k + 1) files) now greatest → k < length files → greatest ≡ 3 → FilesDone how names asked files start now greatest
+  pub done_last : (k : ℕ) (now : At O) (greatest : ℕ) → AllDone how names asked start (take (k + 1) files) now greatest → k < length files → greatest ≡ 3
+      → FilesDone how names asked files start now greatest
   done_last k now greatest all lt three = record {
     count = k + 1;
     within = omega (arith, lt);

@@ -10,9 +10,9 @@ use Rattle.ttlv_run.specs.declared.job.BackJob.{BackJob}
 use Rattle.ttlv_run.specs.declared.job.Job.{Job}
 use Rattle.ttlv_run.specs.declared.job.JsonJob.{JsonJob}
 use Rattle.ttlv_run.specs.declared.run_error.RunError.TheVariants.{UnopenedInput}
-use Rattle.ttlv_run.specs.JsonLines.{PrintedJson, MalformedJson, RefusedJson}
+use Rattle.ttlv_run.specs.JsonLines.{PrintedJson, MalformedJson, AbortedJson}
 use Rattle.ttlv_run.specs.Reasons.{error_line}
-use Rattle.ttlv_run.specs.Runs.{Streams, Printed, Malformed, Refused, PrintedBack, MalformedBack, RefusedBack}
+use Rattle.ttlv_run.specs.Runs.{Streams, Printed, Malformed, Aborted, PrintedBack, MalformedBack, AbortedBack}
 use Rattle.ttlv_run.specs.Texts.{Names}
 
 -- what a run has done that ended with a status: 0 where all is whole, 1 where a message is malformed, 2 and 3 for a
@@ -22,7 +22,7 @@ pub record PrintDone
   pub known : status ≤ 3
   pub printed : status ≡ 0 → Printed names job s × Keeps errors errors_now
   pub malformed : status ≡ 1 → Malformed names job s errors errors_now
-  pub refused : (status ≡ 2) ⊎ (status ≡ 3) → Refused names job s status errors errors_now
+  pub refused : (status ≡ 2) ⊎ (status ≡ 3) → Aborted names job s status errors errors_now
 
 -- the same of diagnostics that are read back
 pub record BackDone
@@ -30,14 +30,14 @@ pub record BackDone
   pub known : status ≤ 3
   pub printed : status ≡ 0 → PrintedBack names job s None × Keeps errors errors_now
   pub malformed : status ≡ 1 → MalformedBack names job s errors errors_now
-  pub refused : (status ≡ 2) ⊎ (status ≡ 3) → RefusedBack names job s status errors errors_now
+  pub refused : (status ≡ 2) ⊎ (status ≡ 3) → AbortedBack names job s status errors errors_now
 
 -- the same of JSON that is read back
 pub record JsonDone (job : JsonJob) (s : Streams) (errors errors_now : Option (List ℕ)) (status : ℕ) : Type 0 where
   pub known : status ≤ 3
   pub printed : status ≡ 0 → PrintedJson job s × Keeps errors errors_now
   pub malformed : status ≡ 1 → MalformedJson job s errors errors_now
-  pub refused : (status ≡ 2) ⊎ (status ≡ 3) → RefusedJson job s status errors errors_now
+  pub refused : (status ≡ 2) ⊎ (status ≡ 3) → AbortedJson job s status errors errors_now
 
 -- what was asked is done with an input of this name
 abbrev pub IsDone :

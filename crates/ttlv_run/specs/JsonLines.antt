@@ -1,5 +1,6 @@
 -- Lines of JSON that are read back as messages.
-use Rattle.std.specs.Prelude.{◌≡◌, ◌≢◌, ◌⊎◌, ℕ, ◌+◌, ◌≤◌, Bool, true, false, List, [], ◌∷◌, ◌++◌, length, take, drop, Option, Some, None, Result, Ok, Err, codes}
+use Rattle.std.specs.Prelude.{◌≡◌, ◌≢◌, ◌⊎◌, ℕ, ◌+◌, ◌≤◌, Bool, true, false, List, [], ◌∷◌, ◌++◌, length, take, drop, Option, Some, None, Result, Ok, Err}
+use Rattle.std.specs.Prelude.{codes}
 use Rattle.std.specs.Fmt.{decimal}
 use Rattle.std.specs.Io.KnownBytes.{Appends, Consumes}
 use Rattle.std.specs.Str.{IsUtf8, trim_end}
@@ -173,7 +174,7 @@ RespondsJson job s (Ok (Some fault)) = FaultsJson job s fault
 RespondsJson job s (Err why) = FailsJson job s why
 
 -- there is a reason for the status, and a beginning of its line was appended to the errors
-pub record RefusedJson
+pub record AbortedJson
     (job : JsonJob) (s : Streams) (status : ℕ) (errors errors_now : Option (List ℕ)) : Type 0 where
   pub why : RunError
   pub fails : FailsJson job s why

@@ -144,7 +144,7 @@ pub record Malformed (names : Names) (job : Job) (s : Streams) (errors errors_no
   pub reported : AppendsFront errors errors_now line
 
 -- there is a reason for the status, and a beginning of its line was appended to the errors
-pub record Refused
+pub record Aborted
     (names : Names) (job : Job) (s : Streams) (status : ℕ) (errors errors_now : Option (List ℕ)) : Type 0 where
   pub why : RunError
   pub fails : Fails names job s why
@@ -227,7 +227,7 @@ RespondsBack names job s (Ok fault) = PrintedBack names job s fault
 RespondsBack names job s (Err why) = FailsBack names job s why
 
 -- there is a reason for the status, and a beginning of its line was appended to the errors
-pub record RefusedBack
+pub record AbortedBack
     (names : Names) (job : BackJob) (s : Streams) (status : ℕ) (errors errors_now : Option (List ℕ)) : Type 0 where
   pub why : RunError
   pub fails : FailsBack names job s why

@@ -29,7 +29,7 @@ use Rattle.ttlv_run.specs.declared.job.Look.{Look}
 use Rattle.ttlv_run.specs.declared.lines.Reach.{Reach}
 use Rattle.ttlv_run.specs.Dates.{date_shown}
 use Rattle.ttlv_run.specs.Masks.{value_named, mask_names}
-use Rattle.ttlv_run.specs.declared.job.Names.{Names as NamesHeld}
+use Rattle.ttlv_run.specs.declared.job.Names.{Names as NamesAre}
 
 -- the names that are printed: of tags, of a tag's values, and of the bits that are set in a mask; and which tags are
 -- secret
@@ -40,7 +40,7 @@ pub record Names : Type 0 where
   pub secrets : ℕ → Bool
 
 -- those that a program holds; a user's own names of values come before the others
-abbrev pub names_of : {A : Type 0} → NamesHeld A → Names
+abbrev pub names_of : {A : Type 0} → NamesAre A → Names
 names_of tables = record {
   tags = name_in tables.tags;
   values = λ tag value. value_named (name_in tables.own) (name_in tables.values tag) tag value;

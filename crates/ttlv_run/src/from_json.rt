@@ -4,7 +4,7 @@ ghost use Rattle.std.specs.Prelude.{◌≡◌, ◌≤◌, ◌++◌, ◌⊎◌, �
 ghost use Rattle.std.specs.Io.KnownBytes.{Appends, Keeps};
 ghost use Rattle.kmip_ttlv_types.specs.Streams.{AppendsFront};
 ghost use Rattle.ttlv_run.specs.Reasons.{IsOfPrinting, Reports};
-ghost use Rattle.ttlv_run.specs.JsonLines.{shown, Prints, Spoils, PrintsBytes, FailsAt, fault_at, bad_line, column_report, RespondsJson, PrintedJson, MalformedJson, RefusedJson};
+ghost use Rattle.ttlv_run.specs.JsonLines.{shown, Prints, Spoils, PrintsBytes, FailsAt, fault_at, bad_line, column_report, RespondsJson, PrintedJson, MalformedJson, AbortedJson};
 
 use crate::back::{behind, line_at};
 use crate::job::JsonJob;
@@ -215,7 +215,7 @@ pub fn read_json<R: Read, W: Write, E: Write>(
         })
         (E.contents errors.old) (E.contents errors.new) }
     // With statuses 2 and 3 there is a reason that is true of the input or of the output, and it is reported.
-    ensures refused { (result ≡ 2) ⊎ (result ≡ 3) → RefusedJson job.now
+    ensures refused { (result ≡ 2) ⊎ (result ≡ 3) → AbortedJson job.now
         (record {
           input = R.remaining input.old;
           input_left = R.remaining input.new;

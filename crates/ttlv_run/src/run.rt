@@ -9,7 +9,7 @@ ghost use Rattle.ttlv_run.specs.Reasons.{IsOfPrinting, Reports, place_report, er
 ghost use Rattle.ttlv_run.specs.Fronts.{front_size, Begins, BeginFails};
 ghost use Rattle.ttlv_run.specs.Inputs.{IsUnread, form_of, encoding_of};
 ghost use Rattle.ttlv_run.specs.Streaming.{buffered, EndsAt, PrintsOn, ContinuesBehind};
-ghost use Rattle.ttlv_run.specs.Runs.{Places, Responds, Printed, Malformed, Refused, RespondsBack, PrintedBack, MalformedBack, RefusedBack};
+ghost use Rattle.ttlv_run.specs.Runs.{Places, Responds, Printed, Malformed, Aborted, RespondsBack, PrintedBack, MalformedBack, AbortedBack};
 ghost use Rattle.ttlv_run.specs.Texts.{names_of};
 
 use crate::back::{BackFault, BackReached, print_back};
@@ -348,7 +348,7 @@ pub fn run<A: Allocator + Copy, B: Allocator + Copy, R: Read, W: Write, E: Write
         })
         (E.contents errors.old) (E.contents errors.new) }
     // With statuses 2 and 3 there is a reason that is true of the input or of the output, and it is reported.
-    ensures refused { (result ≡ 2) ⊎ (result ≡ 3) → Refused (names_of names.now) job.now
+    ensures refused { (result ≡ 2) ⊎ (result ≡ 3) → Aborted (names_of names.now) job.now
         (record {
           input = R.remaining input.old;
           input_left = R.remaining input.new;
@@ -408,7 +408,7 @@ pub fn read_back<A: Allocator + Copy, B: Allocator + Copy, R: Read, W: Write, E:
         })
         (E.contents errors.old) (E.contents errors.new) }
     // With statuses 2 and 3 there is a reason that is true of the input or of the output, and it is reported.
-    ensures refused { (result ≡ 2) ⊎ (result ≡ 3) → RefusedBack (names_of names.now) job.now
+    ensures refused { (result ≡ 2) ⊎ (result ≡ 3) → AbortedBack (names_of names.now) job.now
         (record {
           input = R.remaining input.old;
           input_left = R.remaining input.new;

@@ -41,7 +41,7 @@ enum Call {
     ReadBytes,
     ReadNumber,
     AppendBytes,
-    RefuseName,
+    FailingName,
     KindOfName,
     CloneText,
     CloneBytes,
@@ -55,7 +55,7 @@ const CALLS: [(Call, u64); 10] = [
     (Call::ReadBytes, 1),
     (Call::ReadNumber, 1),
     (Call::AppendBytes, 2),
-    (Call::RefuseName, 1),
+    (Call::FailingName, 1),
     (Call::KindOfName, 1),
     (Call::CloneText, 2),
     (Call::CloneBytes, 2),
@@ -166,7 +166,7 @@ fn answer_to(heap: Global, memory: &BoundedAllocator<Global>, call: Call, leaf: 
         Call::ReadBytes => bytes_answer(memory, leaf),
         Call::ReadNumber => number_answer(memory, leaf),
         Call::AppendBytes => append_answer(memory, leaf),
-        Call::RefuseName => name_answer(memory),
+        Call::FailingName => name_answer(memory),
         Call::KindOfName => kind_answer(heap, memory),
         Call::CloneText => answer_of(text_is_cloned(memory, "Hello World")),
         Call::CloneBytes => answer_of(bytes_are_cloned(memory, b"\x01\x02\x03")),
@@ -238,16 +238,16 @@ fn a_length_without_its_bytes_takes_one_piece(rt: HostRuntime) -> Result<(), Fai
 }
 
 // Whether reading the leaf runs out of memory.
-fn is_refused<T: SerializableTtlvType>(alloc: T::Alloc, leaf: &[u8]) -> bool {
+fn is_error<T: SerializableTtlvType>(alloc: T::Alloc, leaf: &[u8]) -> bool {
     let mut source = leaf;
     matches!(&T::read(alloc, &mut source), Err(Error::OutOfMemory))
 }
 
-fn wants_memory<A: Allocator>(alloc: A, call: Call, leaf: &[u8]) -> bool {
+fn is_out_of_memory<A: Allocator>(alloc: A, call: Call, leaf: &[u8]) -> bool {
     match call {
-        Call::ReadText => is_refused::<TtlvTextString<A>>(alloc, leaf),
-        Call::ReadBytes => is_refused::<TtlvByteString<A>>(alloc, leaf),
-        Call::ReadNumber => is_refused::<TtlvBigInteger<A>>(alloc, leaf),
+        Call::ReadText => is_error::<TtlvTextString<A>>(alloc, leaf),
+        Call::ReadBytes => is_error::<TtlvByteString<A>>(alloc, leaf),
+        Call::ReadNumber => is_error::<TtlvBigInteger<A>>(alloc, leaf),
         _ => false,
     }
 }
@@ -255,7 +255,7 @@ fn wants_memory<A: Allocator>(alloc: A, call: Call, leaf: &[u8]) -> bool {
 // Whether a block of 65,536 bytes is enough for such a length, and not for this leaf.
 fn takes_pieces(heap: Global, call: Call, leaf: &[u8]) -> bool {
     let memory = BoundedAllocator::in_blocks(heap, 65_536);
-    ends_early(&memory, call) && wants_memory(&memory, call, leaf)
+    ends_early(&memory, call) && is_out_of_memory(&memory, call, leaf)
 }
 
 #[test]

@@ -5,19 +5,19 @@
 
 pub mod by_cursor;
 #[cfg(test)]
+mod failing_calls;
+#[cfg(test)]
 mod faulty;
 #[cfg(test)]
 mod growing;
+#[cfg(test)]
+mod low_errors;
 #[cfg(test)]
 mod machine;
 #[cfg(test)]
 mod memory;
 #[cfg(test)]
 mod names;
-#[cfg(test)]
-mod refusals;
-#[cfg(test)]
-mod refusing;
 #[cfg(test)]
 mod samples;
 #[cfg(test)]

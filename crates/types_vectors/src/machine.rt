@@ -14,12 +14,12 @@ fn leaves_out(machine: &mut TtlvStateMachine, field: FieldType) -> bool {
 }
 
 // Whether the machine returns an error for the field.
-fn refuses(machine: &mut TtlvStateMachine, field: FieldType) -> bool {
+fn returns_error(machine: &mut TtlvStateMachine, field: FieldType) -> bool {
     machine.advance(field).is_err()
 }
 
 // Whether the machine returns an error for the field because it expects another.
-fn refuses_for(machine: &mut TtlvStateMachine, field: FieldType, wanted: FieldType) -> bool {
+fn fails_for(machine: &mut TtlvStateMachine, field: FieldType, wanted: FieldType) -> bool {
     match &machine.advance(field) {
         Err(Error::UnexpectedTtlvField { expected, actual }) => {
             *expected == wanted && *actual == field
@@ -47,10 +47,10 @@ fn an_ignored_tag(rt: HostRuntime) -> Result<(), Fail> {
 }
 
 #[test]
-fn a_refused_tag(rt: HostRuntime) -> Result<(), Fail> {
+fn a_tag_that_is_none(rt: HostRuntime) -> Result<(), Fail> {
     let mut machine = TtlvStateMachine::new(TtlvStateMachineMode::Serializing);
     assert!(rt; takes(&mut machine, FieldType::Tag));
-    assert!(rt; refuses_for(&mut machine, FieldType::Tag, FieldType::Typ));
+    assert!(rt; fails_for(&mut machine, FieldType::Tag, FieldType::Typ));
     assert!(rt; takes(&mut machine, FieldType::Typ));
     Ok(())
 }
@@ -63,7 +63,7 @@ fn reading_ignores_no_tag(rt: HostRuntime) -> Result<(), Fail> {
     assert!(rt; takes(&mut machine, FieldType::LengthAndValue));
     assert!(rt; ignores_no_tag(&mut machine));
     machine.reset();
-    assert!(rt; refuses(&mut machine, FieldType::Value));
+    assert!(rt; returns_error(&mut machine, FieldType::Value));
     assert!(rt; takes(&mut machine, FieldType::Tag));
     Ok(())
 }

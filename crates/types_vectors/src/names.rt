@@ -72,7 +72,7 @@ fn digits_of_tags(rt: HostRuntime) -> Result<(), Fail> {
 }
 
 // Whether a code from 1 to 10 is that of a type, which has this code, and any other is an error.
-fn is_code_or_refused(code: u8) -> bool {
+fn is_code_or_error(code: u8) -> bool {
     match &TtlvType::try_from(code) {
         Ok(typ) => {
             let bytes: [u8; 1] = (*typ).into();
@@ -86,7 +86,7 @@ fn is_code_or_refused(code: u8) -> bool {
 #[test]
 fn codes_of_types(rt: HostRuntime) -> Result<(), Fail> {
     for code in 0..=255u8 {
-        assert!(rt; is_code_or_refused(code), "{code}");
+        assert!(rt; is_code_or_error(code), "{code}");
     }
     assert!(rt; TtlvType::try_from(0x0A).ok() == Some(TtlvType::Interval));
     Ok(())

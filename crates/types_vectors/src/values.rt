@@ -61,7 +61,7 @@ fn big_integers_are_read_as_they_stand(rt: HostRuntime) -> Result<(), Fail> {
 }
 
 // Whether the error is that a value of this type has this length, and another one is expected.
-fn is_length_refused<T>(answer: &Result<T, Error>, wanted: u32, length: u32, of: TtlvType) -> bool {
+fn is_length_error<T>(answer: &Result<T, Error>, wanted: u32, length: u32, of: TtlvType) -> bool {
     match answer {
         Err(
             Error::InvalidTtlvValueLength {
@@ -75,7 +75,7 @@ fn is_length_refused<T>(answer: &Result<T, Error>, wanted: u32, length: u32, of:
 }
 
 // Whether the error is that the content is no value of this type.
-fn is_value_refused<T>(answer: &Result<T, Error>, of: TtlvType) -> bool {
+fn is_value_error<T>(answer: &Result<T, Error>, of: TtlvType) -> bool {
     match answer {
         Err(Error::InvalidTtlvValue(typ)) => *typ == of,
         _ => false,
@@ -83,20 +83,20 @@ fn is_value_refused<T>(answer: &Result<T, Error>, of: TtlvType) -> bool {
 }
 
 #[test]
-fn booleans_are_refused(rt: HostRuntime) -> Result<(), Fail> {
+fn booleans_that_are_none(rt: HostRuntime) -> Result<(), Fail> {
     let mut short: &[u8] = b"\x00\x00\x00\x04\x00\x00\x00\x01\x00\x00\x00\x00";
     let read = TtlvBoolean::read((), &mut short);
-    assert!(rt; is_length_refused(&read, 8, 4, TtlvType::Boolean));
+    assert!(rt; is_length_error(&read, 8, 4, TtlvType::Boolean));
     let mut two: &[u8] = b"\x00\x00\x00\x08\x00\x00\x00\x00\x00\x00\x00\x02";
-    assert!(rt; is_value_refused(&TtlvBoolean::read((), &mut two), TtlvType::Boolean));
+    assert!(rt; is_value_error(&TtlvBoolean::read((), &mut two), TtlvType::Boolean));
     Ok(())
 }
 
 #[test]
-fn lengths_are_refused(rt: HostRuntime) -> Result<(), Fail> {
+fn lengths_that_are_wrong(rt: HostRuntime) -> Result<(), Fail> {
     let mut five: &[u8] = b"\x00\x00\x00\x05\x00\x00\x00\x01\x00\x00\x00\x00";
     assert!(rt;
-        is_length_refused(&TtlvInterval::read((), &mut five), 4, 5, TtlvType::Interval)
+        is_length_error(&TtlvInterval::read((), &mut five), 4, 5, TtlvType::Interval)
             && five.len() == 8
     );
     Ok(())
@@ -105,7 +105,7 @@ fn lengths_are_refused(rt: HostRuntime) -> Result<(), Fail> {
 // Whether the bytes are no text because of their content.
 fn is_no_text(heap: Global, bytes: &[u8]) -> bool {
     let mut rest = bytes;
-    is_value_refused(&TtlvTextString::read(heap, &mut rest), TtlvType::TextString)
+    is_value_error(&TtlvTextString::read(heap, &mut rest), TtlvType::TextString)
 }
 
 // Whether the bytes end before the text does.

@@ -144,7 +144,7 @@ fn a_buffer_is_filled_if_it_has_room(rt: HostRuntime) {
 }
 
 // Whether writing fails if and only if this growth fails.
-fn refuses(alloc: Global, before: u64) -> bool {
+fn returns_error(alloc: Global, before: u64) -> bool {
     let heap = BoundedAllocator::failing_after(alloc, before);
     match write_items(&heap, &made(), &VALUES) {
         Ok(out) => !heap.has_failed() && out.as_slice() == VERSION.as_slice(),
@@ -153,9 +153,9 @@ fn refuses(alloc: Global, before: u64) -> bool {
 }
 
 #[test]
-fn each_growth_may_be_refused(rt: HostRuntime) {
+fn each_growth_may_fail(rt: HostRuntime) {
     for before in 0..3 {
-        assert!(rt; refuses(rt.alloc(), before), "{before}");
+        assert!(rt; returns_error(rt.alloc(), before), "{before}");
     }
 }
 

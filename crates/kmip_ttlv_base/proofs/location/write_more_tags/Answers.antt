@@ -8,7 +8,8 @@ use Rattle.kmip_ttlv_base.specs.LocationTexts.{more_tags}
 use Rattle.kmip_ttlv_base.proofs.location.write_more_tags.Goals as goal
 
 -- one tag more
-more_tags-take : (tags : List ℕ) (i t : ℕ) → i < length tags → t ≡ get_or tags i t → more_tags (take i tags) ++ (codes " > " ++ tag_text t) ≡ more_tags (take (i + 1) tags)
+more_tags-take : (tags : List ℕ) (i t : ℕ) → i < length tags → t ≡ get_or tags i t → more_tags (take i tags) ++ (codes " > " ++ tag_text t) ≡ more_tags
+    (take (i + 1) tags)
 unfolding more_tags
 more_tags-take tags i t low is =
     flat_map_more (λ t. codes " > " ++ tag_text t) [] (take i tags) t
@@ -22,4 +23,5 @@ pub loop-tag-preserved : goal.loop-tag-preserved
 loop-tag-preserved g c = λ p.
     let before = c.loop-tag.invariant p in
     let one : HasWritten g.W.Write.write_str_gives c.loop-tag.f (codes " > " ++ tag_text c.tag-item.result) c.write.new.self = search rules in
-    put_two g.W.Write.write_str_gives _ _ _ _ _ _ before one (more_tags-take c.args.tags.now c.loop-tag.tag-index c.tag-item.result c.loop-tag-test.true c.tag-item.is)
+    put_two g.W.Write.write_str_gives _ _ _ _ _ _ before one (more_tags-take c.args.tags.now c.loop-tag.tag-index c.tag-item.result c.loop-tag-test.true
+    c.tag-item.is)

@@ -17,6 +17,11 @@ returns c =
       diagnostic_is = c.in-Ok.ensures.cases.1;
       lines = subst (λ (names : ℕ → Option (List ℕ)). IsReadBackAs names c.args.prefix.now c.args.diagnostic.now text) c.in-Ok-names_in.ensures.names
           (subst (λ (p : List ℕ). IsReadBackAs (name_in c.in-Ok-names_in.names) p c.args.diagnostic.now text) c.in-Ok-from_utf8.ensures.cases.0
-          (subst (λ (d : List ℕ). IsReadBackAs (name_in c.in-Ok-names_in.names) c.in-Ok-from_utf8.prefix.now d text) c.in-Ok.ensures.cases.0 record { is = read.undiag; longest = read.longest; redacted = read.redacted }));
+          (subst (λ (d : List ℕ). IsReadBackAs (name_in c.in-Ok-names_in.names) c.in-Ok-from_utf8.prefix.now d text) c.in-Ok.ensures.cases.0 record {
+            is =
+                read.undiag;
+            longest = read.longest;
+            redacted = read.redacted;
+          }));
     }
     (subst (λ (t : List ℕ). Offers t c.offer.result c.offer.new.length c.args.out.now c.offer.new.out) c.as_bytes.ensures.value c.offer.ensures)

@@ -1,6 +1,6 @@
 use Rattle.std.proofs.Common.{sym, ◌∙◌}
 use Rattle.kmip_ttlv_c.specs.LentItems.{judged}
-use Rattle.kmip_ttlv_c.proofs.Tells.{check_fault, check_whole}
+use Rattle.kmip_ttlv_c.proofs.Reports.{check_fault, check_whole}
 use Rattle.kmip_ttlv_c.proofs.items.kmip_ttlv_check.Goals as goal
 
 pub returns-then-is_some : goal.returns-then-is_some

@@ -8,8 +8,10 @@ returns-in-Err c = names c.in-Err.found c.in-Err.ensures.err c.bad_of-in-Err.ens
 
 pub returns-then-length-room : goal.returns-then-length-room
 returns-then-length-room c =
-    none_written c.args.items.now c.args.bytes.now c.in-Ok.len c.args.out.now c.write_into.new.out c.in-Ok.ensures.ok c.bad_of.result c.bad_of.ensures (omega arith)
+    none_written c.args.items.now c.args.bytes.now c.in-Ok.len c.args.out.now c.write_into.new.out c.in-Ok.ensures.ok c.bad_of.result c.bad_of.ensures
+    (omega arith)
 
 pub returns : goal.returns
 returns c =
-    all_written c.args.items.now c.args.bytes.now c.in-Ok.len c.args.out.now c.write_into.new.out c.in-Ok.ensures.ok c.bad_of.result c.bad_of.ensures (omega arith)
+    all_written c.args.items.now c.args.bytes.now c.in-Ok.len c.args.out.now c.write_into.new.out c.in-Ok.ensures.ok c.bad_of.result c.bad_of.ensures
+    (omega arith)

@@ -12,4 +12,5 @@ returns-in_err-next-clause-step g c =
     let p = err_from_is_err_and c.from_residual-in_err-next.result c.from_residual-in_err-next.ensures.1 in
     let some : has_fields (fields_of c.args.fields.now) ≡ true = search rules in
     let other = rw c.tag_at.ensures at (sym (c.is_field.ensures (fields_of c.args.fields.now) c.requires.tags) ∙ c.if-is_field.false) in
-    rw (p.1, p.2, c.in_ok-typ.ensures.step, some, other, c.if-deny.false) (failure_then (item_end c.args.scope.now.bytes.now c.args.pos c.in_ok-typ.typ) _ _ c.in_err-next.ensures.step)
+    rw (p.1, p.2, c.in_ok-typ.ensures.step, some, other, c.if-deny.false) (failure_then (item_end c.args.scope.now.bytes.now c.args.pos c.in_ok-typ.typ) _ _
+    c.in_err-next.ensures.step)

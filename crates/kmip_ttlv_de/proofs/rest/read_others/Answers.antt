@@ -12,15 +12,26 @@ loop-next-init g c = (length c.args.scope.now.bytes.now, refl, omega arith, omeg
 pub returns-in_err-next-clause-step : goal.returns-in_err-next-clause-step
 returns-in_err-next-clause-step g c =
     let p = err_from_is_err_and c.from_residual-in_err-next.result c.from_residual-in_err-next.ensures.1 in
-    rw (p.1, p.2, c.loop-next.invariant.1) (rest_fails c.loop-next.invariant.0 (fields_of c.args.fields.now) c.args.deny c.args.scope.now.bytes.now c.args.scope.now.owner c.loop-next.next c.args.scope.now.end c.in_err-next.field-0.0 (lt-ltb c.loop-next.next c.args.scope.now.end c.loop-next-test.true) c.in_err-next.ensures.step)
+    rw (p.1, p.2, c.loop-next.invariant.1) (rest_fails c.loop-next.invariant.0 (fields_of c.args.fields.now) c.args.deny c.args.scope.now.bytes.now
+    c.args.scope.now.owner c.loop-next.next c.args.scope.now.end c.in_err-next.field-0.0
+    (lt-ltb c.loop-next.next c.args.scope.now.end c.loop-next-test.true) c.in_err-next.ensures.step)
 
 pub loop-next-preserved : goal.loop-next-preserved
 loop-next-preserved g c =
     let f = c.in_ok-next.ensures.further in
     let n = c.loop-next.invariant.0 in
-    let more : n ≡ suc (n - 1) = more_steps (length c.args.scope.now.bytes.now) n c.loop-next.next c.in_ok-next.next c.loop-next.invariant.2 f.0 f.2 in
-    (n - 1, c.loop-next.invariant.1 ∙ rest_step n (fields_of c.args.fields.now) c.args.deny c.args.scope.now.bytes.now c.args.scope.now.owner c.loop-next.next c.in_ok-next.next c.args.scope.now.end (lt-ltb c.loop-next.next c.args.scope.now.end c.loop-next-test.true) c.in_ok-next.ensures.step ∙ ap (λ m. rest_outcome m (fields_of c.args.fields.now) c.args.deny c.args.scope.now.bytes.now c.args.scope.now.owner c.in_ok-next.next c.args.scope.now.end) more, omega (arith, f), omega (arith, f), omega (arith, f))
+    let more : n ≡ suc (n - 1) = more_steps (length c.args.scope.now.bytes.now) n c.loop-next.next c.in_ok-next.next c.loop-next.invariant.2 f.0 f.2 in (
+      n - 1,
+      c.loop-next.invariant.1 ∙ rest_step n (fields_of c.args.fields.now) c.args.deny c.args.scope.now.bytes.now c.args.scope.now.owner c.loop-next.next
+          c.in_ok-next.next c.args.scope.now.end (lt-ltb c.loop-next.next c.args.scope.now.end c.loop-next-test.true) c.in_ok-next.ensures.step
+          ∙ ap (λ m. rest_outcome m (fields_of c.args.fields.now) c.args.deny c.args.scope.now.bytes.now c.args.scope.now.owner c.in_ok-next.next
+          c.args.scope.now.end) more,
+      omega (arith, f),
+      omega (arith, f),
+      omega (arith, f),
+    )
 
 pub returns-clause-step : goal.returns-clause-step
 returns-clause-step g c =
-    c.loop-next.invariant.1 ∙ rest_done c.loop-next.invariant.0 (fields_of c.args.fields.now) c.args.deny c.args.scope.now.bytes.now c.args.scope.now.owner c.loop-next.next c.args.scope.now.end (le-ltb c.loop-next.next c.args.scope.now.end c.loop-next-test.false)
+    c.loop-next.invariant.1 ∙ rest_done c.loop-next.invariant.0 (fields_of c.args.fields.now) c.args.deny c.args.scope.now.bytes.now c.args.scope.now.owner
+    c.loop-next.next c.args.scope.now.end (le-ltb c.loop-next.next c.args.scope.now.end c.loop-next-test.false)

@@ -118,9 +118,9 @@ pub returns-clause-sequences : goal.returns-clause-sequences
 unfolding reading
 returns-clause-sequences c = (refl, refl, refl, refl, refl)
 
-pub returns-clause-strange_forms : goal.returns-clause-strange_forms
+pub returns-clause-other_forms : goal.returns-clause-other_forms
 unfolding reading
-returns-clause-strange_forms c = (refl, refl, refl, refl, refl)
+returns-clause-other_forms c = (refl, refl, refl, refl, refl)
 
 pub returns-clause-items_behind_fields : goal.returns-clause-items_behind_fields
 unfolding reading
@@ -144,7 +144,18 @@ returns-clause-leaf_roots_of_nothing c = (refl, refl, refl, refl, refl, refl, re
 
 pub returns-clause-other_roots : goal.returns-clause-other_roots
 unfolding reading
-returns-clause-other_roots c = ((codes "no struct", refl), (codes "no struct", refl), (codes "no struct", refl), (codes "no struct", refl), (codes "no struct", refl), (codes "no struct", refl), (codes "no struct", refl), (codes "no struct", refl), (codes "no struct", refl), (codes "no struct", refl))
+returns-clause-other_roots c = (
+  (codes "no struct", refl),
+  (codes "no struct", refl),
+  (codes "no struct", refl),
+  (codes "no struct", refl),
+  (codes "no struct", refl),
+  (codes "no struct", refl),
+  (codes "no struct", refl),
+  (codes "no struct", refl),
+  (codes "no struct", refl),
+  (codes "no struct", refl),
+)
 
 pub returns-clause-structs_in_others : goal.returns-clause-structs_in_others
 unfolding reading
@@ -160,4 +171,15 @@ returns-clause-rules_of_types c = (refl, refl, refl, refl, refl, refl, refl, ref
 
 pub returns-clause-rules_of_other_types : goal.returns-clause-rules_of_other_types
 unfolding reading
-returns-clause-rules_of_other_types c = (λ e. subst IsFieldFault (sym e) tt, λ e. subst IsFieldFault (sym e) tt, λ e. subst IsFieldFault (sym e) tt, λ e. subst IsFieldFault (sym e) tt, λ e. subst IsFieldFault (sym e) tt, λ e. subst IsFieldFault (sym e) tt, λ e. subst IsFieldFault (sym e) tt, λ e. subst IsFieldFault (sym e) tt, λ e. subst IsFieldFault (sym e) tt, λ e. subst IsFieldFault (sym e) tt)
+returns-clause-rules_of_other_types c = (
+  λ e. subst IsFieldFault (sym e) tt,
+  λ e. subst IsFieldFault (sym e) tt,
+  λ e. subst IsFieldFault (sym e) tt,
+  λ e. subst IsFieldFault (sym e) tt,
+  λ e. subst IsFieldFault (sym e) tt,
+  λ e. subst IsFieldFault (sym e) tt,
+  λ e. subst IsFieldFault (sym e) tt,
+  λ e. subst IsFieldFault (sym e) tt,
+  λ e. subst IsFieldFault (sym e) tt,
+  λ e. subst IsFieldFault (sym e) tt,
+)

@@ -10,6 +10,7 @@ pub leaves-preserved : goal.leaves-preserved
 leaves-preserved c =
     let leaf : IsLeafTo c.args.bytes.now c.leaves.at c.min-stop.result c.in-Some.next = c.in-Some.ensures in
     record {
-      passed = passed_more c.args.bytes.now c.args.offset c.args.end c.min-stop.result c.leaves.at c.in-Some.next (omega arith) (omega arith) c.leaves.invariant.passed leaf;
+      passed = passed_more c.args.bytes.now c.args.offset c.args.end c.min-stop.result c.leaves.at c.in-Some.next (omega arith)
+          (omega arith) c.leaves.invariant.passed leaf;
       before = leaf.fits;
     }

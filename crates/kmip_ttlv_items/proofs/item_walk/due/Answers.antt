@@ -20,7 +20,8 @@ module _ (w : List ℕ) (p : ℕ) (old new : List ℕ) (some : 0 < p) (is : new 
 
 pub returns-then-offset-eq0-clause-due : goal.returns-then-offset-eq0-clause-due
 returns-then-offset-eq0-clause-due g c =
-    subst (λ (p : ℕ). Due c.args.bytes.now p (open_ends c.args.ends.now) c.root_due.result) (sym c.if-offset-eq0.true) (c.root_due.ensures (open_ends c.args.ends.now))
+    subst (λ (p : ℕ). Due c.args.bytes.now p (open_ends c.args.ends.now) c.root_due.result) (sym c.if-offset-eq0.true)
+    (c.root_due.ensures (open_ends c.args.ends.now))
 
 pub returns-in_default-clause-stays : goal.returns-in_default-clause-stays
 returns-in_default-clause-stays g c =
@@ -28,11 +29,16 @@ returns-in_default-clause-stays g c =
 
 pub item_at-requires-clause-before : goal.item_at-requires-clause-before
 item_at-requires-clause-before g c =
-    omega (arith, (first c.args.bytes.now c.args.offset (open_ends c.args.ends.now) (open_ends c.leave.new.self) (omega arith) c.leave.ensures.ends c.in-Some.end c.in-Some.ensures.innermost c.requires).0)
+    omega (
+      arith,
+      (first c.args.bytes.now c.args.offset (open_ends c.args.ends.now) (open_ends c.leave.new.self) (omega arith) c.leave.ensures.ends
+          c.in-Some.end c.in-Some.ensures.innermost c.requires).0,
+    )
 
 pub item_at-requires-clause-within : goal.item_at-requires-clause-within
 item_at-requires-clause-within g c =
-    (first c.args.bytes.now c.args.offset (open_ends c.args.ends.now) (open_ends c.leave.new.self) (omega arith) c.leave.ensures.ends c.in-Some.end c.in-Some.ensures.innermost c.requires).1
+    (first c.args.bytes.now c.args.offset (open_ends c.args.ends.now) (open_ends c.leave.new.self) (omega arith) c.leave.ensures.ends c.in-Some.end
+    c.in-Some.ensures.innermost c.requires).1
 
 pub returns-in-Ok-clause-stays : goal.returns-in-Ok-clause-stays
 returns-in-Ok-clause-stays g c =
@@ -58,4 +64,5 @@ returns-in-Err-clause-due g c =
     let new = open_ends c.leave.new.self in
     let lies = first w c.args.offset (open_ends c.args.ends.now) new (omega arith) c.leave.ensures.ends c.in-Some.end c.in-Some.ensures.innermost c.requires in
     let at = first_of new c.in-Some.end c.in-Some.ensures.innermost in
-    λ xs m. ended_inside w c.args.offset c.in-Some.end at.0 xs c.in-Err.kind (subst (λ (s : List ℕ). WalksTo w c.args.offset s xs) at.1 (met_walks w c.args.offset new xs (omega arith) m)) lies.0 c.in-Err.ensures.err
+    λ xs m. ended_inside w c.args.offset c.in-Some.end at.0 xs c.in-Err.kind (subst (λ (s : List ℕ). WalksTo w c.args.offset s xs) at.1
+    (met_walks w c.args.offset new xs (omega arith) m)) lies.0 c.in-Err.ensures.err

@@ -3,7 +3,8 @@ use Rattle.kmip_ttlv_items.proofs.Walks.{met_walks, ended_behind, ended_whole}
 use Rattle.kmip_ttlv_items.proofs.item_walk.end_behind.Goals as goal
 
 pub returns-then-offset-bytes : goal.returns-then-offset-bytes
-returns-then-offset-bytes c = λ xs m. ended_behind c.args.bytes.now c.args.offset xs (met_walks c.args.bytes.now c.args.offset [] xs c.requires m) c.if-offset-bytes.true
+returns-then-offset-bytes c = λ xs m. ended_behind c.args.bytes.now c.args.offset xs (met_walks c.args.bytes.now c.args.offset [] xs c.requires m)
+    c.if-offset-bytes.true
 
 pub returns : goal.returns
 returns c =

@@ -8,4 +8,5 @@ pub returns-in-Err : goal.returns-in-Err
 returns-in-Err c =
     let w = c.args.bytes.now in
     let kind = c.in-Err.kind in
-    λ es xs m. subst (λ (s : List FoundItem). Ended w s (Some record { offset = 0; kind = kind })) (sym (met_none w 0 es xs refl m).1) (ended_at_root w kind c.in-Err.ensures.err)
+    λ es xs m. subst (λ (s : List FoundItem). Ended w s (Some record { offset = 0; kind = kind })) (sym (met_none w 0 es xs refl m).1)
+    (ended_at_root w kind c.in-Err.ensures.err)

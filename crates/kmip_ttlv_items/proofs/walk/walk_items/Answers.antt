@@ -26,6 +26,7 @@ walk-preserved g c =
         found ++ (i ∷ []),
         comes.met found c.walk.invariant.keeps.1,
         omega (arith, c.walk.invariant.keeps.2, length-append found (i ∷ [])),
-        keeps_more g.T.FromFoundItem.converted found i c.args.out.now c.walk.out c.put.new.out c.walk.count c.walk.invariant.keeps.3 c.walk.invariant.keeps.2 c.put.ensures,
+        keeps_more g.T.FromFoundItem.converted found i c.args.out.now c.walk.out c.put.new.out c.walk.count c.walk.invariant.keeps.3 c.walk.invariant.keeps.2
+            c.put.ensures,
       );
     }

@@ -7,11 +7,11 @@ use Rattle.kmip_ttlv_util.proofs.Saying.{adds_same, breaks_same}
 use Rattle.kmip_ttlv_json.specs.declared.print.Spot.{Spot}
 use Rattle.kmip_ttlv_json.specs.Parts.{closes, spot_after, parts, spot_behind, first_spot}
 use Rattle.kmip_ttlv_json.specs.Printings.{secrets_of, hides_all, has_line, IsThere}
-use Rattle.kmip_ttlv_json.proofs.Found.{found_lines, one_more, spot_more, left_over, rest_told, begun_json, json_is, broken_json, err_holds}
+use Rattle.kmip_ttlv_json.proofs.Found.{found_lines, one_more, spot_more, left_over, rest_printed, begun_json, json_is, broken_json, err_holds}
 use Rattle.kmip_ttlv_json.proofs.print.push_line.Goals as goal
 
 pub items-init : goal.items-init
-items-init g c = record { bytes = c.new-walk.ensures.bytes; told = ([], c.new-walk.ensures.met, refl, g.met.S.TextSink.adds_none c.args.out.now) }
+items-init g c = record { bytes = c.new-walk.ensures.bytes; printed_lines = ([], c.new-walk.ensures.met, refl, g.met.S.TextSink.adds_none c.args.out.now) }
 
 pub push_item-requires : goal.push_item-requires
 push_item-requires g c =
@@ -25,18 +25,21 @@ items-preserved g c =
     let comes : StepsTo c.items.walk c.next.new.self i = subst (Steps c.items.walk c.next.new.self) c.in-Item.is c.in_ok-item.ensures.ok in
     let w = c.args.message.now in
     let there : IsThere w i = subst (λ (s : List ℕ). IsThere s i) c.items.invariant.bytes comes.whole in
-    let found = c.items.invariant.told.0 in
+    let found = c.items.invariant.printed_lines.0 in
     let secrets = secrets_of c.args.hiding (has_line c.args.secrets.now) in
     let hidden = hides_all c.args.hiding in
     let first = parts secrets hidden first_spot (found_lines w found) in
-    let same = one_more secrets hidden w found i there c.items.spot c.is_secret-is_secret.result c.is_hidden-hidden.result c.items.invariant.told.2 c.is_secret-is_secret.ensures c.is_hidden-hidden.ensures in
+    let same = one_more secrets hidden w found i there c.items.spot c.is_secret-is_secret.result c.is_hidden-hidden.result c.items.invariant.printed_lines.2
+    c.is_secret-is_secret.ensures c.is_hidden-hidden.ensures in
     record {
       bytes = c.next.ensures.bytes ∙ c.items.invariant.bytes;
-      told = (
+      printed_lines = (
         found ++ (i ∷ []),
-        comes.met found c.items.invariant.told.1,
-        c.spot_after-spot.ensures secrets c.is_secret-is_secret.ensures ∙ ap (λ (s : Spot). spot_after secrets s i.depth i.tag i.typ) c.items.invariant.told.2 ∙ spot_more secrets hidden w found i,
-        adds_same g.S.TextSink.adds g.S.TextSink.breaks _ _ _ _ (g.met.S.TextSink.adds_both _ _ _ first _ c.items.invariant.told.3 c.in_ok-push_item-in-Item.ensures.ok) same,
+        comes.met found c.items.invariant.printed_lines.1,
+        c.spot_after-spot.ensures secrets c.is_secret-is_secret.ensures ∙ ap (λ (s : Spot). spot_after secrets s i.depth i.tag i.typ) c.items.invariant.printed_lines.2
+            ∙ spot_more secrets hidden w found i,
+        adds_same g.S.TextSink.adds g.S.TextSink.breaks _ _ _ _
+            (g.met.S.TextSink.adds_both _ _ _ first _ c.items.invariant.printed_lines.3 c.in_ok-push_item-in-Item.ensures.ok) same,
       );
     }
 
@@ -48,12 +51,13 @@ returns-in_err-item-clause-err g c =
     let secrets = secrets_of c.args.hiding (has_line c.args.secrets.now) in
     let hidden = hides_all c.args.hiding in
     let walk = c.items.walk in
-    let found = c.items.invariant.told.0 in
-    let left = left_over w walk.bytes.now c.items.invariant.bytes plain c.requires.found c.requires.ended walk.offset (open_ends walk.ends) found c.items.invariant.told.1 in
+    let found = c.items.invariant.printed_lines.0 in
+    let left = left_over w walk.bytes.now c.items.invariant.bytes plain c.requires.found c.requires.ended walk.offset (open_ends walk.ends) found
+    c.items.invariant.printed_lines.1 in
     let first = parts secrets hidden first_spot (found_lines w found) in
-    let rest = rest_told secrets hidden w plain found left in
+    let rest = rest_printed secrets hidden w plain found left in
     err_holds _ _ (broken_json g.S.TextSink.breaks secrets hidden w _ _ (first ++ rest) None (begun_json secrets hidden w plain found left)
-    (g.met.S.TextSink.breaks_first _ _ first rest (g.met.S.TextSink.breaks_after _ _ first c.items.invariant.told.3)))
+    (g.met.S.TextSink.breaks_first _ _ first rest (g.met.S.TextSink.breaks_after _ _ first c.items.invariant.printed_lines.3)))
 
 -- the sink failed in an item, behind which others follow
 pub returns-in_err-push_item-in-Item-clause-err : goal.returns-in_err-push_item-in-Item-clause-err
@@ -66,13 +70,18 @@ returns-in_err-push_item-in-Item-clause-err g c =
     let secrets = secrets_of c.args.hiding (has_line c.args.secrets.now) in
     let hidden = hides_all c.args.hiding in
     let walk = c.next.new.self in
-    let found = c.items.invariant.told.0 in
+    let found = c.items.invariant.printed_lines.0 in
     let more = found ++ (i ∷ []) in
-    let left = left_over w walk.bytes.now (c.next.ensures.bytes ∙ c.items.invariant.bytes) plain c.requires.found c.requires.ended walk.offset (open_ends walk.ends) more (comes.met found c.items.invariant.told.1) in
-    let same = one_more secrets hidden w found i there c.items.spot c.is_secret-is_secret.result c.is_hidden-hidden.result c.items.invariant.told.2 c.is_secret-is_secret.ensures c.is_hidden-hidden.ensures in
-    let here = breaks_same g.S.TextSink.adds g.S.TextSink.breaks _ _ _ _ (g.met.S.TextSink.breaks_second _ _ _ (parts secrets hidden first_spot (found_lines w found)) _ c.items.invariant.told.3 c.in_err-push_item-in-Item.ensures.err) same in
-    let rest = rest_told secrets hidden w plain more left in
-    err_holds _ _ (broken_json g.S.TextSink.breaks secrets hidden w _ _ (parts secrets hidden first_spot (found_lines w more) ++ rest) None (begun_json secrets hidden w plain more left)
+    let left = left_over w walk.bytes.now (c.next.ensures.bytes ∙ c.items.invariant.bytes) plain c.requires.found c.requires.ended walk.offset
+    (open_ends walk.ends) more (comes.met found c.items.invariant.printed_lines.1) in
+    let same = one_more secrets hidden w found i there c.items.spot c.is_secret-is_secret.result c.is_hidden-hidden.result c.items.invariant.printed_lines.2
+    c.is_secret-is_secret.ensures c.is_hidden-hidden.ensures in
+    let here = breaks_same g.S.TextSink.adds g.S.TextSink.breaks _ _ _ _
+    (g.met.S.TextSink.breaks_second _ _ _ (parts secrets hidden first_spot (found_lines w found)) _ c.items.invariant.printed_lines.3
+    c.in_err-push_item-in-Item.ensures.err) same in
+    let rest = rest_printed secrets hidden w plain more left in
+    err_holds _ _ (broken_json g.S.TextSink.breaks secrets hidden w _ _ (parts secrets hidden first_spot (found_lines w more) ++ rest) None
+    (begun_json secrets hidden w plain more left)
     (g.met.S.TextSink.breaks_first _ _ (parts secrets hidden first_spot (found_lines w more)) rest here))
 
 pub returns-in_err-push_end-in-End-clause-err : goal.returns-in_err-push_end-in-End-clause-err
@@ -81,13 +90,17 @@ returns-in_err-push_end-in-End-clause-err g c =
     let plain : (k : ℕ) → get_or w k 0 < 256 = λ k. omega (arith, c.type_inv.message k) in
     let secrets = secrets_of c.args.hiding (has_line c.args.secrets.now) in
     let hidden = hides_all c.args.hiding in
-    let found = c.items.invariant.told.0 in
+    let found = c.items.invariant.printed_lines.0 in
     let fault = c.in-End.fault in
     let ends = subst (Steps c.items.walk c.next.new.self) c.in-End.is c.in_ok-item.ensures.ok in
-    let ended = subst (λ (s : List ℕ). Ended s found fault) c.items.invariant.bytes (ends.1 found c.items.invariant.told.1) in
+    let ended = subst (λ (s : List ℕ). Ended s found fault) c.items.invariant.bytes (ends.1 found c.items.invariant.printed_lines.1) in
     let first = parts secrets hidden first_spot (found_lines w found) in
-    err_holds _ _ (broken_json g.S.TextSink.breaks secrets hidden w _ _ (first ++ (closes (spot_behind secrets first_spot (found_lines w found)).depth ++ codes "\n")) fault (json_is secrets hidden w plain c.requires.found c.requires.ended found fault ended)
-    (breaks_same g.S.TextSink.adds g.S.TextSink.breaks _ _ _ _ (g.met.S.TextSink.breaks_second _ _ _ first _ c.items.invariant.told.3 c.in_err-push_end-in-End.ensures.err) (ap (λ (s : Spot). first ++ (closes s.depth ++ codes "\n")) c.items.invariant.told.2)))
+    err_holds _ _ (broken_json g.S.TextSink.breaks secrets hidden w _ _
+    (first ++ (closes (spot_behind secrets first_spot (found_lines w found)).depth ++ codes "\n")) fault
+    (json_is secrets hidden w plain c.requires.found c.requires.ended found fault ended)
+    (breaks_same g.S.TextSink.adds g.S.TextSink.breaks _ _ _ _
+    (g.met.S.TextSink.breaks_second _ _ _ first _ c.items.invariant.printed_lines.3 c.in_err-push_end-in-End.ensures.err)
+    (ap (λ (s : Spot). first ++ (closes s.depth ++ codes "\n")) c.items.invariant.printed_lines.2)))
 
 pub returns-in-End-clause-ok : goal.returns-in-End-clause-ok
 returns-in-End-clause-ok g c =
@@ -95,13 +108,15 @@ returns-in-End-clause-ok g c =
     let plain : (k : ℕ) → get_or w k 0 < 256 = λ k. omega (arith, c.type_inv.message k) in
     let secrets = secrets_of c.args.hiding (has_line c.args.secrets.now) in
     let hidden = hides_all c.args.hiding in
-    let found = c.items.invariant.told.0 in
+    let found = c.items.invariant.printed_lines.0 in
     let fault = c.in-End.fault in
     let ends = subst (Steps c.items.walk c.next.new.self) c.in-End.is c.in_ok-item.ensures.ok in
-    let ended = subst (λ (s : List ℕ). Ended s found fault) c.items.invariant.bytes (ends.1 found c.items.invariant.told.1) in
+    let ended = subst (λ (s : List ℕ). Ended s found fault) c.items.invariant.bytes (ends.1 found c.items.invariant.printed_lines.1) in
     let first = parts secrets hidden first_spot (found_lines w found) in
     record {
       text = first ++ (closes (spot_behind secrets first_spot (found_lines w found)).depth ++ codes "\n");
       is = json_is secrets hidden w plain c.requires.found c.requires.ended found fault ended;
-      holds = adds_same g.S.TextSink.adds g.S.TextSink.breaks _ _ _ _ (g.met.S.TextSink.adds_both _ _ _ first _ c.items.invariant.told.3 c.in_ok-push_end-in-End.ensures.ok) (ap (λ (s : Spot). first ++ (closes s.depth ++ codes "\n")) c.items.invariant.told.2);
+      holds = adds_same g.S.TextSink.adds g.S.TextSink.breaks _ _ _ _
+          (g.met.S.TextSink.adds_both _ _ _ first _ c.items.invariant.printed_lines.3 c.in_ok-push_end-in-End.ensures.ok)
+          (ap (λ (s : Spot). first ++ (closes s.depth ++ codes "\n")) c.items.invariant.printed_lines.2);
     }

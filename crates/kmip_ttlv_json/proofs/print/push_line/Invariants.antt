@@ -9,7 +9,7 @@ use Rattle.kmip_ttlv_json.proofs.print.push_line.Given as goal
 abbrev pub invariant-items : goal.invariant-items
 invariant-items g l = record {
   bytes : l.walk.bytes.now ≡ l.message;
-  told :
+  printed_lines :
       (found : List FoundItem)
       × Met l.walk found
       × (l.spot ≡ spot_behind (secrets_of l.hiding (has_line l.secrets)) first_spot (found_lines l.message found))

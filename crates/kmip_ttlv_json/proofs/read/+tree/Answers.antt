@@ -9,8 +9,8 @@ use Rattle.kmip_ttlv_types.specs.declared.typ.TtlvType.TheVariants.{Structure}
 use Rattle.kmip_ttlv_types.specs.Items.{header}
 use Rattle.kmip_ttlv_types.specs.Trees.{node, no_trees, node_bytes, bytes_below}
 use Rattle.kmip_ttlv_json.specs.JsonTrees.{tree_of, below_of, node_of, trees_of, both}
-use Rattle.kmip_ttlv_json.specs.Readings.{Refuses}
-use Rattle.kmip_ttlv_json.proofs.ReadingBack.{before, before_end, Begun, begun_more, refuses_all, item_deep, node_put}
+use Rattle.kmip_ttlv_json.specs.Readings.{Fails}
+use Rattle.kmip_ttlv_json.proofs.ReadingBack.{before, before_end, Begun, begun_more, fails_all, item_deep, node_put}
 use Rattle.kmip_ttlv_json.proofs.read.+tree.Goals as goal
 
 pub push_items-push_tree-requires : goal.push_items-push_tree-requires
@@ -29,10 +29,12 @@ push_items-returns-in_err-push_tree-clause-err t c =
     let l = c.loop-item in
     let xs = c.deref-item-items.result.now in
     let x = c.item-item.result in
-    let here : drop l.item-index xs ≡ x ∷ drop (l.item-index + 1) xs = drop_more xs l.item-index x c.loop-item-test.true ∙ ap (λ y. y ∷ drop (l.item-index + 1) xs) (sym c.item-item.is) in
+    let here : drop l.item-index xs ≡ x ∷ drop (l.item-index + 1) xs = drop_more xs l.item-index x c.loop-item-test.true
+    ∙ ap (λ y. y ∷ drop (l.item-index + 1) xs) (sym c.item-item.is) in
     let begun = subst (λ ys. Begun (trees_of (items_view xs)) (trees_of (items_view ys)) c.args.out.now.items l.out.items) here l.invariant in
-    let all = refuses_all (trees_of (items_view xs)) (trees_of (items_view (drop (l.item-index + 1) xs))) (tree_of (view x)) c.args.out.now.items l.out.items c.in_err-push_tree.field-0.0 begun c.in_err-push_tree.ensures.err in
-    let whole = subst (λ ys. Refuses (trees_of (items_view ys)) c.in_err-push_tree.field-0.0) c.deref-item-items.ensures.value all in
+    let all = fails_all (trees_of (items_view xs)) (trees_of (items_view (drop (l.item-index + 1) xs))) (tree_of (view x)) c.args.out.now.items l.out.items
+    c.in_err-push_tree.field-0.0 begun c.in_err-push_tree.ensures.err in
+    let whole = subst (λ ys. Fails (trees_of (items_view ys)) c.in_err-push_tree.field-0.0) c.deref-item-items.ensures.value all in
     search rules
 
 pub push_items-loop-item-preserved : goal.push_items-loop-item-preserved
@@ -40,7 +42,8 @@ push_items-loop-item-preserved t c =
     let l = c.loop-item in
     let xs = c.deref-item-items.result.now in
     let x = c.item-item.result in
-    let here : drop l.item-index xs ≡ x ∷ drop (l.item-index + 1) xs = drop_more xs l.item-index x c.loop-item-test.true ∙ ap (λ y. y ∷ drop (l.item-index + 1) xs) (sym c.item-item.is) in
+    let here : drop l.item-index xs ≡ x ∷ drop (l.item-index + 1) xs = drop_more xs l.item-index x c.loop-item-test.true
+    ∙ ap (λ y. y ∷ drop (l.item-index + 1) xs) (sym c.item-item.is) in
     let added = c.in_ok-push_tree.ensures.ok in
     let rest = trees_of (items_view (drop (l.item-index + 1) xs)) in
     let begun = subst (λ ys. Begun (trees_of (items_view xs)) (trees_of (items_view ys)) c.args.out.now.items l.out.items) here l.invariant in
@@ -72,7 +75,8 @@ push_node-returns-clause-ok t c =
     let top-is : top ≡ length old = search rules in
     let held : all ≡ (old ++ header tag Structure 0) ++ below = items.all ∙ ap (λ (s : List ℕ). s ++ below) c.in_ok-push_header.ensures in
     let is : new ≡ old ++ node_bytes tag below =
-    subst (λ (s : List ℕ). new ≡ take (top + 4) s ++ (to_be_bytes w32 (length s - (top + 8)) ++ drop (top + 8) s)) c.as_mut_slice.ensures.value c.set_length.ensures
+    subst (λ (s : List ℕ). new ≡ take (top + 4) s ++ (to_be_bytes w32 (length s - (top + 8)) ++ drop (top + 8) s)) c.as_mut_slice.ensures.value
+    c.set_length.ensures
     ∙ node_put old below all tag top top-is held in
     record {
       added = node tag items.added;

@@ -1,4 +1,4 @@
-use Rattle.std.proofs.Common.{arith, ◌≡◌, Some, None, Option, List, ℕ, ap, sym, ◌∙◌}
+use Rattle.std.proofs.Common.{arith, Some, None, Option, ℕ, ap, sym, ◌∙◌}
 use Rattle.std.proofs.lemmas.Str.Pattern.{split_once_first}
 use Rattle.kmip_ttlv_types.specs.Names.{number}
 use Rattle.kmip_ttlv_names.specs.NameTables.{says_name}

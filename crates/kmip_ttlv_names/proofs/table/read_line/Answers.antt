@@ -1,5 +1,4 @@
-use Rattle.std.proofs.Common.{rules, arith, ◌≡◌, ◌≢◌, ℕ, length, get_or, Some, None, ap, sym, ◌∙◌}
-use Rattle.std.specs.Str.{trim_end}
+use Rattle.std.proofs.Common.{arith, ◌≢◌, length, get_or, Some, None, ap, sym, ◌∙◌}
 use Rattle.std.proofs.lemmas.Bool.{eqb-true, eqb-false}
 use Rattle.std.proofs.lemmas.Str.Pattern.{split_once_first}
 use Rattle.kmip_ttlv_names.specs.NameTables.{named}
@@ -7,7 +6,8 @@ use Rattle.kmip_ttlv_names.proofs.Tables.{blank_is, comment_is, entry_is, entry_
 use Rattle.kmip_ttlv_names.proofs.table.read_line.Goals as goal
 
 pub returns-then-is_empty : goal.returns-then-is_empty
-returns-then-is_empty c = blank_is c.args.line.now c.trim_end-line.result.now c.trim_end-line.ensures.trim (eqb-true (length c.trim_end-line.result.now) 0 (sym c.is_empty.ensures ∙ c.if-is_empty.true))
+returns-then-is_empty c = blank_is c.args.line.now c.trim_end-line.result.now c.trim_end-line.ensures.trim
+    (eqb-true (length c.trim_end-line.result.now) 0 (sym c.is_empty.ensures ∙ c.if-is_empty.true))
 
 pub returns-then-as_bytes-eq35 : goal.returns-then-as_bytes-eq35
 returns-then-as_bytes-eq35 c =

@@ -1,4 +1,4 @@
-use Rattle.std.proofs.Common.{rules, arith, ◌≡◌, Some, None, Option, ℕ, ap, sym, ◌∙◌}
+use Rattle.std.proofs.Common.{rules, arith, Some, None, Option, ℕ, ap, sym, ◌∙◌}
 use Rattle.std.proofs.lemmas.Str.Pattern.{split_once_first}
 use Rattle.kmip_ttlv_names.specs.NameTables.{first_of, tag_named}
 use Rattle.kmip_ttlv_names.proofs.Tables.{first_tag, last_tag}

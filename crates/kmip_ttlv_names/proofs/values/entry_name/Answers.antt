@@ -16,4 +16,6 @@ returns-then-named c =
 pub returns-else-named : goal.returns-else-named
 returns-else-named c =
     let h = split_once_first 61 c.args.entry.now (Some (c.in-Some.digits, c.in-Some.name)) c.in-Some.ensures.cases (omega arith) in
-    sym (named_not c.args.value c.args.entry.now c.in-Some.digits.now c.in-Some.name.now h.0 h.1 h.2 (λ is. absurd (let same = ap (λ (o : Option ℕ). option_eq eqb o (Some c.args.value)) (c.number.ensures ∙ is) ∙ eq-eqb c.args.value c.args.value refl in let not = c.if-named.ensures in cc)))
+    sym (named_not c.args.value c.args.entry.now c.in-Some.digits.now c.in-Some.name.now h.0 h.1 h.2
+    (λ is. absurd (let same = ap (λ (o : Option ℕ). option_eq eqb o (Some c.args.value)) (c.number.ensures ∙ is) ∙ eq-eqb c.args.value c.args.value refl in
+    let not = c.if-named.ensures in cc)))

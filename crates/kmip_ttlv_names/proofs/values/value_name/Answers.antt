@@ -1,8 +1,6 @@
-use Rattle.std.proofs.Common.{rules, arith, ◌≡◌, ◌+◌, ◌<◌, Some, None, length, Option, List, ℕ, ap, sym, refl, ◌∙◌}
+use Rattle.std.proofs.Common.{rules, arith, Some, None, Option, List, ℕ, ap, sym, ◌∙◌}
 use Rattle.std.proofs.lemmas.Str.Pattern.{split_once_first}
-use Rattle.std.proofs.lemmas.List.{length-drop}
-use Rattle.std.specs.List.{position_or_len}
-use Rattle.kmip_ttlv_names.specs.ValueNames.{is_semicolon, or_else, name_of_value}
+use Rattle.kmip_ttlv_names.specs.ValueNames.{or_else, name_of_value}
 use Rattle.kmip_ttlv_names.proofs.Lists.{first_names, last_names}
 use Rattle.kmip_ttlv_names.proofs.values.value_name.Goals as goal
 

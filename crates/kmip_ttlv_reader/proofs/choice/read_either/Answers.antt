@@ -15,4 +15,5 @@ pub returns-in-Ok-None-clause-read : goal.returns-in-Ok-None-clause-read
 returns-in-Ok-None-clause-read g c =
     let tried = rw c.in-Ok-None.field-0-is at c.in-Ok-None.ensures.read in
     let chosen = rw tried.2 at c.read_chosen.ensures.read in
-    passed g.T.ChoiceValue.own (codes "if " ++ g.R.Rule.condition) (wrapped g.E.Element.form) g.O.VariantList.variants g.T.ChoiceValue.value c.args.typ c.args.scope.now c.args.cursor.now c.read_chosen.new.cursor c.read_chosen.result tried.0 tried.1 chosen
+    passed g.T.ChoiceValue.own (codes "if " ++ g.R.Rule.condition) (wrapped g.E.Element.form) g.O.VariantList.variants g.T.ChoiceValue.value c.args.typ
+    c.args.scope.now c.args.cursor.now c.read_chosen.new.cursor c.read_chosen.result tried.0 tried.1 chosen

@@ -13,4 +13,5 @@ returns-in_err-next-clause-step g c =
     let wanted = rw c.fixed_length.ensures at c.in_ok-length_wanted.ensures in
     let there : nat_lt (length c.args.bytes.now) (c.args.pos + 8 + c.in_ok-n.n) ≡ false = le-ltb _ _ (omega (arith, c.in_ok-n.ensures.there)) in
     let valid : is_valid c.args.typ (take c.in_ok-n.n (drop (c.args.pos + 8) c.args.bytes.now)) ≡ true = search rules in
-    rw (p.1, p.2, c.in_ok-n.ensures.step, wanted, there, valid) (failure_then (end_there c.args.bytes.now c.args.pos c.args.typ c.in_ok-n.n) _ _ c.in_err-next.ensures.step)
+    rw (p.1, p.2, c.in_ok-n.ensures.step, wanted, there, valid) (failure_then (end_there c.args.bytes.now c.args.pos c.args.typ c.in_ok-n.n) _ _
+    c.in_err-next.ensures.step)

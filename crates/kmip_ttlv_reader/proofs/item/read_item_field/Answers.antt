@@ -9,11 +9,17 @@ returns-in-Ok-clause-read g c =
     let s = g.T.ReadItem.form in
     let plain = g.met.T.ReadItem.plain in
     let there = rw c.pos.ensures at c.in-Ok.ensures.step in
-    rw (field_is c.args.tag s (outcome s) c.args.scope.now.bytes.now c.args.scope.now.owner c.args.cursor.now.stored c.args.cursor.now.pos c.args.scope.now.end plain.1 plain.0, there) c.read_item.ensures.read
+    rw (
+      field_is c.args.tag s (outcome s) c.args.scope.now.bytes.now c.args.scope.now.owner c.args.cursor.now.stored c.args.cursor.now.pos c.args.scope.now.end
+          plain.1 plain.0,
+      there,
+    ) c.read_item.ensures.read
 
 pub returns-in-Err-clause-read : goal.returns-in-Err-clause-read
 returns-in-Err-clause-read g c =
     let s = g.T.ReadItem.form in
     let plain = g.met.T.ReadItem.plain in
     let not_there = rw c.pos.ensures at c.in-Err.ensures.step in
-    rw (field_is c.args.tag s (outcome s) c.args.scope.now.bytes.now c.args.scope.now.owner c.args.cursor.now.stored c.args.cursor.now.pos c.args.scope.now.end plain.1 plain.0) (failure_then (field_there c.args.tag c.args.scope.now.bytes.now c.args.scope.now.owner c.args.cursor.now.pos c.args.scope.now.end) _ _ not_there)
+    rw (field_is c.args.tag s (outcome s) c.args.scope.now.bytes.now c.args.scope.now.owner c.args.cursor.now.stored c.args.cursor.now.pos c.args.scope.now.end
+    plain.1 plain.0) (failure_then (field_there c.args.tag c.args.scope.now.bytes.now c.args.scope.now.owner c.args.cursor.now.pos c.args.scope.now.end) _
+    _ not_there)

@@ -11,11 +11,13 @@ loop-text-init g c =
 pub returns-then-eq : goal.returns-then-eq
 returns-then-eq g c =
     let t = g.T.Listed in
-    row_found t.own t.value t.variants c.args.name.now c.args.table.now c.loop-text.text-index c.loop-text-item.result c.requires c.loop-text-test.true c.loop-text-item.is c.if-eq.ensures c.loop-text.invariant
+    row_found t.own t.value t.variants c.args.name.now c.args.table.now c.loop-text.text-index c.loop-text-item.result c.requires c.loop-text-test.true
+    c.loop-text-item.is c.if-eq.ensures c.loop-text.invariant
 
 pub loop-text-preserved : goal.loop-text-preserved
 loop-text-preserved g c =
-    rw add-one (row_later g.T.Listed.variants c.args.name.now c.args.table.now c.loop-text.text-index c.loop-text-item.result c.loop-text-test.true c.loop-text-item.is c.if-eq.ensures c.loop-text.invariant)
+    rw add-one (row_later g.T.Listed.variants c.args.name.now c.args.table.now c.loop-text.text-index c.loop-text-item.result c.loop-text-test.true
+    c.loop-text-item.is c.if-eq.ensures c.loop-text.invariant)
 
 pub returns : goal.returns
 returns g c = row_nowhere g.T.Listed.variants c.args.name.now c.args.table.now c.loop-text.text-index c.loop-text-test.false c.loop-text.invariant

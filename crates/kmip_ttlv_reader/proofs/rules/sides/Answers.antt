@@ -13,5 +13,6 @@ returns-in_err-left c =
 pub returns : goal.returns
 returns c =
     let h = split_once_is c.args.operator.now c.args.body.now c.split_once.result c.split_once.ensures.cases in
-    let s = sides_are c.args.operator.now c.args.body.now c.in_ok-left.left.now c.in_ok-left.right.now (ap (option_map (λ x. (x.0.now, x.1.now))) (sym c.in_ok-left.was) ∙ h) in
+    let s = sides_are c.args.operator.now c.args.body.now c.in_ok-left.left.now c.in_ok-left.right.now
+    (ap (option_map (λ x. (x.0.now, x.1.now))) (sym c.in_ok-left.was) ∙ h) in
     rw s (search rules)

@@ -9,8 +9,10 @@ invariant-loop-values g l =
     let e = g.E.Element in
     let read = outcome e.form in
     (n : ℕ)
-    × (seq_outcome read l.scope.bytes.now l.scope.owner l.fn.cursor.stored l.fn.cursor.pos l.scope.end ≡ with_front (values_by e.value l.values.items) (run_outcome (suc n) read l.fn.cursor.pos l.scope.bytes.now l.scope.owner l.cursor.stored l.cursor.pos l.scope.end))
-    × (length l.scope.bytes.now ≤ n + l.cursor.pos) × (l.fn.cursor.pos + 8 ≤ l.cursor.pos) × (l.cursor.pos ≤ l.scope.end) × (l.cursor.pos ≤ length l.scope.bytes.now) × (0 < length l.values.items)
+    × (seq_outcome read l.scope.bytes.now l.scope.owner l.fn.cursor.stored l.fn.cursor.pos l.scope.end ≡ with_front (values_by e.value l.values.items)
+    (run_outcome (suc n) read l.fn.cursor.pos l.scope.bytes.now l.scope.owner l.cursor.stored l.cursor.pos l.scope.end))
+    × (length l.scope.bytes.now ≤ n + l.cursor.pos) × (l.fn.cursor.pos + 8 ≤ l.cursor.pos) × (l.cursor.pos ≤ l.scope.end)
+    × (l.cursor.pos ≤ length l.scope.bytes.now) × (0 < length l.values.items)
 
 abbrev pub decreases-loop-values : goal.decreases-loop-values
 decreases-loop-values g l = length l.scope.bytes.now - l.cursor.pos

@@ -12,7 +12,10 @@ pub returns-in_err-end : goal.returns-in_err-end
 returns-in_err-end g c =
     let t = g.T.ReadStructure in
     let p = err_from_is_err_and c.from_residual.result c.from_residual.ensures.1 in
-    record { step = rw (p.1, p.2, first_is t.TAG g.T.Fields.FieldList.fields t.DENIES_UNKNOWN c.args.bytes.now) (failure_then (opened (tag_text t.TAG) c.args.bytes.now 0) _ _ (rw c.TAG.ensures at c.in_err-end.ensures.step)) }
+    record {
+      step = rw (p.1, p.2, first_is t.TAG g.T.Fields.FieldList.fields t.DENIES_UNKNOWN c.args.bytes.now)
+          (failure_then (opened (tag_text t.TAG) c.args.bytes.now 0) _ _ (rw c.TAG.ensures at c.in_err-end.ensures.step));
+    }
 
 pub returns-in-Ok : goal.returns-in-Ok
 returns-in-Ok g c =
@@ -25,6 +28,10 @@ pub returns : goal.returns
 returns g c =
     let t = g.T.ReadStructure in
     let opens = rw c.TAG.ensures at c.in_ok-end.ensures.step in
-    let all = all_outcome g.T.Fields.FieldList.fields t.DENIES_UNKNOWN (fields_outcome g.T.Fields.FieldList.fields) c.args.bytes.now (tag_at c.args.bytes.now 0) [] 8 c.in_ok-end.end in
+    let all = all_outcome g.T.Fields.FieldList.fields t.DENIES_UNKNOWN (fields_outcome g.T.Fields.FieldList.fields) c.args.bytes.now (tag_at c.args.bytes.now 0)
+    [] 8 c.in_ok-end.end in
     let read = rw (c.tag_at-owner.ensures, c.new-cursor.ensures) at c.in-Err.ensures.read in
-    record { step = rw (first_is t.TAG g.T.Fields.FieldList.fields t.DENIES_UNKNOWN c.args.bytes.now, opens) (failure_then (within (tag_at c.args.bytes.now 0) all) _ c.within.result (rw c.tag_at-owner.ensures at (c.within.ensures all read))) }
+    record {
+      step = rw (first_is t.TAG g.T.Fields.FieldList.fields t.DENIES_UNKNOWN c.args.bytes.now, opens)
+          (failure_then (within (tag_at c.args.bytes.now 0) all) _ c.within.result (rw c.tag_at-owner.ensures at (c.within.ensures all read)));
+    }

@@ -11,4 +11,5 @@ returns-in_err-next-clause-step g c =
     let p = err_from_is_err_and c.from_residual-in_err-next.result c.from_residual-in_err-next.ensures.1 in
     let some : has_fields g.T.Fields.FieldList.fields ≡ true = search rules in
     let other = rw c.tag_at.ensures at (sym c.is_field.ensures ∙ c.if-is_field.false) in
-    rw (p.1, p.2, c.in_ok-typ.ensures.step, some, other, sym c.DENIES_UNKNOWN.ensures ∙ c.if-DENIES_UNKNOWN.false) (failure_then (item_end c.args.scope.now.bytes.now c.args.pos c.in_ok-typ.typ) _ _ c.in_err-next.ensures.step)
+    rw (p.1, p.2, c.in_ok-typ.ensures.step, some, other, sym c.DENIES_UNKNOWN.ensures ∙ c.if-DENIES_UNKNOWN.false)
+    (failure_then (item_end c.args.scope.now.bytes.now c.args.pos c.in_ok-typ.typ) _ _ c.in_err-next.ensures.step)

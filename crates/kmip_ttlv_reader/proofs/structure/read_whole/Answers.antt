@@ -12,6 +12,7 @@ returns-in-Err-clause-read g c =
     let b = c.args.scope.now.bytes.now in
     let pos = c.args.cursor.now.pos in
     let opens = rw (c.TAG.ensures, c.pos-pos.ensures) at c.in_ok-end.ensures.step in
-    let all = all_outcome g.T.Fields.FieldList.fields t.DENIES_UNKNOWN (fields_outcome g.T.Fields.FieldList.fields) b (tag_at b pos) c.args.cursor.now.stored (pos + 8) c.in_ok-end.end in
+    let all = all_outcome g.T.Fields.FieldList.fields t.DENIES_UNKNOWN (fields_outcome g.T.Fields.FieldList.fields) b (tag_at b pos) c.args.cursor.now.stored
+    (pos + 8) c.in_ok-end.end in
     let read = rw (c.tag_at-owner.ensures, c.go_to.ensures, c.pos-pos.ensures) at c.in-Err.ensures.read in
     rw opens (failure_then (within (tag_at b pos) all) _ c.within.result (rw (c.tag_at-owner.ensures, c.pos-pos.ensures) at (c.within.ensures all read)))

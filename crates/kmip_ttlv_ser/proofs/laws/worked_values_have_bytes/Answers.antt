@@ -1,4 +1,6 @@
-use Rattle.kmip_ttlv_ser.proofs.Rows.{a_transparent_newtype-holds, an_overriding_wrapper-holds, an_overriding_wrapper_over_two-holds, a_doubled_prefix-holds, an_unsigned_number_of_64_bits-holds, a_date_time-holds, a_date_time_before_1970-holds, a_negative_big_integer-holds, an_interval-holds, an_empty_structure-holds, an_empty_sequence-holds}
+use Rattle.kmip_ttlv_ser.proofs.Rows.{a_transparent_newtype-holds, an_overriding_wrapper-holds, an_overriding_wrapper_over_two-holds, a_doubled_prefix-holds}
+use Rattle.kmip_ttlv_ser.proofs.Rows.{an_unsigned_number_of_64_bits-holds, a_date_time-holds, a_date_time_before_1970-holds, a_negative_big_integer-holds}
+use Rattle.kmip_ttlv_ser.proofs.Rows.{an_interval-holds, an_empty_structure-holds, an_empty_sequence-holds}
 use Rattle.kmip_ttlv_ser.proofs.laws.worked_values_have_bytes.Goals as goal
 
 pub returns-clause-a_transparent_newtype : goal.returns-clause-a_transparent_newtype

@@ -15,5 +15,11 @@ returns-in-Some c =
     let all : AllDigits 16 digits = c.in-Some.ensures.digits in
     let ds = take (length bytes - 2) (drop 2 bytes) in
     let rest : ds ≡ drop 2 bytes = take_all (length bytes - 2) (drop 2 bytes) (omega (arith, length-drop 2 bytes)) in
-    let is : found ≡ number bytes = elim c.if-begins.branch [ then-begins w ↦ (let part : digits ≡ ds = ap (λ r. r.now) w.digits-is in prefixed_number bytes ds found w.if-begins.ensures rest (subst (AllDigits 16) part all) (value ∙ ap numeral part)) | else-begins w ↦ (let part : digits ≡ bytes = ap (λ r. r.now) w.digits-is in digits_number bytes found (subst (AllDigits 16) part all) (value ∙ ap numeral part)) ] in
+    let is : found ≡ number bytes =
+    elim c.if-begins.branch [
+      | then-begins w ↦ (let part : digits ≡ ds = ap (λ r. r.now) w.digits-is in
+          prefixed_number bytes ds found w.if-begins.ensures rest (subst (AllDigits 16) part all) (value ∙ ap numeral part))
+      | else-begins w ↦
+          (let part : digits ≡ bytes = ap (λ r. r.now) w.digits-is in digits_number bytes found (subst (AllDigits 16) part all) (value ∙ ap numeral part))
+    ] in
     subst (λ s. found ≡ number s) c.as_bytes-bytes.ensures.value is

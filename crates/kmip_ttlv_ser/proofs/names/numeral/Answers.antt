@@ -12,7 +12,11 @@ returns-then-digit-ge16 c =
     let at = c.loop-at.at in
     let i = c.loop-at.invariant in
     let lt : at < length ds = omega (arith, c.loop-at-test.true) in
-    let value : None ≡ numeral ds = elim c.then-digit-ge16.branch [ then-digit-ge16-via-then-digit-ge16 w ↦ other_byte ds at lt (c.value_of-digit.ensures.other (omega (arith, w.if-digit-ge16.true))) | then-digit-ge16-via-else-digit-ge16+then-value-ge268435456 w ↦ too_far ds at lt (omega (arith, i.1, w.if-value-ge268435456.true)) ] in
+    let value : None ≡ numeral ds = elim c.then-digit-ge16.branch [
+      | then-digit-ge16-via-then-digit-ge16 w ↦
+          other_byte ds at lt (c.value_of-digit.ensures.other (omega (arith, w.if-digit-ge16.true)))
+      | then-digit-ge16-via-else-digit-ge16+then-value-ge268435456 w ↦ too_far ds at lt (omega (arith, i.1, w.if-value-ge268435456.true))
+    ] in
     record { value = value; digits = tt }
 
 pub loop-at-preserved : goal.loop-at-preserved

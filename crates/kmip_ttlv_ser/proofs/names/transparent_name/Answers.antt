@@ -11,9 +11,11 @@ returns c = stripped (codes "Transparent:") c.args.name.now c.strip_prefix.resul
 pub returns-then-not-begins : goal.returns-then-not-begins
 unfolding transparent_name
 returns-then-not-begins c =
-    lacks_prefix (codes "Transparent:") c.args.name.now (subst (λ s. false ≡ starts_with eqb s (codes "Transparent:")) c.as_bytes.ensures.value c.if-not-begins.ensures)
+    lacks_prefix (codes "Transparent:") c.args.name.now (subst (λ s. false ≡ starts_with eqb s (codes "Transparent:")) c.as_bytes.ensures.value
+    c.if-not-begins.ensures)
 
 pub returns-then-is_char_boundary : goal.returns-then-is_char_boundary
 unfolding transparent_name
 returns-then-is_char_boundary c =
-    has_prefix (codes "Transparent:") c.args.name.now _ (subst (λ s. true ≡ starts_with eqb s (codes "Transparent:")) c.as_bytes.ensures.value c.if-not-begins.ensures) c.range_from.ensures.value
+    has_prefix (codes "Transparent:") c.args.name.now _ (subst (λ s. true ≡ starts_with eqb s (codes "Transparent:")) c.as_bytes.ensures.value
+    c.if-not-begins.ensures) c.range_from.ensures.value

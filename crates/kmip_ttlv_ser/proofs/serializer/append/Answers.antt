@@ -6,7 +6,7 @@ use Rattle.kmip_ttlv_ser.specs.WrittenItems.{items}
 use Rattle.kmip_ttlv_ser.specs.Outputs.{Before}
 use Rattle.kmip_ttlv_ser.proofs.Leaves.{place_len}
 use Rattle.kmip_ttlv_ser.proofs.Outputs.{given_nothing, never_fails, gave_all}
-use Rattle.kmip_ttlv_ser.proofs.Refusing.{appended}
+use Rattle.kmip_ttlv_ser.proofs.Failing.{appended}
 use Rattle.kmip_ttlv_ser.proofs.serializer.append.Goals as goal
 
 pub overflow_sub-plan : goal.overflow_sub-plan
@@ -22,9 +22,14 @@ unreachable-requires g c =
     let free = c.in_ok-plan.plan.end.offset - c.len.result in
     let start : Before = record { pending = Some old; room = Some free } in
     let same = ap (λ k. k.0) c.new-2.ensures.sink ∙ c.replace.ensures.value in
-    let room : free ≤ vec_capacity c.new-2.result.sink.0 - vec_len c.new-2.result.sink.0 = subst (λ u. free ≤ vec_capacity u - vec_len u) (sym same) (omega (arith, c.in_ok-reserve.ensures.ok, c.in_ok-reserve.ensures.len)) in
-    let given = c.emit-whole.ensures m.trees start m.are (c.deref.ensures.value ∙ m.kept) (given_nothing old c.new-2.result.sink.0.items free _ c.new-2.result.failure (ap (λ k. k.items) same ∙ c.in_ok-reserve.ensures.items) room c.new-2.ensures.failure) in
-    never_fails (items (g.T.Serialize.stated c.args.value.now) Nothing) place c.in_ok-plan.plan.end c.in_ok-plan.plan.sizes.items old free (Some c.emit-whole.result.sink.0.items) (Some (vec_capacity c.emit-whole.result.sink.0 - vec_len c.emit-whole.result.sink.0)) c.emit-whole.result.failure _ m (omega arith) c.in-Some.is given
+    let room : free ≤ vec_capacity c.new-2.result.sink.0 - vec_len c.new-2.result.sink.0 = subst (λ u. free ≤ vec_capacity u - vec_len u) (sym same)
+    (omega (arith, c.in_ok-reserve.ensures.ok, c.in_ok-reserve.ensures.len)) in
+    let given = c.emit-whole.ensures m.trees start m.are (c.deref.ensures.value ∙ m.kept)
+    (given_nothing old c.new-2.result.sink.0.items free _ c.new-2.result.failure (ap (λ k. k.items) same ∙ c.in_ok-reserve.ensures.items) room
+    c.new-2.ensures.failure) in
+    never_fails (items (g.T.Serialize.stated c.args.value.now) Nothing) place c.in_ok-plan.plan.end c.in_ok-plan.plan.sizes.items old free
+    (Some c.emit-whole.result.sink.0.items) (Some (vec_capacity c.emit-whole.result.sink.0 - vec_len c.emit-whole.result.sink.0))
+    c.emit-whole.result.failure _ m (omega arith) c.in-Some.is given
 
 pub returns : goal.returns
 returns g c =
@@ -34,8 +39,12 @@ returns g c =
     let free = c.in_ok-plan.plan.end.offset - c.len.result in
     let start : Before = record { pending = Some old; room = Some free } in
     let same = ap (λ k. k.0) c.new-2.ensures.sink ∙ c.replace.ensures.value in
-    let room : free ≤ vec_capacity c.new-2.result.sink.0 - vec_len c.new-2.result.sink.0 = subst (λ u. free ≤ vec_capacity u - vec_len u) (sym same) (omega (arith, c.in_ok-reserve.ensures.ok, c.in_ok-reserve.ensures.len)) in
-    let given = c.emit-whole.ensures m.trees start m.are (c.deref.ensures.value ∙ m.kept) (given_nothing old c.new-2.result.sink.0.items free _ c.new-2.result.failure (ap (λ k. k.items) same ∙ c.in_ok-reserve.ensures.items) room c.new-2.ensures.failure) in
+    let room : free ≤ vec_capacity c.new-2.result.sink.0 - vec_len c.new-2.result.sink.0 = subst (λ u. free ≤ vec_capacity u - vec_len u) (sym same)
+    (omega (arith, c.in_ok-reserve.ensures.ok, c.in_ok-reserve.ensures.len)) in
+    let given = c.emit-whole.ensures m.trees start m.are (c.deref.ensures.value ∙ m.kept)
+    (given_nothing old c.new-2.result.sink.0.items free _ c.new-2.result.failure (ap (λ k. k.items) same ∙ c.in_ok-reserve.ensures.items) room
+    c.new-2.ensures.failure) in
     let here : c.len.result ≡ length old = omega (arith, c.len.ensures, c.args.out.now.ok.0) in
     appended (g.T.Serialize.stated c.args.value.now) place c.in_ok-plan.plan.end c.in_ok-plan.plan.sizes.items old c.emit-whole.result.sink.0.items here m
-    (gave_all start (bytes_all m.trees) old c.emit-whole.result.sink.0.items (Some (vec_capacity c.emit-whole.result.sink.0 - vec_len c.emit-whole.result.sink.0)) c.emit-whole.result.failure c.in_default.is refl given)
+    (gave_all start (bytes_all m.trees) old c.emit-whole.result.sink.0.items
+    (Some (vec_capacity c.emit-whole.result.sink.0 - vec_len c.emit-whole.result.sink.0)) c.emit-whole.result.failure c.in_default.is refl given)

@@ -1,6 +1,6 @@
 use Rattle.std.proofs.Common.{◌≡◌, ◌≤◌, ◌+◌, ◌-◌, take, length, arith, sym, ap, ◌∙◌}
 use Rattle.std.proofs.lemmas.Result.{err_from_is_err_and}
-use Rattle.kmip_ttlv_types.proofs.Taken.{TakesMore-after, Behind-kept}
+use Rattle.kmip_ttlv_types.proofs.Taken.{TakesMore-after, Behind-stays}
 use Rattle.kmip_ttlv_types.proofs.stream.append_bytes.Goals as goal
 
 pub returns-in_err-append_piece-clause-takes : goal.returns-in_err-append_piece-clause-takes
@@ -16,4 +16,4 @@ returns-in_err-append_piece-clause-kept g c =
     let has = c.loop-due.bytes in
     let kept : take (length has.items) c.append_piece.new.bytes.items ≡ has.items =
     ap (λ n. take n c.append_piece.new.bytes.items) (sym has.ok.0) ∙ c.append_piece.ensures.kept in
-    ap (λ n. take n c.append_piece.new.bytes.items) had.ok.0 ∙ Behind-kept _ _ _ _ _ _ c.loop-due.invariant.1 kept
+    ap (λ n. take n c.append_piece.new.bytes.items) had.ok.0 ∙ Behind-stays _ _ _ _ _ _ c.loop-due.invariant.1 kept

@@ -24,5 +24,12 @@ pub returns-in-Err : goal.returns-in-Err
 returns-in-Err g c =
     let inv = c.loop-filled.invariant in
     let same : length c.read_at.new.buf ≡ length c.loop-filled.buf = c.read_at.auto.buf in
-    let long = length-take c.loop-filled.filled c.loop-filled.buf in
-    (refl, record { bytes = take c.loop-filled.filled c.loop-filled.buf; within = omega (arith, long); consumes = Consumes-kept _ _ _ _ inv.2 c.in-Err.ensures.err })
+    let long = length-take c.loop-filled.filled c.loop-filled.buf in (
+      refl,
+      record {
+        bytes = take c.loop-filled.filled c.loop-filled.buf;
+        within = omega (arith, long);
+        consumes =
+            Consumes-kept _ _ _ _ inv.2 c.in-Err.ensures.err;
+      },
+    )

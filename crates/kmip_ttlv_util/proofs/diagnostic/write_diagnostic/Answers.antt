@@ -14,7 +14,9 @@ returns-in_err-diagnose_to g c =
     let last = c.diagnose_to.new.out in
     let s = c.in_err-diagnose_to.ensures.err in
     let name = s.0 ∙ c.new-pieces.ensures.same_reference in
-    let written = piece_fails (λ (t : List ℕ). t ≡ whole) first.writer.ghost_name last.writer.ghost_name (has c.args.writer.now) (has first.writer.now) (has last.writer.now) (waiting first.buffer) record { text = whole; is = refl; holds = s } (ap has c.new-pieces.ensures.writer) c.new-pieces.ensures.empty in
+    let written = piece_fails (λ (t : List ℕ). t ≡ whole) first.writer.ghost_name last.writer.ghost_name (has c.args.writer.now) (has first.writer.now)
+    (has last.writer.now) (waiting first.buffer) record { text = whole; is = refl; holds = s } (ap has c.new-pieces.ensures.writer)
+    c.new-pieces.ensures.empty in
     search rules
 
 pub returns : goal.returns
@@ -26,5 +28,8 @@ returns g c =
     let end = c.finish.new.self in
     let s = c.in_ok-diagnose_to.ensures.ok in
     let name = c.finish.ensures.same_reference ∙ s.0 ∙ c.new-pieces.ensures.same_reference in
-    let written : WritesText (λ (t : List ℕ). t ≡ whole) (has c.args.writer.now) (has end.writer.now) c.finish.result = piece_ends c.finish.result (λ (t : List ℕ). t ≡ whole) first.writer.ghost_name last.writer.ghost_name (has c.args.writer.now) (has first.writer.now) (has last.writer.now) (has end.writer.now) (waiting first.buffer) (waiting last.buffer) record { text = whole; is = refl; holds = s } (ap has c.new-pieces.ensures.writer) c.new-pieces.ensures.empty c.finish.ensures.ok c.finish.ensures.err in
+    let written : WritesText (λ (t : List ℕ). t ≡ whole) (has c.args.writer.now) (has end.writer.now) c.finish.result =
+    piece_ends c.finish.result (λ (t : List ℕ). t ≡ whole) first.writer.ghost_name last.writer.ghost_name (has c.args.writer.now) (has first.writer.now)
+    (has last.writer.now) (has end.writer.now) (waiting first.buffer) (waiting last.buffer) record { text = whole; is = refl; holds = s }
+    (ap has c.new-pieces.ensures.writer) c.new-pieces.ensures.empty c.finish.ensures.ok c.finish.ensures.err in
     search rules

@@ -7,11 +7,13 @@ use Rattle.kmip_ttlv_util.proofs.HexDigits.{last_ascii, end_of}
 use Rattle.kmip_ttlv_util.proofs.digits.push_last.Goals as goal
 
 pub from_utf8_unchecked-requires : goal.from_utf8_unchecked-requires
-from_utf8_unchecked-requires g c = subst IsUtf8 (sym (end_of 2 6 c.args.n c.eight-digits.result (omega arith) c.eight-digits.ensures)) (IsUtf8-from_ascii _ (last_ascii 6 c.args.n))
+from_utf8_unchecked-requires g c = subst IsUtf8 (sym (end_of 2 6 c.args.n c.eight-digits.result (omega arith) c.eight-digits.ensures))
+    (IsUtf8-from_ascii _ (last_ascii 6 c.args.n))
 
 pub returns-then-count-eq6 : goal.returns-then-count-eq6
 returns-then-count-eq6 g c =
-    let text = c.from_utf8_unchecked.ensures ∙ end_of 2 6 c.args.n c.eight-digits.result (omega arith) c.eight-digits.ensures ∙ ap (λ (k : ℕ). last_digits k c.args.n) (sym c.if-count-eq6.true) in
+    let text = c.from_utf8_unchecked.ensures ∙ end_of 2 6 c.args.n c.eight-digits.result (omega arith) c.eight-digits.ensures
+    ∙ ap (λ (k : ℕ). last_digits k c.args.n) (sym c.if-count-eq6.true) in
     record {
       ok = ok_same g.S.TextSink.adds g.S.TextSink.breaks c.push_str.result c.args.out.now c.push_str.new.self _ _ c.push_str.ensures.ok text;
       err = err_same g.S.TextSink.adds g.S.TextSink.breaks c.push_str.result c.args.out.now c.push_str.new.self _ _ c.push_str.ensures.err text;
@@ -25,7 +27,8 @@ from_utf8_unchecked-requires-2 g c =
 pub returns : goal.returns
 returns g c =
     let same : 8 - (8 - c.args.count) ≡ c.args.count = omega (arith, c.requires) in
-    let text = c.from_utf8_unchecked-2.ensures ∙ end_of (8 - c.args.count) (8 - (8 - c.args.count)) c.args.n c.eight-digits.result (omega (arith, c.requires)) c.eight-digits.ensures ∙ ap (λ (k : ℕ). last_digits k c.args.n) same in
+    let text = c.from_utf8_unchecked-2.ensures ∙ end_of (8 - c.args.count) (8 - (8 - c.args.count)) c.args.n c.eight-digits.result (omega (arith, c.requires))
+    c.eight-digits.ensures ∙ ap (λ (k : ℕ). last_digits k c.args.n) same in
     record {
       ok = ok_same g.S.TextSink.adds g.S.TextSink.breaks c.push_str-2.result c.args.out.now c.push_str-2.new.self _ _ c.push_str-2.ensures.ok text;
       err = err_same g.S.TextSink.adds g.S.TextSink.breaks c.push_str-2.result c.args.out.now c.push_str-2.new.self _ _ c.push_str-2.ensures.err text;

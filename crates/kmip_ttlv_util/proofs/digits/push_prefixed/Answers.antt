@@ -6,12 +6,14 @@ use Rattle.kmip_ttlv_util.proofs.HexDigits.{six_of, six_shown, prefixed_ascii}
 use Rattle.kmip_ttlv_util.proofs.digits.push_prefixed.Goals as goal
 
 pub from_utf8_unchecked-requires : goal.from_utf8_unchecked-requires
-from_utf8_unchecked-requires g c = subst IsUtf8 (sym (ap (λ (s : List ℕ). 48 ∷ 120 ∷ s) (six_of c.eight-d.result c.args.n c.eight-d.ensures))) (IsUtf8-from_ascii _ (prefixed_ascii c.args.n))
+from_utf8_unchecked-requires g c = subst IsUtf8 (sym (ap (λ (s : List ℕ). 48 ∷ 120 ∷ s) (six_of c.eight-d.result c.args.n c.eight-d.ensures)))
+    (IsUtf8-from_ascii _ (prefixed_ascii c.args.n))
 
 pub returns : goal.returns
 returns g c =
     let six : c.shown.result ≡ 6 = omega arith in
-    let text = c.from_utf8_unchecked.ensures ∙ ap (λ (s : List ℕ). 48 ∷ 120 ∷ s) (six_shown c.args.least c.shown.result c.args.n c.eight-d.result c.eight-d.ensures six c.shown.ensures.digits) in
+    let text = c.from_utf8_unchecked.ensures
+    ∙ ap (λ (s : List ℕ). 48 ∷ 120 ∷ s) (six_shown c.args.least c.shown.result c.args.n c.eight-d.result c.eight-d.ensures six c.shown.ensures.digits) in
     record {
       ok = ok_same g.S.TextSink.adds g.S.TextSink.breaks c.push_str.result c.args.out.now c.push_str.new.self _ _ c.push_str.ensures.ok text;
       err = err_same g.S.TextSink.adds g.S.TextSink.breaks c.push_str.result c.args.out.now c.push_str.new.self _ _ c.push_str.ensures.err text;

@@ -18,7 +18,9 @@ pub returns-in_err-push_str-2-clause-err : goal.returns-in_err-push_str-2-clause
 unfolding depth_mark
 returns-in_err-push_str-2-clause-err g c =
     let text : c.format.result.now ≡ decimal c.args.depth = search rules in
-    err_now g.S.TextSink.adds g.S.TextSink.breaks _ _ _ _ (g.met.S.TextSink.breaks_second _ _ _ levels _ (c.in_ok-push_str.ensures.ok) (g.met.S.TextSink.breaks_first _ _ (decimal c.args.depth) _ (breaks_same g.S.TextSink.adds g.S.TextSink.breaks _ _ _ _ c.in_err-push_str-2.ensures.err text)))
+    err_now g.S.TextSink.adds g.S.TextSink.breaks _ _ _ _ (g.met.S.TextSink.breaks_second _ _ _ levels _ (c.in_ok-push_str.ensures.ok)
+    (g.met.S.TextSink.breaks_first _ _ (decimal c.args.depth) _
+    (breaks_same g.S.TextSink.adds g.S.TextSink.breaks _ _ _ _ c.in_err-push_str-2.ensures.err text)))
 
 pub returns : goal.returns
 unfolding depth_mark
@@ -26,6 +28,10 @@ returns g c =
     let text : c.format.result.now ≡ decimal c.args.depth = search rules in
     let number = adds_same g.S.TextSink.adds g.S.TextSink.breaks _ _ _ _ c.in_ok-push_str-2.ensures.ok text in
     record {
-      ok = ok_then g.S.TextSink.adds g.S.TextSink.breaks g.met.S.TextSink.adds_both c.push_str-3.result _ _ _ levels _ (c.in_ok-push_str.ensures.ok) (ok_then g.S.TextSink.adds g.S.TextSink.breaks g.met.S.TextSink.adds_both c.push_str-3.result _ _ _ (decimal c.args.depth) _ number c.push_str-3.ensures.ok);
-      err = err_then g.S.TextSink.adds g.S.TextSink.breaks g.met.S.TextSink.breaks_second c.push_str-3.result _ _ _ levels _ (c.in_ok-push_str.ensures.ok) (err_then g.S.TextSink.adds g.S.TextSink.breaks g.met.S.TextSink.breaks_second c.push_str-3.result _ _ _ (decimal c.args.depth) _ number c.push_str-3.ensures.err);
+      ok = ok_then g.S.TextSink.adds g.S.TextSink.breaks g.met.S.TextSink.adds_both c.push_str-3.result _ _ _ levels _ (c.in_ok-push_str.ensures.ok)
+          (ok_then g.S.TextSink.adds g.S.TextSink.breaks g.met.S.TextSink.adds_both c.push_str-3.result _ _ _ (decimal c.args.depth) _ number
+          c.push_str-3.ensures.ok);
+      err = err_then g.S.TextSink.adds g.S.TextSink.breaks g.met.S.TextSink.breaks_second c.push_str-3.result _ _ _ levels _ (c.in_ok-push_str.ensures.ok)
+          (err_then g.S.TextSink.adds g.S.TextSink.breaks g.met.S.TextSink.breaks_second c.push_str-3.result _ _ _ (decimal c.args.depth) _ number
+          c.push_str-3.ensures.err);
     }

@@ -13,7 +13,8 @@ loop-init g c =
 pub loop-preserved : goal.loop-preserved
 loop-preserved g c =
     let next : c.loop.counter + 1 ≡ suc c.loop.counter = omega arith in
-    adds_same g.S.TextSink.adds g.S.TextSink.breaks _ _ _ _ (g.met.S.TextSink.adds_both _ _ _ (indent c.loop.counter) (32 ∷ 32 ∷ []) c.loop.invariant c.in_ok-push_str.ensures.ok) (sym (indent_more c.loop.counter) ∙ ap indent (sym next))
+    adds_same g.S.TextSink.adds g.S.TextSink.breaks _ _ _ _ (g.met.S.TextSink.adds_both _ _ _ (indent c.loop.counter) (32 ∷ 32 ∷ []) c.loop.invariant
+    c.in_ok-push_str.ensures.ok) (sym (indent_more c.loop.counter) ∙ ap indent (sym next))
 
 pub from_utf8_unchecked-requires : goal.from_utf8_unchecked-requires
 from_utf8_unchecked-requires g c =
@@ -31,4 +32,6 @@ pub returns-in_err-push_str-clause-err : goal.returns-in_err-push_str-clause-err
 returns-in_err-push_str-clause-err g c =
     let rest = indent (c.args.depth - (c.loop.counter + 1)) in
     let whole : (indent c.loop.counter ++ (32 ∷ 32 ∷ [])) ++ rest ≡ indent c.args.depth = indent_parts c.loop.counter c.args.depth (omega arith) in
-    err_now g.S.TextSink.adds g.S.TextSink.breaks _ _ _ _ (breaks_same g.S.TextSink.adds g.S.TextSink.breaks _ _ _ _ (g.met.S.TextSink.breaks_first _ _ _ rest (g.met.S.TextSink.breaks_second _ _ _ (indent c.loop.counter) (32 ∷ 32 ∷ []) c.loop.invariant c.in_err-push_str.ensures.err)) whole)
+    err_now g.S.TextSink.adds g.S.TextSink.breaks _ _ _ _ (breaks_same g.S.TextSink.adds g.S.TextSink.breaks _ _ _ _
+    (g.met.S.TextSink.breaks_first _ _ _ rest (g.met.S.TextSink.breaks_second _ _ _ (indent c.loop.counter) (32 ∷ 32 ∷ []) c.loop.invariant
+    c.in_err-push_str.ensures.err)) whole)

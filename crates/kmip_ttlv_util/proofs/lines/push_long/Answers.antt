@@ -9,6 +9,8 @@ returns-in_err-push_str-clause-err g c =
 pub returns : goal.returns
 returns g c =
     record {
-      ok = ok_then g.S.TextSink.adds g.S.TextSink.breaks g.met.S.TextSink.adds_both c.push_wide.result _ _ _ (codes "0x") _ (c.in_ok-push_str.ensures.ok) (c.push_wide.ensures.ok);
-      err = err_then g.S.TextSink.adds g.S.TextSink.breaks g.met.S.TextSink.breaks_second c.push_wide.result _ _ _ (codes "0x") _ (c.in_ok-push_str.ensures.ok) (c.push_wide.ensures.err);
+      ok = ok_then g.S.TextSink.adds g.S.TextSink.breaks g.met.S.TextSink.adds_both c.push_wide.result _ _ _ (codes "0x") _ (c.in_ok-push_str.ensures.ok)
+          (c.push_wide.ensures.ok);
+      err = err_then g.S.TextSink.adds g.S.TextSink.breaks g.met.S.TextSink.breaks_second c.push_wide.result _ _ _ (codes "0x") _ (c.in_ok-push_str.ensures.ok)
+          (c.push_wide.ensures.err);
     }

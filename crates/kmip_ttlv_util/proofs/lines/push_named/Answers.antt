@@ -9,15 +9,24 @@ returns-in_err-push_str-clause-err g c =
 
 pub returns-in_err-push_str-2-clause-err : goal.returns-in_err-push_str-2-clause-err
 returns-in_err-push_str-2-clause-err g c =
-    err_now g.S.TextSink.adds g.S.TextSink.breaks _ _ _ _ (g.met.S.TextSink.breaks_second _ _ _ c.args.name.now _ (c.in_ok-push_str.ensures.ok) (g.met.S.TextSink.breaks_first _ _ (codes " (") _ (c.in_err-push_str-2.ensures.err)))
+    err_now g.S.TextSink.adds g.S.TextSink.breaks _ _ _ _ (g.met.S.TextSink.breaks_second _ _ _ c.args.name.now _ (c.in_ok-push_str.ensures.ok)
+    (g.met.S.TextSink.breaks_first _ _ (codes " (") _ (c.in_err-push_str-2.ensures.err)))
 
 pub returns-in_err-push_four-clause-err : goal.returns-in_err-push_four-clause-err
 returns-in_err-push_four-clause-err g c =
-    err_now g.S.TextSink.adds g.S.TextSink.breaks _ _ _ _ (g.met.S.TextSink.breaks_second _ _ _ c.args.name.now _ (c.in_ok-push_str.ensures.ok) (g.met.S.TextSink.breaks_second _ _ _ (codes " (") _ (c.in_ok-push_str-2.ensures.ok) (g.met.S.TextSink.breaks_first _ _ (hex_padded 4 c.args.n) (codes ")") (c.in_err-push_four.ensures.err))))
+    err_now g.S.TextSink.adds g.S.TextSink.breaks _ _ _ _ (g.met.S.TextSink.breaks_second _ _ _ c.args.name.now _ (c.in_ok-push_str.ensures.ok)
+    (g.met.S.TextSink.breaks_second _ _ _ (codes " (") _ (c.in_ok-push_str-2.ensures.ok) (g.met.S.TextSink.breaks_first _ _ (hex_padded 4 c.args.n)
+    (codes ")") (c.in_err-push_four.ensures.err))))
 
 pub returns : goal.returns
 returns g c =
     record {
-      ok = ok_then g.S.TextSink.adds g.S.TextSink.breaks g.met.S.TextSink.adds_both c.push_str-3.result _ _ _ c.args.name.now _ (c.in_ok-push_str.ensures.ok) (ok_then g.S.TextSink.adds g.S.TextSink.breaks g.met.S.TextSink.adds_both c.push_str-3.result _ _ _ (codes " (") _ (c.in_ok-push_str-2.ensures.ok) (ok_then g.S.TextSink.adds g.S.TextSink.breaks g.met.S.TextSink.adds_both c.push_str-3.result _ _ _ (hex_padded 4 c.args.n) (codes ")") (c.in_ok-push_four.ensures.ok) (c.push_str-3.ensures.ok)));
-      err = err_then g.S.TextSink.adds g.S.TextSink.breaks g.met.S.TextSink.breaks_second c.push_str-3.result _ _ _ c.args.name.now _ (c.in_ok-push_str.ensures.ok) (err_then g.S.TextSink.adds g.S.TextSink.breaks g.met.S.TextSink.breaks_second c.push_str-3.result _ _ _ (codes " (") _ (c.in_ok-push_str-2.ensures.ok) (err_then g.S.TextSink.adds g.S.TextSink.breaks g.met.S.TextSink.breaks_second c.push_str-3.result _ _ _ (hex_padded 4 c.args.n) (codes ")") (c.in_ok-push_four.ensures.ok) (c.push_str-3.ensures.err)));
+      ok = ok_then g.S.TextSink.adds g.S.TextSink.breaks g.met.S.TextSink.adds_both c.push_str-3.result _ _ _ c.args.name.now _ (c.in_ok-push_str.ensures.ok)
+          (ok_then g.S.TextSink.adds g.S.TextSink.breaks g.met.S.TextSink.adds_both c.push_str-3.result _ _ _ (codes " (") _ (c.in_ok-push_str-2.ensures.ok)
+          (ok_then g.S.TextSink.adds g.S.TextSink.breaks g.met.S.TextSink.adds_both c.push_str-3.result _ _ _ (hex_padded 4 c.args.n) (codes ")")
+          (c.in_ok-push_four.ensures.ok) (c.push_str-3.ensures.ok)));
+      err = err_then g.S.TextSink.adds g.S.TextSink.breaks g.met.S.TextSink.breaks_second c.push_str-3.result _ _ _ c.args.name.now _
+          (c.in_ok-push_str.ensures.ok) (err_then g.S.TextSink.adds g.S.TextSink.breaks g.met.S.TextSink.breaks_second c.push_str-3.result _ _ _ (codes " (") _
+          (c.in_ok-push_str-2.ensures.ok) (err_then g.S.TextSink.adds g.S.TextSink.breaks g.met.S.TextSink.breaks_second c.push_str-3.result _ _ _
+          (hex_padded 4 c.args.n) (codes ")") (c.in_ok-push_four.ensures.ok) (c.push_str-3.ensures.err)));
     }

@@ -8,13 +8,21 @@ use Rattle.kmip_ttlv_util.proofs.lines.push_named_part.Goals as goal
 
 pub returns-in_err-push_str-clause-err : goal.returns-in_err-push_str-clause-err
 returns-in_err-push_str-clause-err g c =
-    err_now g.S.TextSink.adds g.S.TextSink.breaks _ _ _ _ (g.met.S.TextSink.breaks_second _ _ _ _ _ (c.in_ok-push_indent.ensures.ok) (g.met.S.TextSink.breaks_first _ _ (codes "Tag: ") _ (c.in_err-push_str.ensures.err)))
+    err_now g.S.TextSink.adds g.S.TextSink.breaks _ _ _ _ (g.met.S.TextSink.breaks_second _ _ _ _ _ (c.in_ok-push_indent.ensures.ok)
+    (g.met.S.TextSink.breaks_first _ _ (codes "Tag: ") _ (c.in_err-push_str.ensures.err)))
 
 pub returns : goal.returns
 returns g c =
     let is = ap (tag_named (Some c.in-Some.name.now)) c.deref-2.ensures in
-    let text = ap (λ (o : Option (Bor (List ℕ))). indent c.args.depth ++ (codes "Tag: " ++ tag_named (option_map (λ s. s.now) o) c.args.tag)) (sym c.in-Some.is) in
+    let text = ap (λ (o : Option (Bor (List ℕ))). indent c.args.depth ++ (codes "Tag: " ++ tag_named (option_map (λ s. s.now) o) c.args.tag))
+    (sym c.in-Some.is) in
     record {
-      ok = ok_same g.S.TextSink.adds g.S.TextSink.breaks c.push_named.result _ _ _ _ (ok_then g.S.TextSink.adds g.S.TextSink.breaks g.met.S.TextSink.adds_both c.push_named.result _ _ _ _ _ (c.in_ok-push_indent.ensures.ok) (ok_then g.S.TextSink.adds g.S.TextSink.breaks g.met.S.TextSink.adds_both c.push_named.result _ _ _ (codes "Tag: ") _ (c.in_ok-push_str.ensures.ok) (ok_same g.S.TextSink.adds g.S.TextSink.breaks c.push_named.result _ _ _ _ c.push_named.ensures.ok is))) text;
-      err = err_same g.S.TextSink.adds g.S.TextSink.breaks c.push_named.result _ _ _ _ (err_then g.S.TextSink.adds g.S.TextSink.breaks g.met.S.TextSink.breaks_second c.push_named.result _ _ _ _ _ (c.in_ok-push_indent.ensures.ok) (err_then g.S.TextSink.adds g.S.TextSink.breaks g.met.S.TextSink.breaks_second c.push_named.result _ _ _ (codes "Tag: ") _ (c.in_ok-push_str.ensures.ok) (err_same g.S.TextSink.adds g.S.TextSink.breaks c.push_named.result _ _ _ _ c.push_named.ensures.err is))) text;
+      ok = ok_same g.S.TextSink.adds g.S.TextSink.breaks c.push_named.result _ _ _ _
+          (ok_then g.S.TextSink.adds g.S.TextSink.breaks g.met.S.TextSink.adds_both c.push_named.result _ _ _ _ _ (c.in_ok-push_indent.ensures.ok)
+          (ok_then g.S.TextSink.adds g.S.TextSink.breaks g.met.S.TextSink.adds_both c.push_named.result _ _ _ (codes "Tag: ") _ (c.in_ok-push_str.ensures.ok)
+          (ok_same g.S.TextSink.adds g.S.TextSink.breaks c.push_named.result _ _ _ _ c.push_named.ensures.ok is))) text;
+      err = err_same g.S.TextSink.adds g.S.TextSink.breaks c.push_named.result _ _ _ _
+          (err_then g.S.TextSink.adds g.S.TextSink.breaks g.met.S.TextSink.breaks_second c.push_named.result _ _ _ _ _ (c.in_ok-push_indent.ensures.ok)
+          (err_then g.S.TextSink.adds g.S.TextSink.breaks g.met.S.TextSink.breaks_second c.push_named.result _ _ _ (codes "Tag: ") _
+          (c.in_ok-push_str.ensures.ok) (err_same g.S.TextSink.adds g.S.TextSink.breaks c.push_named.result _ _ _ _ c.push_named.ensures.err is))) text;
     }

@@ -9,6 +9,8 @@ returns-in_err-push_str-clause-err g c =
 pub returns : goal.returns
 returns g c =
     record {
-      ok = ok_then g.S.TextSink.adds g.S.TextSink.breaks g.met.S.TextSink.adds_both c.push_four.result _ _ _ (codes "Tag: ") _ (c.in_ok-push_str.ensures.ok) (c.push_four.ensures.ok);
-      err = err_then g.S.TextSink.adds g.S.TextSink.breaks g.met.S.TextSink.breaks_second c.push_four.result _ _ _ (codes "Tag: ") _ (c.in_ok-push_str.ensures.ok) (c.push_four.ensures.err);
+      ok = ok_then g.S.TextSink.adds g.S.TextSink.breaks g.met.S.TextSink.adds_both c.push_four.result _ _ _ (codes "Tag: ") _ (c.in_ok-push_str.ensures.ok)
+          (c.push_four.ensures.ok);
+      err = err_then g.S.TextSink.adds g.S.TextSink.breaks g.met.S.TextSink.breaks_second c.push_four.result _ _ _ (codes "Tag: ") _
+          (c.in_ok-push_str.ensures.ok) (c.push_four.ensures.err);
     }

@@ -5,7 +5,9 @@ use Rattle.kmip_ttlv_util.proofs.Trimmed.{redacted_ok}
 use Rattle.kmip_ttlv_util.proofs.named.read_back_named.Goals as goal
 
 pub returns-clause-redacted : goal.returns-clause-redacted
-returns-clause-redacted g c = redacted_ok (name_in c.args.names.now) c.args.prefix.now c.args.prefix.now c.args.text.now c.read_back.result refl c.read_back.ensures.undiag c.read_back.ensures.utf8
+returns-clause-redacted g c = redacted_ok (name_in c.args.names.now) c.args.prefix.now c.args.prefix.now c.args.text.now c.read_back.result refl
+    c.read_back.ensures.undiag c.read_back.ensures.utf8
 
 pub returns-clause-longest : goal.returns-clause-longest
-returns-clause-longest g c = longest_ok (name_in c.args.names.now) c.args.prefix.now c.args.prefix.now c.args.text.now c.read_back.result refl c.read_back.ensures.undiag
+returns-clause-longest g c = longest_ok (name_in c.args.names.now) c.args.prefix.now c.args.prefix.now c.args.text.now c.read_back.result refl
+    c.read_back.ensures.undiag

@@ -7,7 +7,9 @@ use Rattle.kmip_ttlv_util.proofs.Loop.{Walking}
 use Rattle.kmip_ttlv_util.proofs.pretty.print_to.Given as goal
 
 abbrev pub invariant-walk : goal.invariant-walk
-invariant-walk g l = (count : ℕ) × SomeText (λ t. (wording : List ℕ) → Walking (pretty_style (name_in l.names) l.closed l.bytes wording) l.closed l.bytes t count (place_of l.walk)) (λ t. g.S.TextSink.adds l.fn.out t l.out)
+invariant-walk g l = (count : ℕ)
+    × SomeText (λ t. (wording : List ℕ) → Walking (pretty_style (name_in l.names) l.closed l.bytes wording) l.closed l.bytes t count (place_of l.walk))
+    (λ t. g.S.TextSink.adds l.fn.out t l.out)
 
 abbrev pub decreases-walk : goal.decreases-walk
 decreases-walk g l = 2 * (length l.bytes - l.walk.pos) + length l.walk.ends.items

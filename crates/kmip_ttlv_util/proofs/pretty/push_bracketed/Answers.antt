@@ -8,11 +8,16 @@ returns-in_err-push_str-clause-err g c =
 
 pub returns-in_err-push_str-2-clause-err : goal.returns-in_err-push_str-2-clause-err
 returns-in_err-push_str-2-clause-err g c =
-    err_now g.S.TextSink.adds g.S.TextSink.breaks _ _ _ _ (g.met.S.TextSink.breaks_second _ _ _ (codes " (") _ (c.in_ok-push_str.ensures.ok) (g.met.S.TextSink.breaks_first _ _ c.args.text.now _ (c.in_err-push_str-2.ensures.err)))
+    err_now g.S.TextSink.adds g.S.TextSink.breaks _ _ _ _ (g.met.S.TextSink.breaks_second _ _ _ (codes " (") _ (c.in_ok-push_str.ensures.ok)
+    (g.met.S.TextSink.breaks_first _ _ c.args.text.now _ (c.in_err-push_str-2.ensures.err)))
 
 pub returns : goal.returns
 returns g c =
     record {
-      ok = ok_then g.S.TextSink.adds g.S.TextSink.breaks g.met.S.TextSink.adds_both c.push_str-3.result _ _ _ (codes " (") _ (c.in_ok-push_str.ensures.ok) (ok_then g.S.TextSink.adds g.S.TextSink.breaks g.met.S.TextSink.adds_both c.push_str-3.result _ _ _ c.args.text.now _ (c.in_ok-push_str-2.ensures.ok) (c.push_str-3.ensures.ok));
-      err = err_then g.S.TextSink.adds g.S.TextSink.breaks g.met.S.TextSink.breaks_second c.push_str-3.result _ _ _ (codes " (") _ (c.in_ok-push_str.ensures.ok) (err_then g.S.TextSink.adds g.S.TextSink.breaks g.met.S.TextSink.breaks_second c.push_str-3.result _ _ _ c.args.text.now _ (c.in_ok-push_str-2.ensures.ok) (c.push_str-3.ensures.err));
+      ok = ok_then g.S.TextSink.adds g.S.TextSink.breaks g.met.S.TextSink.adds_both c.push_str-3.result _ _ _ (codes " (") _ (c.in_ok-push_str.ensures.ok)
+          (ok_then g.S.TextSink.adds g.S.TextSink.breaks g.met.S.TextSink.adds_both c.push_str-3.result _ _ _ c.args.text.now _ (c.in_ok-push_str-2.ensures.ok)
+          (c.push_str-3.ensures.ok));
+      err = err_then g.S.TextSink.adds g.S.TextSink.breaks g.met.S.TextSink.breaks_second c.push_str-3.result _ _ _ (codes " (") _ (c.in_ok-push_str.ensures.ok)
+          (err_then g.S.TextSink.adds g.S.TextSink.breaks g.met.S.TextSink.breaks_second c.push_str-3.result _ _ _ c.args.text.now _
+          (c.in_ok-push_str-2.ensures.ok) (c.push_str-3.ensures.err));
     }

@@ -12,7 +12,8 @@ pub loop-byte-preserved : goal.loop-byte-preserved
 loop-byte-preserved g c =
     let i = c.loop-byte.byte-index in
     let xs = c.args.content.now in
-    adds_same g.S.TextSink.adds g.S.TextSink.breaks _ _ _ _ (g.met.S.TextSink.adds_both _ _ _ (hex_bytes (take i xs)) (two_digits (get_or xs i 0)) c.loop-byte.invariant c.in_ok-push_two.ensures.ok) (sym (hex_more xs i c.loop-byte-test.true))
+    adds_same g.S.TextSink.adds g.S.TextSink.breaks _ _ _ _ (g.met.S.TextSink.adds_both _ _ _ (hex_bytes (take i xs)) (two_digits (get_or xs i 0))
+    c.loop-byte.invariant c.in_ok-push_two.ensures.ok) (sym (hex_more xs i c.loop-byte-test.true))
 
 pub returns-in_err-push_two-clause-err : goal.returns-in_err-push_two-clause-err
 returns-in_err-push_two-clause-err g c =
@@ -20,4 +21,5 @@ returns-in_err-push_two-clause-err g c =
     let xs = c.args.content.now in
     let rest = hex_bytes (drop (i + 1) xs) in
     let more = g.met.S.TextSink.breaks_second _ _ _ (hex_bytes (take i xs)) (two_digits (get_or xs i 0)) c.loop-byte.invariant c.in_err-push_two.ensures.err in
-    err_now g.S.TextSink.adds g.S.TextSink.breaks _ _ _ _ (breaks_same g.S.TextSink.adds g.S.TextSink.breaks _ _ _ _ (g.met.S.TextSink.breaks_first _ _ _ rest more) (hex_parts xs i c.loop-byte-test.true))
+    err_now g.S.TextSink.adds g.S.TextSink.breaks _ _ _ _ (breaks_same g.S.TextSink.adds g.S.TextSink.breaks _ _ _ _
+    (g.met.S.TextSink.breaks_first _ _ _ rest more) (hex_parts xs i c.loop-byte-test.true))

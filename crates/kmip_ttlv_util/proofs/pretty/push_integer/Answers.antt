@@ -13,6 +13,8 @@ pub returns : goal.returns
 returns g c =
     let text : bracketed c.format.result.now ≡ bracketed (signed_decimal (cast_signed w32 c.args.n)) = ap bracketed (search rules) in
     record {
-      ok = ok_then g.S.TextSink.adds g.S.TextSink.breaks g.met.S.TextSink.adds_both c.push_bracketed.result _ _ _ _ _ (c.in_ok-push_six.ensures.ok) (ok_same g.S.TextSink.adds g.S.TextSink.breaks c.push_bracketed.result _ _ _ _ c.push_bracketed.ensures.ok text);
-      err = err_then g.S.TextSink.adds g.S.TextSink.breaks g.met.S.TextSink.breaks_second c.push_bracketed.result _ _ _ _ _ (c.in_ok-push_six.ensures.ok) (err_same g.S.TextSink.adds g.S.TextSink.breaks c.push_bracketed.result _ _ _ _ c.push_bracketed.ensures.err text);
+      ok = ok_then g.S.TextSink.adds g.S.TextSink.breaks g.met.S.TextSink.adds_both c.push_bracketed.result _ _ _ _ _ (c.in_ok-push_six.ensures.ok)
+          (ok_same g.S.TextSink.adds g.S.TextSink.breaks c.push_bracketed.result _ _ _ _ c.push_bracketed.ensures.ok text);
+      err = err_then g.S.TextSink.adds g.S.TextSink.breaks g.met.S.TextSink.breaks_second c.push_bracketed.result _ _ _ _ _ (c.in_ok-push_six.ensures.ok)
+          (err_same g.S.TextSink.adds g.S.TextSink.breaks c.push_bracketed.result _ _ _ _ c.push_bracketed.ensures.err text);
     }

@@ -8,6 +8,8 @@ returns-in_err-push_line-clause-err g c =
 pub returns : goal.returns
 returns g c =
     record {
-      ok = ok_then g.S.TextSink.adds g.S.TextSink.breaks g.met.S.TextSink.adds_both c.push_warning.result _ _ _ _ _ (c.in_ok-push_line.ensures.ok) (c.push_warning.ensures.ok);
-      err = err_then g.S.TextSink.adds g.S.TextSink.breaks g.met.S.TextSink.breaks_second c.push_warning.result _ _ _ _ _ (c.in_ok-push_line.ensures.ok) (c.push_warning.ensures.err);
+      ok = ok_then g.S.TextSink.adds g.S.TextSink.breaks g.met.S.TextSink.adds_both c.push_warning.result _ _ _ _ _ (c.in_ok-push_line.ensures.ok)
+          (c.push_warning.ensures.ok);
+      err = err_then g.S.TextSink.adds g.S.TextSink.breaks g.met.S.TextSink.breaks_second c.push_warning.result _ _ _ _ _ (c.in_ok-push_line.ensures.ok)
+          (c.push_warning.ensures.err);
     }

@@ -11,7 +11,8 @@ pub returns-in_err-push_tag_part-clause-err : goal.returns-in_err-push_tag_part-
 returns-in_err-push_tag_part-clause-err g c =
     let i = c.args.item.now in
     let l = line_front (name_in c.args.names.now) c.args.depth i.tag i.typ i.content.now in
-    err_now g.S.TextSink.adds g.S.TextSink.breaks _ _ _ _ (breaks_same g.S.TextSink.adds g.S.TextSink.breaks _ _ _ _ (g.met.S.TextSink.breaks_first _ _ _ l.0 c.in_err-push_tag_part.ensures.err) l.1)
+    err_now g.S.TextSink.adds g.S.TextSink.breaks _ _ _ _ (breaks_same g.S.TextSink.adds g.S.TextSink.breaks _ _ _ _
+    (g.met.S.TextSink.breaks_first _ _ _ l.0 c.in_err-push_tag_part.ensures.err) l.1)
 
 pub returns-then-eq : goal.returns-then-eq
 returns-then-eq g c =
@@ -21,8 +22,12 @@ returns-then-eq g c =
     let is : i.typ ≡ Structure = search rules in
     let whole = line_structure (name_in c.args.names.now) c.args.depth i.tag i.typ i.content.now is in
     record {
-      ok = ok_same g.S.TextSink.adds g.S.TextSink.breaks c.push_str.result _ _ _ _ (ok_then g.S.TextSink.adds g.S.TextSink.breaks g.met.S.TextSink.adds_both c.push_str.result _ _ _ front (data_part Structure ++ (10 ∷ [])) (c.in_ok-push_tag_part.ensures.ok) (c.push_str.ensures.ok)) whole;
-      err = err_same g.S.TextSink.adds g.S.TextSink.breaks c.push_str.result _ _ _ _ (err_then g.S.TextSink.adds g.S.TextSink.breaks g.met.S.TextSink.breaks_second c.push_str.result _ _ _ front (data_part Structure ++ (10 ∷ [])) (c.in_ok-push_tag_part.ensures.ok) (c.push_str.ensures.err)) whole;
+      ok = ok_same g.S.TextSink.adds g.S.TextSink.breaks c.push_str.result _ _ _ _
+          (ok_then g.S.TextSink.adds g.S.TextSink.breaks g.met.S.TextSink.adds_both c.push_str.result _ _ _ front (data_part Structure ++ (10 ∷ []))
+          (c.in_ok-push_tag_part.ensures.ok) (c.push_str.ensures.ok)) whole;
+      err = err_same g.S.TextSink.adds g.S.TextSink.breaks c.push_str.result _ _ _ _
+          (err_then g.S.TextSink.adds g.S.TextSink.breaks g.met.S.TextSink.breaks_second c.push_str.result _ _ _ front (data_part Structure ++ (10 ∷ []))
+          (c.in_ok-push_tag_part.ensures.ok) (c.push_str.ensures.err)) whole;
     }
 
 pub returns-in_err-push_data_part-clause-err : goal.returns-in_err-push_data_part-clause-err
@@ -32,8 +37,11 @@ returns-in_err-push_data_part-clause-err g c =
     let value = value_shown i.typ i.content.now in
     let ne : i.typ ≢ Structure = search rules in
     let whole : front ++ (data_part i.typ ++ (value ++ (10 ∷ []))) ≡ pretty_line (name_in c.args.names.now) c.args.depth i.tag i.typ i.content.now =
-    sym (append_assoc front (data_part i.typ) (value ++ (10 ∷ []))) ∙ sym (append_assoc (front ++ data_part i.typ) value (10 ∷ [])) ∙ line_leaf (name_in c.args.names.now) c.args.depth i.tag i.typ i.content.now ne in
-    err_now g.S.TextSink.adds g.S.TextSink.breaks _ _ _ _ (breaks_same g.S.TextSink.adds g.S.TextSink.breaks _ _ _ _ (g.met.S.TextSink.breaks_second _ _ _ front _ (c.in_ok-push_tag_part.ensures.ok) (g.met.S.TextSink.breaks_first _ _ (data_part i.typ) (value ++ (10 ∷ [])) (c.in_err-push_data_part.ensures.err))) whole)
+    sym (append_assoc front (data_part i.typ) (value ++ (10 ∷ []))) ∙ sym (append_assoc (front ++ data_part i.typ) value (10 ∷ []))
+    ∙ line_leaf (name_in c.args.names.now) c.args.depth i.tag i.typ i.content.now ne in
+    err_now g.S.TextSink.adds g.S.TextSink.breaks _ _ _ _ (breaks_same g.S.TextSink.adds g.S.TextSink.breaks _ _ _ _
+    (g.met.S.TextSink.breaks_second _ _ _ front _ (c.in_ok-push_tag_part.ensures.ok)
+    (g.met.S.TextSink.breaks_first _ _ (data_part i.typ) (value ++ (10 ∷ [])) (c.in_err-push_data_part.ensures.err))) whole)
 
 pub returns-in_err-push_value-clause-err : goal.returns-in_err-push_value-clause-err
 returns-in_err-push_value-clause-err g c =
@@ -42,8 +50,11 @@ returns-in_err-push_value-clause-err g c =
     let value = value_shown i.typ i.content.now in
     let ne : i.typ ≢ Structure = search rules in
     let whole : front ++ (data_part i.typ ++ (value ++ (10 ∷ []))) ≡ pretty_line (name_in c.args.names.now) c.args.depth i.tag i.typ i.content.now =
-    sym (append_assoc front (data_part i.typ) (value ++ (10 ∷ []))) ∙ sym (append_assoc (front ++ data_part i.typ) value (10 ∷ [])) ∙ line_leaf (name_in c.args.names.now) c.args.depth i.tag i.typ i.content.now ne in
-    err_now g.S.TextSink.adds g.S.TextSink.breaks _ _ _ _ (breaks_same g.S.TextSink.adds g.S.TextSink.breaks _ _ _ _ (g.met.S.TextSink.breaks_second _ _ _ front _ (c.in_ok-push_tag_part.ensures.ok) (g.met.S.TextSink.breaks_second _ _ _ (data_part i.typ) _ (c.in_ok-push_data_part.ensures.ok) (g.met.S.TextSink.breaks_first _ _ value (10 ∷ []) (c.in_err-push_value.ensures.err)))) whole)
+    sym (append_assoc front (data_part i.typ) (value ++ (10 ∷ []))) ∙ sym (append_assoc (front ++ data_part i.typ) value (10 ∷ []))
+    ∙ line_leaf (name_in c.args.names.now) c.args.depth i.tag i.typ i.content.now ne in
+    err_now g.S.TextSink.adds g.S.TextSink.breaks _ _ _ _ (breaks_same g.S.TextSink.adds g.S.TextSink.breaks _ _ _ _
+    (g.met.S.TextSink.breaks_second _ _ _ front _ (c.in_ok-push_tag_part.ensures.ok) (g.met.S.TextSink.breaks_second _ _ _ (data_part i.typ) _
+    (c.in_ok-push_data_part.ensures.ok) (g.met.S.TextSink.breaks_first _ _ value (10 ∷ []) (c.in_err-push_value.ensures.err)))) whole)
 
 pub returns : goal.returns
 returns g c =
@@ -52,8 +63,17 @@ returns g c =
     let value = value_shown i.typ i.content.now in
     let ne : i.typ ≢ Structure = search rules in
     let whole : front ++ (data_part i.typ ++ (value ++ (10 ∷ []))) ≡ pretty_line (name_in c.args.names.now) c.args.depth i.tag i.typ i.content.now =
-    sym (append_assoc front (data_part i.typ) (value ++ (10 ∷ []))) ∙ sym (append_assoc (front ++ data_part i.typ) value (10 ∷ [])) ∙ line_leaf (name_in c.args.names.now) c.args.depth i.tag i.typ i.content.now ne in
+    sym (append_assoc front (data_part i.typ) (value ++ (10 ∷ []))) ∙ sym (append_assoc (front ++ data_part i.typ) value (10 ∷ []))
+    ∙ line_leaf (name_in c.args.names.now) c.args.depth i.tag i.typ i.content.now ne in
     record {
-      ok = ok_same g.S.TextSink.adds g.S.TextSink.breaks c.push_str-2.result _ _ _ _ (ok_then g.S.TextSink.adds g.S.TextSink.breaks g.met.S.TextSink.adds_both c.push_str-2.result _ _ _ front _ (c.in_ok-push_tag_part.ensures.ok) (ok_then g.S.TextSink.adds g.S.TextSink.breaks g.met.S.TextSink.adds_both c.push_str-2.result _ _ _ (data_part i.typ) _ (c.in_ok-push_data_part.ensures.ok) (ok_then g.S.TextSink.adds g.S.TextSink.breaks g.met.S.TextSink.adds_both c.push_str-2.result _ _ _ value (10 ∷ []) (c.in_ok-push_value.ensures.ok) (c.push_str-2.ensures.ok)))) whole;
-      err = err_same g.S.TextSink.adds g.S.TextSink.breaks c.push_str-2.result _ _ _ _ (err_then g.S.TextSink.adds g.S.TextSink.breaks g.met.S.TextSink.breaks_second c.push_str-2.result _ _ _ front _ (c.in_ok-push_tag_part.ensures.ok) (err_then g.S.TextSink.adds g.S.TextSink.breaks g.met.S.TextSink.breaks_second c.push_str-2.result _ _ _ (data_part i.typ) _ (c.in_ok-push_data_part.ensures.ok) (err_then g.S.TextSink.adds g.S.TextSink.breaks g.met.S.TextSink.breaks_second c.push_str-2.result _ _ _ value (10 ∷ []) (c.in_ok-push_value.ensures.ok) (c.push_str-2.ensures.err)))) whole;
+      ok = ok_same g.S.TextSink.adds g.S.TextSink.breaks c.push_str-2.result _ _ _ _
+          (ok_then g.S.TextSink.adds g.S.TextSink.breaks g.met.S.TextSink.adds_both c.push_str-2.result _ _ _ front _ (c.in_ok-push_tag_part.ensures.ok)
+          (ok_then g.S.TextSink.adds g.S.TextSink.breaks g.met.S.TextSink.adds_both c.push_str-2.result _ _ _ (data_part i.typ) _
+          (c.in_ok-push_data_part.ensures.ok) (ok_then g.S.TextSink.adds g.S.TextSink.breaks g.met.S.TextSink.adds_both c.push_str-2.result _ _ _ value
+          (10 ∷ []) (c.in_ok-push_value.ensures.ok) (c.push_str-2.ensures.ok)))) whole;
+      err = err_same g.S.TextSink.adds g.S.TextSink.breaks c.push_str-2.result _ _ _ _
+          (err_then g.S.TextSink.adds g.S.TextSink.breaks g.met.S.TextSink.breaks_second c.push_str-2.result _ _ _ front _ (c.in_ok-push_tag_part.ensures.ok)
+          (err_then g.S.TextSink.adds g.S.TextSink.breaks g.met.S.TextSink.breaks_second c.push_str-2.result _ _ _ (data_part i.typ) _
+          (c.in_ok-push_data_part.ensures.ok) (err_then g.S.TextSink.adds g.S.TextSink.breaks g.met.S.TextSink.breaks_second c.push_str-2.result _ _ _ value
+          (10 ∷ []) (c.in_ok-push_value.ensures.ok) (c.push_str-2.ensures.err)))) whole;
     }

@@ -14,7 +14,8 @@ returns-in_err-print_to g c =
     let last = c.print_to.new.out in
     let s = c.in_err-print_to.ensures.err in
     let name = s.holds.0 ∙ c.new-pieces.ensures.same_reference in
-    let written = piece_fails kind first.writer.ghost_name last.writer.ghost_name (has c.args.writer.now) (has first.writer.now) (has last.writer.now) (waiting first.buffer) s (ap has c.new-pieces.ensures.writer) c.new-pieces.ensures.empty in
+    let written = piece_fails kind first.writer.ghost_name last.writer.ghost_name (has c.args.writer.now) (has first.writer.now) (has last.writer.now)
+    (waiting first.buffer) s (ap has c.new-pieces.ensures.writer) c.new-pieces.ensures.empty in
     search rules
 
 pub returns : goal.returns
@@ -26,5 +27,8 @@ returns g c =
     let end = c.finish.new.self in
     let s = c.in_ok-print_to.ensures.ok in
     let name = c.finish.ensures.same_reference ∙ s.holds.0 ∙ c.new-pieces.ensures.same_reference in
-    let written : WritesText kind (has c.args.writer.now) (has end.writer.now) c.finish.result = piece_ends c.finish.result kind first.writer.ghost_name last.writer.ghost_name (has c.args.writer.now) (has first.writer.now) (has last.writer.now) (has end.writer.now) (waiting first.buffer) (waiting last.buffer) s (ap has c.new-pieces.ensures.writer) c.new-pieces.ensures.empty c.finish.ensures.ok c.finish.ensures.err in
+    let written : WritesText kind (has c.args.writer.now) (has end.writer.now) c.finish.result =
+    piece_ends c.finish.result kind first.writer.ghost_name last.writer.ghost_name (has c.args.writer.now) (has first.writer.now) (has last.writer.now)
+    (has end.writer.now) (waiting first.buffer) (waiting last.buffer) s (ap has c.new-pieces.ensures.writer) c.new-pieces.ensures.empty c.finish.ensures.ok
+    c.finish.ensures.err in
     search rules

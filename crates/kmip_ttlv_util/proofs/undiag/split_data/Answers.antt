@@ -11,4 +11,5 @@ returns-in_default-split_value-clause-none c =
 pub returns-in-Some-clause-some : goal.returns-in-Some-clause-some
 returns-in-Some-clause-some c =
     let some : length c.args.s.now ≢ 0 = eqb-false (length c.args.s.now) 0 (sym c.is_empty.ensures ∙ c.if-is_empty.false) in
-    λ beginning tag. data_value beginning c.args.s.now c.in-Some.value.now c.in-Some.rest.now c.args.depth tag c.args.typ c.in-Enumeration.is some c.in-Some.ensures.some
+    λ beginning tag. data_value beginning c.args.s.now c.in-Some.value.now c.in-Some.rest.now c.args.depth tag c.args.typ c.in-Enumeration.is some
+    c.in-Some.ensures.some

@@ -17,12 +17,14 @@ unfolding front_value
 returns-then-is_empty-clause-none c =
     let h = split_once_first 58 c.args.s.now (Some (c.in-Some.value, c.in-Some.rest)) c.in-Some.ensures.cases (omega arith) in
     let none : length c.in-Some.value.now ≡ 0 = eqb-true (length c.in-Some.value.now) 0 (sym c.is_empty.ensures ∙ c.if-is_empty.true) in
-    value_empty c.args.s.now _ (sym (length-take-le (position_or_len (λ b. eqb b 58) c.args.s.now) c.args.s.now (omega (arith, h.0))) ∙ ap length (sym h.1) ∙ none)
+    value_empty c.args.s.now _ (sym (length-take-le (position_or_len (λ b. eqb b 58) c.args.s.now) c.args.s.now (omega (arith, h.0)))
+    ∙ ap length (sym h.1) ∙ none)
 
 pub returns-clause-some : goal.returns-clause-some
 unfolding front_value
 returns-clause-some c =
     let h = split_once_first 58 c.args.s.now (Some (c.in-Some.value, c.in-Some.rest)) c.in-Some.ensures.cases (omega arith) in
     let some : length c.in-Some.value.now ≡ 0 → ⊥ = eqb-false (length c.in-Some.value.now) 0 (sym c.is_empty.ensures ∙ c.if-is_empty.false) in
-    let size : length c.in-Some.value.now ≡ position_or_len (λ b. eqb b 58) c.args.s.now = ap length h.1 ∙ length-take-le (position_or_len (λ b. eqb b 58) c.args.s.now) c.args.s.now (omega (arith, h.0)) in
+    let size : length c.in-Some.value.now ≡ position_or_len (λ b. eqb b 58) c.args.s.now = ap length h.1
+    ∙ length-take-le (position_or_len (λ b. eqb b 58) c.args.s.now) c.args.s.now (omega (arith, h.0)) in
     value_some c.args.s.now _ c.in-Some.value.now c.in-Some.rest.now (omega (arith, size)) h.0 h.1 h.2

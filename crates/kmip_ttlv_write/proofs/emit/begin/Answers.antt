@@ -1,5 +1,5 @@
 use Rattle.std.proofs.Common.{rules, arith, ◌<◌, ◌^◌, length}
-use Rattle.kmip_ttlv_write.proofs.Holding.{link_is, link_fits, held_len, deep_spine}
+use Rattle.kmip_ttlv_write.proofs.Holding.{link_is, link_fits, holds_length, deep_spine}
 use Rattle.kmip_ttlv_write.proofs.emit.begin.Goals as goal
 
 pub overflow_sub-link : goal.overflow_sub-link
@@ -13,4 +13,11 @@ overflow_cast-link c =
 pub overflow_add-result : goal.overflow_add-result
 overflow_add-result c =
     let long : length c.args.out.now < 2 ^ 64 = search rules in
-    omega (arith, c.requires.holds.depth, deep_spine c.requires.opened, held_len c.requires.opened c.args.out.now c.args.place c.requires.holds, c.requires.room, long)
+    omega (
+      arith,
+      c.requires.holds.depth,
+      deep_spine c.requires.opened,
+      holds_length c.requires.opened c.args.out.now c.args.place c.requires.holds,
+      c.requires.room,
+      long,
+    )

@@ -9,7 +9,8 @@ pub begin-requires : goal.begin-requires
 begin-requires c =
     let one : c.requires.typ ≡ c.in-Some.typ = same_type c.args.item.typ c.requires.typ c.in-Some.typ c.requires.typed (sym c.type_of.ensures ∙ c.in-Some.is) in
     let is : c.in-Some.typ ≡ Structure = search rules in
-    can_take c.args.lent.now c.args.item c.args.out.now c.leave-inner.new.out c.args.place c.leave-inner.result Structure c.requires (one ∙ is) c.leave-inner.ensures.len
+    can_take c.args.lent.now c.args.item c.args.out.now c.leave-inner.new.out c.args.place c.leave-inner.result Structure c.requires (one
+    ∙ is) c.leave-inner.ensures.len
     (c.leave-inner.ensures.holds c.requires.opened c.requires.holds)
 
 pub put_value-requires-clause-room : goal.put_value-requires-clause-room
@@ -17,5 +18,6 @@ put_value-requires-clause-room c =
     let one : c.requires.typ ≡ c.in-Some.typ = same_type c.args.item.typ c.requires.typ c.in-Some.typ c.requires.typed (sym c.type_of.ensures ∙ c.in-Some.is) in
     let ne : c.in-Some.typ ≢ Structure = search rules in
     subst (λ (n : ℕ). CanTake n c.leave-inner.new.out c.leave-inner.result) (size_is c.in-Some.typ c.args.item.length ne)
-    (can_take c.args.lent.now c.args.item c.args.out.now c.leave-inner.new.out c.args.place c.leave-inner.result c.in-Some.typ c.requires one c.leave-inner.ensures.len
+    (can_take c.args.lent.now c.args.item c.args.out.now c.leave-inner.new.out c.args.place c.leave-inner.result c.in-Some.typ c.requires one
+    c.leave-inner.ensures.len
     (c.leave-inner.ensures.holds c.requires.opened c.requires.holds))

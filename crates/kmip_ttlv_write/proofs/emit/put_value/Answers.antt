@@ -5,15 +5,25 @@ use Rattle.kmip_ttlv_types.specs.Places.{size}
 use Rattle.kmip_ttlv_write.specs.GivenItems.{given_content}
 use Rattle.kmip_ttlv_write.proofs.Opens.{leaf_len}
 use Rattle.kmip_ttlv_write.proofs.Emitting.{leaf_size}
-use Rattle.kmip_ttlv_write.proofs.Holding.{leaf_held}
+use Rattle.kmip_ttlv_write.proofs.Holding.{leaf_holds}
 use Rattle.kmip_ttlv_write.proofs.emit.put_value.Goals as goal
 
 pub returns-clause-holds : goal.returns-clause-holds
 returns-clause-holds c = λ o h small.
     let i = c.args.item in
     let content = given_content c.args.lent.now i in
-    let front = c.put_leaf-at.ensures.front ∙ ap (λ (s : List ℕ). take c.args.place.at c.args.out.now ++ leaf_bytes i.tag c.args.typ s) c.content_at-content.ensures in
+    let front = c.put_leaf-at.ensures.front ∙ ap (λ (s : List ℕ). take c.args.place.at c.args.out.now ++ leaf_bytes i.tag c.args.typ s)
+    c.content_at-content.ensures in
     let e = c.content_at-content.ensures in
     let is = leaf_size c.args.lent.now c.args.typ i c.requires.leaf c.requires.value in
-    leaf_held c.args.out.now c.put_leaf-at.new.out c.args.place c.put_leaf-at.result (size c.args.typ i.length) i.tag c.args.typ content o h small is
-    (omega (arith, c.put_leaf-at.ensures.place, c.put_leaf-at.ensures.len, c.requires.room.room, is, leaf_len i.tag c.args.typ content, ap length e, ap (λ (s : List ℕ). pad_len (length s)) e)) front
+    leaf_holds c.args.out.now c.put_leaf-at.new.out c.args.place c.put_leaf-at.result (size c.args.typ i.length) i.tag c.args.typ content o h small is
+    (omega (
+      arith,
+      c.put_leaf-at.ensures.place,
+      c.put_leaf-at.ensures.len,
+      c.requires.room.room,
+      is,
+      leaf_len i.tag c.args.typ content,
+      ap length e,
+      ap (λ (s : List ℕ). pad_len (length s)) e,
+    )) front

@@ -7,13 +7,15 @@ pub returns-in-Err-clause-err : goal.returns-in-Err-clause-err
 returns-in-Err-clause-err g c =
     let v = c.items.invariant in
     let at = at_item g.T.GiveItem.given c.args.items.now c.items.item-index c.item-item.result c.give.result c.items-test.true c.item-item.is c.give.ensures in
-    has_none c.args.lent.now (map g.T.GiveItem.given c.args.items.now) c.items.item-index c.items.index c.in-Err.kind c.give.result c.items.reach v.index v.fit v.reach at c.in-Err.ensures.err
+    has_none c.args.lent.now (map g.T.GiveItem.given c.args.items.now) c.items.item-index c.items.index c.in-Err.kind c.give.result c.items.reach v.index v.fit
+    v.reach at c.in-Err.ensures.err
 
 pub items-preserved : goal.items-preserved
 items-preserved g c =
     let v = c.items.invariant in
     let k = c.in-Ok.ensures.ok in
-    let more = more_item g.T.GiveItem.given c.args.items.now c.items.item-index c.item-item.result c.give.result c.items-test.true c.item-item.is c.give.ensures in
+    let more = more_item g.T.GiveItem.given c.args.items.now c.items.item-index c.item-item.result c.give.result c.items-test.true c.item-item.is
+    c.give.ensures in
     let xs = map g.T.GiveItem.given c.args.items.now in
     record {
       fit = fits_more c.args.lent.now xs c.items.item-index c.give.result c.items.reach v.reach v.fit more k.0;

@@ -23,7 +23,8 @@ returns-in_default-from_utf8-clause-ok g c =
     let other : IsUtf8 c.in-Some.line.now → ⊥ = search rules in
     record {
       text = w.text;
-      is = line_no_text (name_in c.args.names.now) c.args.prefix.now c.args.base c.args.bytes.now c.lines.at c.lines.found w.text w.is c.in-Some.line.now c.in-Some.ensures false other;
+      is = line_no_text (name_in c.args.names.now) c.args.prefix.now c.args.base c.args.bytes.now c.lines.at c.lines.found w.text w.is c.in-Some.line.now
+          c.in-Some.ensures false other;
       holds = w.holds;
     }
 
@@ -39,7 +40,8 @@ returns-in_err-fault-clause-err g c =
     let broken : SomeText (ReadsFront tags prefix c.args.bytes.now false) (λ t. g.S.TextSink.breaks c.args.out.now t c.push_back.new.out) = record {
       text = w.text ++ line_back tags prefix line;
       is = line_broken tags prefix c.args.base c.args.bytes.now c.lines.at c.lines.found w.text w.is line c.in-Some.ensures false u;
-      holds = g.met.S.TextSink.breaks_second _ _ _ w.text (line_back tags prefix line) w.holds (subst (λ (s : List ℕ). g.S.TextSink.breaks c.lines.out (line_back tags prefix s) c.push_back.new.out) same c.in_err-fault.ensures.broken);
+      holds = g.met.S.TextSink.breaks_second _ _ _ w.text (line_back tags prefix line) w.holds
+          (subst (λ (s : List ℕ). g.S.TextSink.breaks c.lines.out (line_back tags prefix s) c.push_back.new.out) same c.in_err-fault.ensures.broken);
     } in
     err_holds _ _ broken
 
@@ -52,10 +54,13 @@ lines-preserved g c =
     let same : c.in-Ok.text.now ≡ line = search rules in
     let u : IsUtf8 line = search rules in
     let fault = c.in_ok-fault.fault in
-    let tries : Tries prefix (c.args.base + c.lines.at) line fault = subst (λ (s : List ℕ). Tries prefix (c.args.base + c.lines.at) s fault) same c.in_ok-fault.ensures.fault in
+    let tries : Tries prefix (c.args.base + c.lines.at) line fault = subst (λ (s : List ℕ). Tries prefix (c.args.base + c.lines.at) s fault) same
+    c.in_ok-fault.ensures.fault in
     let more = line_more tags prefix c.args.base c.args.bytes.now c.lines.at c.lines.found w.text w.is line c.in-Some.ensures u fault tries in
     record {
       text = w.text ++ line_back tags prefix line;
-      is = subst (λ (o : Option BackFault). Lined tags prefix c.args.base c.args.bytes.now (c.lines.at + (length line + 1)) o (w.text ++ line_back tags prefix line)) (sym c.or-found.ensures) more;
-      holds = g.met.S.TextSink.adds_both _ _ _ w.text (line_back tags prefix line) w.holds (subst (λ (s : List ℕ). g.S.TextSink.adds c.lines.out (line_back tags prefix s) c.push_back.new.out) same c.in_ok-fault.ensures.text);
+      is = subst (λ (o : Option BackFault). Lined tags prefix c.args.base c.args.bytes.now (c.lines.at + (length line + 1)) o
+          (w.text ++ line_back tags prefix line)) (sym c.or-found.ensures) more;
+      holds = g.met.S.TextSink.adds_both _ _ _ w.text (line_back tags prefix line) w.holds
+          (subst (λ (s : List ℕ). g.S.TextSink.adds c.lines.out (line_back tags prefix s) c.push_back.new.out) same c.in_ok-fault.ensures.text);
     }

@@ -16,18 +16,21 @@ returns-in_err-why-clause-made g c =
     let h1 = buffered c.decode_piece.new.bytes in
     let piece = buffered c.args.text.now in
     let h = c.in_err-why.ensures.made in
-    subst (λ (r : Result (Option Undecoded) RunError). Grows h0 h1 (λ came. (mark : ℕ) (s all : List ℕ) → Reading d0 mark s all → DecodesMore d1 mark s piece c.args.ended (all ++ came) r)) (sym y.1)
+    subst (λ (r : Result (Option Undecoded) RunError). Grows h0 h1 (λ came. (mark : ℕ) (s all : List ℕ) → Reading d0 mark s all
+    → DecodesMore d1 mark s piece c.args.ended (all ++ came) r)) (sym y.1)
     (record { came = h.came; are = h.are; holds = λ mark s all r. y.2 ∙ h.holds mark s all r })
 
 pub returns-in-Some-clause-made : goal.returns-in-Some-clause-made
 returns-in-Some-clause-made g c =
     let d0 = c.args.decoder.now in
     let d1 = c.decode_piece.new.decoder in
-    let h = subst (λ (w : Option Undecoded). Grows (buffered c.args.bytes.now) (buffered c.decode_piece.new.bytes) (λ came. (mark : ℕ) (s all : List ℕ) → Reading d0 mark s all → DecodesPiece d1 mark s c.buffered-piece.result.now (all ++ came) (Ok w))) c.in-Some.is c.in_ok-why.ensures.made in
+    let h = subst (λ (w : Option Undecoded). Grows (buffered c.args.bytes.now) (buffered c.decode_piece.new.bytes) (λ came. (mark : ℕ) (s all : List ℕ)
+    → Reading d0 mark s all → DecodesPiece d1 mark s c.buffered-piece.result.now (all ++ came) (Ok w))) c.in-Some.is c.in_ok-why.ensures.made in
     record {
       came = h.came;
       are = h.are;
-      holds = λ mark s all r more none. subst (λ (t : List ℕ). Stuck d1.form mark ((s ++ t) ++ more) (all ++ h.came) c.in-Some.why) c.buffered-piece.ensures.are (h.holds mark s all r more);
+      holds = λ mark s all r more none. subst (λ (t : List ℕ). Stuck d1.form mark ((s ++ t) ++ more) (all ++ h.came) c.in-Some.why) c.buffered-piece.ensures.are
+          (h.holds mark s all r more);
     }
 
 pub returns-then-ended-clause-made : goal.returns-then-ended-clause-made
@@ -39,13 +42,15 @@ returns-then-ended-clause-made g c =
     let h1 = buffered c.decode_piece.new.bytes in
     let h2 = buffered c.put.new.bytes in
     let piece = buffered c.args.text.now in
-    let h = subst (λ (w : Option Undecoded). Grows h0 h1 (λ came. (mark : ℕ) (s all : List ℕ) → Reading d0 mark s all → DecodesPiece d1 mark s c.buffered-piece.result.now (all ++ came) (Ok w))) c.in_default.is c.in_ok-why.ensures.made in
+    let h = subst (λ (w : Option Undecoded). Grows h0 h1 (λ came. (mark : ℕ) (s all : List ℕ) → Reading d0 mark s all
+    → DecodesPiece d1 mark s c.buffered-piece.result.now (all ++ came) (Ok w))) c.in_default.is c.in_ok-why.ensures.made in
     let read : Grows h0 h1 (λ came. (mark : ℕ) (s all : List ℕ) → Reading d0 mark s all → Reading d1 mark (s ++ piece) (all ++ came)) = record {
       came = h.came;
       are = h.are;
       holds = λ mark s all r. subst (λ (t : List ℕ). Reading d1 mark (s ++ t) (all ++ h.came)) c.buffered-piece.ensures.are (h.holds mark s all r);
     } in
-    subst (λ (b : Bool). Grows h0 h2 (λ came. (mark : ℕ) (s all : List ℕ) → Reading d0 mark s all → DecodesMore d2 mark s piece b (all ++ came) c.put.result)) (sym c.if-ended.true)
+    subst (λ (b : Bool). Grows h0 h2 (λ came. (mark : ℕ) (s all : List ℕ) → Reading d0 mark s all → DecodesMore d2 mark s piece b (all ++ came) c.put.result))
+    (sym c.if-ended.true)
     (more_ended d0 d1 d2 h0 h1 h2 piece read c.finish.ensures.form c.finish.result c.put.result c.finish.ensures.made c.put.ensures)
 
 pub returns-clause-made : goal.returns-clause-made
@@ -55,8 +60,10 @@ returns-clause-made g c =
     let h0 = buffered c.args.bytes.now in
     let h1 = buffered c.decode_piece.new.bytes in
     let piece = buffered c.args.text.now in
-    let h = subst (λ (w : Option Undecoded). Grows h0 h1 (λ came. (mark : ℕ) (s all : List ℕ) → Reading d0 mark s all → DecodesPiece d1 mark s c.buffered-piece.result.now (all ++ came) (Ok w))) c.in_default.is c.in_ok-why.ensures.made in
-    let last = subst (λ (b : Bool). Grows h0 h1 (λ came. (mark : ℕ) (s all : List ℕ) → Reading d0 mark s all → DecodesLast d1 mark (s ++ piece) b (all ++ came))) (sym c.if-ended.false) (record {
+    let h = subst (λ (w : Option Undecoded). Grows h0 h1 (λ came. (mark : ℕ) (s all : List ℕ) → Reading d0 mark s all
+    → DecodesPiece d1 mark s c.buffered-piece.result.now (all ++ came) (Ok w))) c.in_default.is c.in_ok-why.ensures.made in
+    let last = subst (λ (b : Bool). Grows h0 h1 (λ came. (mark : ℕ) (s all : List ℕ) → Reading d0 mark s all
+    → DecodesLast d1 mark (s ++ piece) b (all ++ came))) (sym c.if-ended.false) (record {
       came = h.came;
       are = h.are;
       holds = λ mark s all r. subst (λ (t : List ℕ). Reading d1 mark (s ++ t) (all ++ h.came)) c.buffered-piece.ensures.are (h.holds mark s all r);

@@ -18,23 +18,31 @@ returns-in_err-why-clause-made g c =
     let piece = c.args.piece.now in
     let i = c.characters.b-index in
     let put = subst (λ (w : RunError). Puts (buffered c.characters.bytes) h2 c.push.result (Err w)) (sym y.2) c.in_err-why.ensures in
-    subst (λ (r : Result (Option Undecoded) RunError). Grows h0 h2 (λ came. (mark : ℕ) (s all : List ℕ) → Reading d0 mark s all → DecodesPiece d2 mark s piece (all ++ came) r)) (sym y.1)
-    (piece_fails d0 c.characters.decoder d2 h0 (buffered c.characters.bytes) h2 piece i (slice_index piece i) c.push.result c.characters.invariant.grows c.characters-test.true refl c.push.ensures.made d2 y.0 put)
+    subst (λ (r : Result (Option Undecoded) RunError). Grows h0 h2 (λ came. (mark : ℕ) (s all : List ℕ) → Reading d0 mark s all
+    → DecodesPiece d2 mark s piece (all ++ came) r)) (sym y.1)
+    (piece_fails d0 c.characters.decoder d2 h0 (buffered c.characters.bytes) h2 piece i (slice_index piece i) c.push.result c.characters.invariant.grows
+    c.characters-test.true refl c.push.ensures.made d2 y.0 put)
 
 pub returns-in-Some-clause-made : goal.returns-in-Some-clause-made
 returns-in-Some-clause-made g c =
     let piece = c.args.piece.now in
     let i = c.characters.b-index in
-    let put = subst (λ (w : Option Undecoded). Puts (buffered c.characters.bytes) (buffered c.put.new.bytes) c.push.result (Ok w)) c.in-Some.is c.in_ok-why.ensures in
-    piece_wrong c.args.decoder.now c.characters.decoder c.push.new.self (buffered c.args.bytes.now) (buffered c.characters.bytes) (buffered c.put.new.bytes) piece i (slice_index piece i) c.push.result c.characters.invariant.grows c.characters-test.true refl c.push.ensures.made c.in-Some.why put c.push.ensures.form
+    let put = subst (λ (w : Option Undecoded). Puts (buffered c.characters.bytes) (buffered c.put.new.bytes) c.push.result (Ok w)) c.in-Some.is
+    c.in_ok-why.ensures in
+    piece_wrong c.args.decoder.now c.characters.decoder c.push.new.self (buffered c.args.bytes.now) (buffered c.characters.bytes) (buffered c.put.new.bytes)
+    piece i (slice_index piece i) c.push.result c.characters.invariant.grows c.characters-test.true refl c.push.ensures.made c.in-Some.why put
+    c.push.ensures.form
 
 pub characters-preserved : goal.characters-preserved
 characters-preserved g c =
     let piece = c.args.piece.now in
     let i = c.characters.b-index in
-    let put = subst (λ (w : Option Undecoded). Puts (buffered c.characters.bytes) (buffered c.put.new.bytes) c.push.result (Ok w)) c.in_default.is c.in_ok-why.ensures in
+    let put = subst (λ (w : Option Undecoded). Puts (buffered c.characters.bytes) (buffered c.put.new.bytes) c.push.result (Ok w)) c.in_default.is
+    c.in_ok-why.ensures in
     record {
-      grows = piece_more c.args.decoder.now c.characters.decoder c.push.new.self (buffered c.args.bytes.now) (buffered c.characters.bytes) (buffered c.put.new.bytes) piece i (slice_index piece i) c.push.result c.characters.invariant.grows c.characters-test.true refl c.push.ensures.made put;
+      grows = piece_more c.args.decoder.now c.characters.decoder c.push.new.self (buffered c.args.bytes.now) (buffered c.characters.bytes)
+          (buffered c.put.new.bytes) piece i (slice_index piece i) c.push.result c.characters.invariant.grows c.characters-test.true refl
+          c.push.ensures.made put;
       offset = omega (arith, c.push.ensures.offset, c.characters.invariant.offset);
       count = omega (arith, c.push.ensures.count, c.characters.invariant.count);
       form = c.push.ensures.form ∙ c.characters.invariant.form;

@@ -5,7 +5,8 @@ use Rattle.ttlv_run.proofs.digits.decode_piece.Given as goal
 
 abbrev pub invariant-characters : goal.invariant-characters
 invariant-characters g l = record {
-  grows : Grows (buffered l.fn.bytes) (buffered l.bytes) (λ came. (mark : ℕ) (s all : List ℕ) → Reading l.fn.decoder mark s all → Reading l.decoder mark (s ++ take l.b-index l.piece) (all ++ came));
+  grows : Grows (buffered l.fn.bytes) (buffered l.bytes) (λ came. (mark : ℕ) (s all : List ℕ) → Reading l.fn.decoder mark s all
+      → Reading l.decoder mark (s ++ take l.b-index l.piece) (all ++ came));
   offset : l.decoder.offset ≤ l.fn.decoder.offset + l.b-index;
   count : characters l.decoder ≡ characters l.fn.decoder + l.b-index;
   form : l.decoder.form ≡ l.fn.decoder.form;

@@ -20,8 +20,9 @@ use Rattle.ttlv_run.specs.Reasons.{IsOfPrinting}
 use Rattle.ttlv_run.specs.Runs.{Streams, Fails, Places}
 use Rattle.ttlv_run.specs.Streaming.{buffered, EndsAt, PrintsOn, ContinuesBehind, Yields}
 use Rattle.ttlv_run.specs.Texts.{names_of}
-use Rattle.ttlv_run.proofs.TextStreams.{TextPrinting, TextReady, text_starts, memory_before, ready, ready_standing, wrong_there, text_read_fails, more_characters, text_printed}
-use Rattle.ttlv_run.proofs.Told.{unwritten}
+use Rattle.ttlv_run.proofs.TextStreams.{TextPrinting, TextReady, text_starts, memory_before, ready, ready_standing, wrong_there, text_read_fails}
+use Rattle.ttlv_run.proofs.TextStreams.{more_characters, text_printed}
+use Rattle.ttlv_run.proofs.Decided.{unwritten}
 use Rattle.ttlv_run.proofs.Windows.{Shown, shown_none, no_bytes, bytes_drop, faults, fails_in, goes_further, no_memory}
 use Rattle.ttlv_run.proofs.digits.print_digits.Goals as goal
 
@@ -39,9 +40,11 @@ pieces-init g c = λ known h.
       long = length-take-le mark t within;
       form_is = c.new-decoder.ensures.form;
       reading = c.new-decoder.ensures.reading;
-      input = text_starts job.encoding c.args.form known (g.R.Read.remaining c.args.input.now) t (buffered c.discard.new.self) mark c.args.ended mark_is c.discard.ensures h c.requires.form c.requires.front c.requires.at_end;
+      input = text_starts job.encoding c.args.form known (g.R.Read.remaining c.args.input.now) t (buffered c.discard.new.self) mark c.args.ended mark_is
+          c.discard.ensures h c.requires.form c.requires.front c.requires.at_end;
       plain = subst AreBytes (sym c.new-bytes.ensures) no_bytes;
-      shown = subst (λ (b : List ℕ). Shown (names_of c.args.names.now) job.task (g.W.Write.contents c.args.output.now) (g.W.Write.contents c.args.output.now) 0 [] b) (sym c.new-bytes.ensures) (shown_none (names_of c.args.names.now) job.task (g.W.Write.contents c.args.output.now) []);
+      shown = subst (λ (b : List ℕ). Shown (names_of c.args.names.now) job.task (g.W.Write.contents c.args.output.now) (g.W.Write.contents c.args.output.now) 0
+          [] b) (sym c.new-bytes.ensures) (shown_none (names_of c.args.names.now) job.task (g.W.Write.contents c.args.output.now) []);
     }
 
 -- memory ran out for the bytes
@@ -56,7 +59,9 @@ returns-in_err-wrong g c = λ known h.
     let p = c.pieces.invariant known h in
     let s : Streams = record { input = known; input_left = now; output = old; output_now = mid } in
     let why : y.0 ≡ NoMemory = y.2 ∙ c.in_err-wrong.ensures.made.holds c.mark_length-mark.result p.s p.all p.reading in
-    subst (Places names job s) (sym y.1) (subst (Fails names job s) (sym why) (memory_before names job c.args.form known now old mid c.pieces.base c.pieces.decoder c.mark_length-mark.result (buffered c.pieces.text) (buffered c.pieces.bytes) c.pieces.ended p))
+    subst (Places names job s) (sym y.1)
+    (subst (Fails names job s) (sym why) (memory_before names job c.args.form known now old mid c.pieces.base c.pieces.decoder c.mark_length-mark.result
+    (buffered c.pieces.text) (buffered c.pieces.bytes) c.pieces.ended p))
 
 -- offsets end
 pub returns-then-base-buffered : goal.returns-then-base-buffered
@@ -73,11 +78,13 @@ returns-then-base-buffered g c = λ known h.
     let d = c.decode_more.new.decoder in
     let wrong = c.in_ok-wrong.wrong in
     let bytes = c.buffered-buffered.result.now in
-    let first = ready names job form known now old mid base c.pieces.decoder mark (buffered c.pieces.text) (buffered c.pieces.bytes) ended (c.pieces.invariant known h) d (buffered c.decode_more.new.bytes) wrong c.in_ok-wrong.ensures.made c.in_ok-wrong.ensures.form in
+    let first = ready names job form known now old mid base c.pieces.decoder mark (buffered c.pieces.text) (buffered c.pieces.bytes) ended
+    (c.pieces.invariant known h) d (buffered c.decode_more.new.bytes) wrong c.in_ok-wrong.ensures.made c.in_ok-wrong.ensures.form in
     let r = subst (λ (b : List ℕ). TextReady names job form known now old mid base d mark b ended wrong) (sym c.buffered-buffered.ensures.are) first in
     let last = is_last ended wrong in
     let plain = c.buffered-buffered.ensures.bytes in
-    inr (no_memory names job old mid base r.all bytes last r.shown plain known now (ready_standing names job form known now old mid base d mark bytes ended wrong r))
+    inr (no_memory names job old mid base r.all bytes last r.shown plain known now
+    (ready_standing names job form known now old mid base d mark bytes ended wrong r))
 
 -- printing failed
 pub returns-in_err-count : goal.returns-in_err-count
@@ -95,15 +102,18 @@ returns-in_err-count g c = λ known h.
     let d = c.decode_more.new.decoder in
     let wrong = c.in_ok-wrong.wrong in
     let bytes = c.buffered-buffered.result.now in
-    let first = ready names job form known now old mid base c.pieces.decoder mark (buffered c.pieces.text) (buffered c.pieces.bytes) ended (c.pieces.invariant known h) d (buffered c.decode_more.new.bytes) wrong c.in_ok-wrong.ensures.made c.in_ok-wrong.ensures.form in
+    let first = ready names job form known now old mid base c.pieces.decoder mark (buffered c.pieces.text) (buffered c.pieces.bytes) ended
+    (c.pieces.invariant known h) d (buffered c.decode_more.new.bytes) wrong c.in_ok-wrong.ensures.made c.in_ok-wrong.ensures.form in
     let r = subst (λ (b : List ℕ). TextReady names job form known now old mid base d mark b ended wrong) (sym c.buffered-buffered.ensures.are) first in
     let last = is_last ended wrong in
     let plain = c.buffered-buffered.ensures.bytes in
     let new = g.W.Write.contents c.print_messages.new.output in
     let s : Streams = record { input = known; input_left = now; output = old; output_now = new } in
-    let err = subst (λ (b : Bool). SomeText (ContinuesBehind names job.task base bytes b) (AppendsFront mid new)) c.is_last-last.ensures c.in_err-count.ensures.err in
+    let err = subst (λ (b : Bool). SomeText (ContinuesBehind names job.task base bytes b) (AppendsFront mid new)) c.is_last-last.ensures
+    c.in_err-count.ensures.err in
     subst (Places names job s) (sym y.1) (unwritten names job s y.0 (subst IsOfPrinting (sym y.2) c.in_err-count.ensures.why)
-    (fails_in names job old mid base r.all bytes last r.shown new known now (ready_standing names job form known now old mid base d mark bytes ended wrong r) plain err))
+    (fails_in names job old mid base r.all bytes last r.shown new known now (ready_standing names job form known now old mid base d mark bytes ended wrong r)
+    plain err))
 
 pub returns-in-Fault : goal.returns-in-Fault
 returns-in-Fault g c = λ known h.
@@ -119,14 +129,18 @@ returns-in-Fault g c = λ known h.
     let d = c.decode_more.new.decoder in
     let wrong = c.in_ok-wrong.wrong in
     let bytes = c.buffered-buffered.result.now in
-    let first = ready names job form known now old mid base c.pieces.decoder mark (buffered c.pieces.text) (buffered c.pieces.bytes) ended (c.pieces.invariant known h) d (buffered c.decode_more.new.bytes) wrong c.in_ok-wrong.ensures.made c.in_ok-wrong.ensures.form in
+    let first = ready names job form known now old mid base c.pieces.decoder mark (buffered c.pieces.text) (buffered c.pieces.bytes) ended
+    (c.pieces.invariant known h) d (buffered c.decode_more.new.bytes) wrong c.in_ok-wrong.ensures.made c.in_ok-wrong.ensures.form in
     let r = subst (λ (b : List ℕ). TextReady names job form known now old mid base d mark b ended wrong) (sym c.buffered-buffered.ensures.are) first in
     let last = is_last ended wrong in
     let plain = c.buffered-buffered.ensures.bytes in
     let new = g.W.Write.contents c.print_messages.new.output in
     let place = c.in-Fault.place in
-    let reported = subst (λ (b : Bool). SomeText (PrintsOn names job.task base bytes b (Fault place)) (Appends mid new)) c.is_last-last.ensures (subst (λ (x : Reached). SomeText (PrintsOn names job.task base bytes c.is_last-last.result x) (Appends mid new)) c.in-Fault.is c.in_ok-count.ensures.ok) in
-    faults names job old mid base r.all bytes last r.shown new known now (ready_standing names job form known now old mid base d mark bytes ended wrong r) place reported
+    let reported = subst (λ (b : Bool). SomeText (PrintsOn names job.task base bytes b (Fault place)) (Appends mid new)) c.is_last-last.ensures
+    (subst (λ (x : Reached). SomeText (PrintsOn names job.task base bytes c.is_last-last.result x) (Appends mid new)) c.in-Fault.is
+    c.in_ok-count.ensures.ok) in
+    faults names job old mid base r.all bytes last r.shown new known now (ready_standing names job form known now old mid base d mark bytes ended wrong r)
+    place reported
 
 -- a character that can't stand where it does, behind whole messages
 pub returns-in-Some : goal.returns-in-Some
@@ -143,22 +157,29 @@ returns-in-Some g c = λ known h.
     let d = c.decode_more.new.decoder in
     let wrong = c.in_ok-wrong.wrong in
     let bytes = c.buffered-buffered.result.now in
-    let first = ready names job form known now old mid base c.pieces.decoder mark (buffered c.pieces.text) (buffered c.pieces.bytes) ended (c.pieces.invariant known h) d (buffered c.decode_more.new.bytes) wrong c.in_ok-wrong.ensures.made c.in_ok-wrong.ensures.form in
+    let first = ready names job form known now old mid base c.pieces.decoder mark (buffered c.pieces.text) (buffered c.pieces.bytes) ended
+    (c.pieces.invariant known h) d (buffered c.decode_more.new.bytes) wrong c.in_ok-wrong.ensures.made c.in_ok-wrong.ensures.form in
     let r = subst (λ (b : List ℕ). TextReady names job form known now old mid base d mark b ended wrong) (sym c.buffered-buffered.ensures.are) first in
     let last = is_last ended wrong in
     let plain = c.buffered-buffered.ensures.bytes in
     let new = g.W.Write.contents c.print_messages.new.output in
     let count = c.in-Behind.count in
-    let reported = subst (λ (b : Bool). SomeText (PrintsOn names job.task base bytes b (Behind count)) (Appends mid new)) c.is_last-last.ensures (subst (λ (x : Reached). SomeText (PrintsOn names job.task base bytes c.is_last-last.result x) (Appends mid new)) c.in-Behind.is c.in_ok-count.ensures.ok) in
-    let end = subst (λ (b : Bool). EndsAt bytes b (Behind count)) c.is_last-last.ensures (subst (EndsAt bytes c.is_last-last.result) c.in-Behind.is c.in_ok-count.ensures.end) in
+    let reported = subst (λ (b : Bool). SomeText (PrintsOn names job.task base bytes b (Behind count)) (Appends mid new)) c.is_last-last.ensures
+    (subst (λ (x : Reached). SomeText (PrintsOn names job.task base bytes c.is_last-last.result x) (Appends mid new)) c.in-Behind.is
+    c.in_ok-count.ensures.ok) in
+    let end = subst (λ (b : Bool). EndsAt bytes b (Behind count)) c.is_last-last.ensures
+    (subst (EndsAt bytes c.is_last-last.result) c.in-Behind.is c.in_ok-count.ensures.end) in
     let why = c.in-Some.why in
     let going : last ≡ false = ap (is_last ended) c.in-Some.is in
     let front : (count ≤ length bytes) × (is_there (drop count bytes) ≡ false) = subst (λ (b : Bool). EndsAt bytes b (Behind count)) going end in
     let shown = goes_further names job old mid base r.all bytes last r.shown new plain count going front.0 reported in
     let s : Streams = record { input = known; input_left = now; output = old; output_now = new } in
     let m : Misread = record { taken = taken_as form; guessed = is_detected job.encoding; offset = why.offset; kind = why.kind } in
-    let is : c.misread.result ≡ MisreadInput m = c.misread.ensures ∙ ap (λ (t : Encoding). MisreadInput (record { taken = t; guessed = is_detected job.encoding; offset = why.offset; kind = why.kind })) c.taken_as.ensures in
-    subst (Fails names job s) (sym is) (wrong_there names job form known now old mid base d mark bytes ended wrong r new (base + count) (drop count bytes) shown why m c.in-Some.is refl front.1)
+    let is : c.misread.result ≡ MisreadInput m = c.misread.ensures
+    ∙ ap (λ (t : Encoding). MisreadInput (record { taken = t; guessed = is_detected job.encoding; offset = why.offset; kind = why.kind }))
+    c.taken_as.ensures in
+    subst (Fails names job s) (sym is) (wrong_there names job form known now old mid base d mark bytes ended wrong r new (base + count) (drop count bytes) shown
+    why m c.in-Some.is refl front.1)
 
 pub returns-then-ended : goal.returns-then-ended
 returns-then-ended g c = λ known h.
@@ -174,14 +195,18 @@ returns-then-ended g c = λ known h.
     let d = c.decode_more.new.decoder in
     let wrong = c.in_ok-wrong.wrong in
     let bytes = c.buffered-buffered.result.now in
-    let first = ready names job form known now old mid base c.pieces.decoder mark (buffered c.pieces.text) (buffered c.pieces.bytes) ended (c.pieces.invariant known h) d (buffered c.decode_more.new.bytes) wrong c.in_ok-wrong.ensures.made c.in_ok-wrong.ensures.form in
+    let first = ready names job form known now old mid base c.pieces.decoder mark (buffered c.pieces.text) (buffered c.pieces.bytes) ended
+    (c.pieces.invariant known h) d (buffered c.decode_more.new.bytes) wrong c.in_ok-wrong.ensures.made c.in_ok-wrong.ensures.form in
     let r = subst (λ (b : List ℕ). TextReady names job form known now old mid base d mark b ended wrong) (sym c.buffered-buffered.ensures.are) first in
     let last = is_last ended wrong in
     let plain = c.buffered-buffered.ensures.bytes in
     let new = g.W.Write.contents c.print_messages.new.output in
     let count = c.in-Behind.count in
-    let reported = subst (λ (b : Bool). SomeText (PrintsOn names job.task base bytes b (Behind count)) (Appends mid new)) c.is_last-last.ensures (subst (λ (x : Reached). SomeText (PrintsOn names job.task base bytes c.is_last-last.result x) (Appends mid new)) c.in-Behind.is c.in_ok-count.ensures.ok) in
-    let end = subst (λ (b : Bool). EndsAt bytes b (Behind count)) c.is_last-last.ensures (subst (EndsAt bytes c.is_last-last.result) c.in-Behind.is c.in_ok-count.ensures.end) in
+    let reported = subst (λ (b : Bool). SomeText (PrintsOn names job.task base bytes b (Behind count)) (Appends mid new)) c.is_last-last.ensures
+    (subst (λ (x : Reached). SomeText (PrintsOn names job.task base bytes c.is_last-last.result x) (Appends mid new)) c.in-Behind.is
+    c.in_ok-count.ensures.ok) in
+    let end = subst (λ (b : Bool). EndsAt bytes b (Behind count)) c.is_last-last.ensures
+    (subst (EndsAt bytes c.is_last-last.result) c.in-Behind.is c.in_ok-count.ensures.end) in
     let whole : last ≡ true = ap (is_last ended) c.in_default.is ∙ c.if-ended.true in
     let all : count ≡ length bytes = subst (λ (b : Bool). EndsAt bytes b (Behind count)) whole end in
     text_printed names job form known now old mid base d mark bytes ended wrong r new count c.in_default.is c.if-ended.true all reported
@@ -202,20 +227,26 @@ returns-in_err-ended g c = λ known h.
     let d = c.decode_more.new.decoder in
     let wrong = c.in_ok-wrong.wrong in
     let bytes = c.buffered-buffered.result.now in
-    let first = ready names job form known now old mid base c.pieces.decoder mark (buffered c.pieces.text) (buffered c.pieces.bytes) ended (c.pieces.invariant known h) d (buffered c.decode_more.new.bytes) wrong c.in_ok-wrong.ensures.made c.in_ok-wrong.ensures.form in
+    let first = ready names job form known now old mid base c.pieces.decoder mark (buffered c.pieces.text) (buffered c.pieces.bytes) ended
+    (c.pieces.invariant known h) d (buffered c.decode_more.new.bytes) wrong c.in_ok-wrong.ensures.made c.in_ok-wrong.ensures.form in
     let r = subst (λ (b : List ℕ). TextReady names job form known now old mid base d mark b ended wrong) (sym c.buffered-buffered.ensures.are) first in
     let last = is_last ended wrong in
     let plain = c.buffered-buffered.ensures.bytes in
     let new = g.W.Write.contents c.print_messages.new.output in
     let count = c.in-Behind.count in
-    let reported = subst (λ (b : Bool). SomeText (PrintsOn names job.task base bytes b (Behind count)) (Appends mid new)) c.is_last-last.ensures (subst (λ (x : Reached). SomeText (PrintsOn names job.task base bytes c.is_last-last.result x) (Appends mid new)) c.in-Behind.is c.in_ok-count.ensures.ok) in
-    let end = subst (λ (b : Bool). EndsAt bytes b (Behind count)) c.is_last-last.ensures (subst (EndsAt bytes c.is_last-last.result) c.in-Behind.is c.in_ok-count.ensures.end) in
+    let reported = subst (λ (b : Bool). SomeText (PrintsOn names job.task base bytes b (Behind count)) (Appends mid new)) c.is_last-last.ensures
+    (subst (λ (x : Reached). SomeText (PrintsOn names job.task base bytes c.is_last-last.result x) (Appends mid new)) c.in-Behind.is
+    c.in_ok-count.ensures.ok) in
+    let end = subst (λ (b : Bool). EndsAt bytes b (Behind count)) c.is_last-last.ensures
+    (subst (EndsAt bytes c.is_last-last.result) c.in-Behind.is c.in_ok-count.ensures.end) in
     let going : last ≡ false = ap (is_last ended) c.in_default.is ∙ c.if-ended.false in
     let front : (count ≤ length bytes) × (is_there (drop count bytes) ≡ false) = subst (λ (b : Bool). EndsAt bytes b (Behind count)) going end in
     let shown = goes_further names job old mid base r.all bytes last r.shown new plain count going front.0 reported in
     let next = g.R.Read.remaining c.read_more.new.input in
     let s : Streams = record { input = known; input_left = next; output = old; output_now = new } in
-    subst (Places names job s) (sym y.1) (text_read_fails names job form known now old mid base d mark bytes ended wrong r new (base + count) (drop count bytes) shown next y.0 (bytes_drop count bytes plain) c.in_default.is c.if-ended.false (subst IsUnread (sym y.2) c.in_err-ended.ensures.why) front.1 c.in_err-ended.ensures.err)
+    subst (Places names job s) (sym y.1) (text_read_fails names job form known now old mid base d mark bytes ended wrong r new (base + count)
+    (drop count bytes) shown next y.0 (bytes_drop count bytes plain) c.in_default.is c.if-ended.false (subst IsUnread (sym y.2) c.in_err-ended.ensures.why)
+    front.1 c.in_err-ended.ensures.err)
 
 pub pieces-preserved : goal.pieces-preserved
 pieces-preserved g c = λ known h.
@@ -231,14 +262,18 @@ pieces-preserved g c = λ known h.
     let d = c.decode_more.new.decoder in
     let wrong = c.in_ok-wrong.wrong in
     let bytes = c.buffered-buffered.result.now in
-    let first = ready names job form known now old mid base c.pieces.decoder mark (buffered c.pieces.text) (buffered c.pieces.bytes) ended (c.pieces.invariant known h) d (buffered c.decode_more.new.bytes) wrong c.in_ok-wrong.ensures.made c.in_ok-wrong.ensures.form in
+    let first = ready names job form known now old mid base c.pieces.decoder mark (buffered c.pieces.text) (buffered c.pieces.bytes) ended
+    (c.pieces.invariant known h) d (buffered c.decode_more.new.bytes) wrong c.in_ok-wrong.ensures.made c.in_ok-wrong.ensures.form in
     let r = subst (λ (b : List ℕ). TextReady names job form known now old mid base d mark b ended wrong) (sym c.buffered-buffered.ensures.are) first in
     let last = is_last ended wrong in
     let plain = c.buffered-buffered.ensures.bytes in
     let new = g.W.Write.contents c.print_messages.new.output in
     let count = c.in-Behind.count in
-    let reported = subst (λ (b : Bool). SomeText (PrintsOn names job.task base bytes b (Behind count)) (Appends mid new)) c.is_last-last.ensures (subst (λ (x : Reached). SomeText (PrintsOn names job.task base bytes c.is_last-last.result x) (Appends mid new)) c.in-Behind.is c.in_ok-count.ensures.ok) in
-    let end = subst (λ (b : Bool). EndsAt bytes b (Behind count)) c.is_last-last.ensures (subst (EndsAt bytes c.is_last-last.result) c.in-Behind.is c.in_ok-count.ensures.end) in
+    let reported = subst (λ (b : Bool). SomeText (PrintsOn names job.task base bytes b (Behind count)) (Appends mid new)) c.is_last-last.ensures
+    (subst (λ (x : Reached). SomeText (PrintsOn names job.task base bytes c.is_last-last.result x) (Appends mid new)) c.in-Behind.is
+    c.in_ok-count.ensures.ok) in
+    let end = subst (λ (b : Bool). EndsAt bytes b (Behind count)) c.is_last-last.ensures
+    (subst (EndsAt bytes c.is_last-last.result) c.in-Behind.is c.in_ok-count.ensures.end) in
     let going : last ≡ false = ap (is_last ended) c.in_default.is ∙ c.if-ended.false in
     let front : (count ≤ length bytes) × (is_there (drop count bytes) ≡ false) = subst (λ (b : Bool). EndsAt bytes b (Behind count)) going end in
     let shown = goes_further names job old mid base r.all bytes last r.shown new plain count going front.0 reported in
@@ -247,6 +282,8 @@ pieces-preserved g c = λ known h.
     let piece = buffered c.read_more.new.self in
     let yields = subst (λ (b : List ℕ). Yields now next b piece) c.in_ok-wrong.ensures.left c.in_ok-ended.ensures.ok.yields in
     let at_end : nat_eq came 0 ≡ true → IsAtEnd next = λ none. c.in_ok-ended.ensures.ok.ended (eqb-true came 0 none) in
-    let rest_is : buffered c.discard-in-Behind.new.self ≡ drop count bytes = c.discard-in-Behind.ensures ∙ ap (drop count) (sym c.buffered-buffered.ensures.are) in
-    let then_ = more_characters names job form known now old mid base d mark bytes ended wrong r new (base + count) (drop count bytes) shown next piece (nat_eq came 0) (bytes_drop count bytes plain) c.in_default.is c.if-ended.false yields at_end in
+    let rest_is : buffered c.discard-in-Behind.new.self ≡ drop count bytes = c.discard-in-Behind.ensures
+    ∙ ap (drop count) (sym c.buffered-buffered.ensures.are) in
+    let then_ = more_characters names job form known now old mid base d mark bytes ended wrong r new (base + count) (drop count bytes) shown next piece
+    (nat_eq came 0) (bytes_drop count bytes plain) c.in_default.is c.if-ended.false yields at_end in
     subst (λ (b : List ℕ). TextPrinting names job form known next old new (base + count) d mark piece b (nat_eq came 0)) (sym rest_is) then_

@@ -10,7 +10,8 @@ use Rattle.ttlv_run.proofs.digits.print_digits.Given as goal
 abbrev pub invariant-pieces : goal.invariant-pieces
 invariant-pieces g l =
     (known : Option (List ℕ)) → Consumes known (g.R.Read.remaining l.fn.input) (buffered l.fn.text)
-    → TextPrinting (names_of l.names) l.job l.form known (g.R.Read.remaining l.input) (g.W.Write.contents l.fn.output) (g.W.Write.contents l.output) l.base l.decoder l.mark (buffered l.text) (buffered l.bytes) l.ended
+    → TextPrinting (names_of l.names) l.job l.form known (g.R.Read.remaining l.input) (g.W.Write.contents l.fn.output) (g.W.Write.contents l.output) l.base
+    l.decoder l.mark (buffered l.text) (buffered l.bytes) l.ended
 
 abbrev pub decreases-pieces : goal.decreases-pieces
 decreases-pieces g l = 2 * (2 ^ 64 - (characters l.decoder + length (buffered l.text))) - as_number l.ended

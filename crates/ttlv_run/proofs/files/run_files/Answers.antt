@@ -9,7 +9,8 @@ files-init g c = (no_file, λ (e : 0 ≡ 3). omega (arith, e))
 
 pub files-preserved : goal.files-preserved
 files-preserved g c = (
-  done_more _ (names_of c.args.names.now) c.args.asked _ c.args.files.now c.files.name-index _ _ _ c.files.status c.run_file-next.result c.greater-status.result c.files.invariant.0 c.files.invariant.1 c.files-test.true c.run_file-next.ensures c.greater-status.ensures,
+  done_more _ (names_of c.args.names.now) c.args.asked _ c.args.files.now c.files.name-index _ _ _ c.files.status c.run_file-next.result c.greater-status.result
+      c.files.invariant.0 c.files.invariant.1 c.files-test.true c.run_file-next.ensures c.greater-status.ensures,
   search rules,
 )
 
@@ -17,5 +18,6 @@ pub returns-then-status-eq3 : goal.returns-then-status-eq3
 returns-then-status-eq3 g c =
     let three : c.greater-status.result ≡ 3 = search rules in
     done_last _ (names_of c.args.names.now) c.args.asked _ c.args.files.now c.files.name-index _ c.greater-status.result
-    (done_more _ (names_of c.args.names.now) c.args.asked _ c.args.files.now c.files.name-index _ _ _ c.files.status c.run_file-next.result c.greater-status.result c.files.invariant.0 c.files.invariant.1 c.files-test.true c.run_file-next.ensures c.greater-status.ensures)
+    (done_more _ (names_of c.args.names.now) c.args.asked _ c.args.files.now c.files.name-index _ _ _ c.files.status c.run_file-next.result
+    c.greater-status.result c.files.invariant.0 c.files.invariant.1 c.files-test.true c.run_file-next.ensures c.greater-status.ensures)
     c.files-test.true three

@@ -7,7 +7,8 @@ use Rattle.ttlv_run.proofs.from_json.respond.Given as goal
 
 abbrev pub invariant-lines : goal.invariant-lines
 invariant-lines g l = record {
-  reading : JsonReading l.job (g.R.Read.remaining l.fn.input) (g.R.Read.remaining l.input) (g.W.Write.contents l.fn.output) (g.W.Write.contents l.output) l.base l.at (buffered l.window);
+  reading : JsonReading l.job (g.R.Read.remaining l.fn.input) (g.R.Read.remaining l.input) (g.W.Write.contents l.fn.output) (g.W.Write.contents l.output) l.base
+      l.at (buffered l.window);
   at_end : l.ended ≡ true → IsAtEnd (g.R.Read.remaining l.input);
 }
 

@@ -32,8 +32,10 @@ items-preserved g c =
     let look = c.args.look in
     let message = c.args.message.now in
     let first = lines_from names look c.args.at message no_reach found in
-    let reach : c.reach_after-reach.result ≡ reach_after names look (reach_all names look no_reach found) i = c.reach_after-reach.ensures ∙ ap (λ (r : Reach). reach_after names look r i) c.items.invariant.reported.2 in
-    let more : first ++ item_text names look c.reach_after-reach.result c.args.at message i ≡ lines_from names look c.args.at message no_reach (found ++ (i ∷ [])) =
+    let reach : c.reach_after-reach.result ≡ reach_after names look (reach_all names look no_reach found) i = c.reach_after-reach.ensures
+    ∙ ap (λ (r : Reach). reach_after names look r i) c.items.invariant.reported.2 in
+    let more : first ++ item_text names look c.reach_after-reach.result c.args.at message i ≡ lines_from names look c.args.at message no_reach
+    (found ++ (i ∷ [])) =
     ap (λ (r : Reach). first ++ item_text names look r c.args.at message i) reach ∙ sym (lines-more names look c.args.at message no_reach i found) in
     record {
       bytes = c.next.ensures.bytes ∙ c.items.invariant.bytes;
@@ -41,7 +43,8 @@ items-preserved g c =
         found ++ (i ∷ []),
         yields.met found c.items.invariant.reported.1,
         reach ∙ sym (reach-more names look c.args.at message no_reach i found),
-        adds_same g.S.TextSink.adds g.S.TextSink.breaks _ _ _ _ (g.met.S.TextSink.adds_both _ _ _ first _ c.items.invariant.reported.3 c.in_ok-push_item-in-Item.ensures.ok) more,
+        adds_same g.S.TextSink.adds g.S.TextSink.breaks _ _ _ _
+            (g.met.S.TextSink.adds_both _ _ _ first _ c.items.invariant.reported.3 c.in_ok-push_item-in-Item.ensures.ok) more,
       );
     }
 
@@ -52,7 +55,11 @@ returns-in-End-clause-ok g c =
     let ends = subst (Steps c.items.walk c.next.new.self) c.in-End.is c.in_ok-item.ensures.ok in
     record {
       text = lines_from (names_of c.args.names.now) c.args.look c.args.at c.args.message.now no_reach found;
-      is = record { found = found; ended = subst (λ (s : List ℕ). Ended s found fault) c.items.invariant.bytes (ends.1 found c.items.invariant.reported.1); is = refl };
+      is = record {
+        found = found;
+        ended = subst (λ (s : List ℕ). Ended s found fault) c.items.invariant.bytes (ends.1 found c.items.invariant.reported.1);
+        is = refl;
+      };
       holds = c.items.invariant.reported.3;
     }
 
@@ -64,9 +71,11 @@ returns-in_err-item-clause-err g c =
     let plain : (k : ℕ) → get_or message k 0 < 256 = λ k. omega (arith, c.type_inv.message k) in
     let walk = c.items.walk in
     let found = c.items.invariant.reported.0 in
-    let rest = lines_rest names c.args.at message plain c.args.look walk.bytes.now walk.offset (open_ends walk.ends) found c.items.invariant.bytes c.items.invariant.reported.1 in
+    let rest = lines_rest names c.args.at message plain c.args.look walk.bytes.now walk.offset (open_ends walk.ends) found c.items.invariant.bytes
+    c.items.invariant.reported.1 in
     let after = g.met.S.TextSink.breaks_after _ _ _ c.items.invariant.reported.3 in
-    err_holds _ _ (broken_lines g.S.TextSink.adds g.S.TextSink.breaks g.met.S.TextSink.breaks_first names c.args.at message plain c.args.look found _ _ rest after)
+    err_holds _ _ (broken_lines g.S.TextSink.adds g.S.TextSink.breaks g.met.S.TextSink.breaks_first names c.args.at message plain c.args.look found _ _
+    rest after)
 
 -- the sink failed in a line, behind which others follow
 pub returns-in_err-push_item-in-Item-clause-err : goal.returns-in_err-push_item-in-Item-clause-err
@@ -80,11 +89,15 @@ returns-in_err-push_item-in-Item-clause-err g c =
     let found = c.items.invariant.reported.0 in
     let look = c.args.look in
     let first = lines_from names look c.args.at message no_reach found in
-    let reach : c.reach_after-reach.result ≡ reach_after names look (reach_all names look no_reach found) i = c.reach_after-reach.ensures ∙ ap (λ (r : Reach). reach_after names look r i) c.items.invariant.reported.2 in
-    let more : first ++ item_text names look c.reach_after-reach.result c.args.at message i ≡ lines_from names look c.args.at message no_reach (found ++ (i ∷ [])) =
+    let reach : c.reach_after-reach.result ≡ reach_after names look (reach_all names look no_reach found) i = c.reach_after-reach.ensures
+    ∙ ap (λ (r : Reach). reach_after names look r i) c.items.invariant.reported.2 in
+    let more : first ++ item_text names look c.reach_after-reach.result c.args.at message i ≡ lines_from names look c.args.at message no_reach
+    (found ++ (i ∷ [])) =
     ap (λ (r : Reach). first ++ item_text names look r c.args.at message i) reach ∙ sym (lines-more names look c.args.at message no_reach i found) in
     let bytes = c.next.ensures.bytes ∙ c.items.invariant.bytes in
-    let rest = lines_rest names c.args.at message plain c.args.look walk.bytes.now walk.offset (open_ends walk.ends) (found ++ (i ∷ [])) bytes (yields.met found c.items.invariant.reported.1) in
+    let rest = lines_rest names c.args.at message plain c.args.look walk.bytes.now walk.offset (open_ends walk.ends) (found ++ (i ∷ [])) bytes
+    (yields.met found c.items.invariant.reported.1) in
     let second = g.met.S.TextSink.breaks_second _ _ _ first _ c.items.invariant.reported.3 c.in_err-push_item-in-Item.ensures.err in
     let here = breaks_same g.S.TextSink.adds g.S.TextSink.breaks _ _ _ _ second more in
-    err_holds _ _ (broken_lines g.S.TextSink.adds g.S.TextSink.breaks g.met.S.TextSink.breaks_first names c.args.at message plain c.args.look (found ++ (i ∷ [])) _ _ rest here)
+    err_holds _ _ (broken_lines g.S.TextSink.adds g.S.TextSink.breaks g.met.S.TextSink.breaks_first names c.args.at message plain c.args.look
+    (found ++ (i ∷ [])) _ _ rest here)

@@ -1,4 +1,5 @@
-use Rattle.std.proofs.Common.{rules, arith, ◌≡◌, ◌<◌, ◌^◌, ◌++◌, ◌==◌, ◌%◌, ◌/◌, ◌*◌, Bool, true, [], ℕ, List, Option, None, Bor, ap, sym, refl, ◌∙◌, append_assoc, append-nil}
+use Rattle.std.proofs.Common.{rules, arith, ◌≡◌, ◌<◌, ◌^◌, ◌++◌, ◌==◌, ◌%◌, ◌/◌, ◌*◌, Bool, true, [], ℕ, List, Option, None, Bor, ap, sym, refl, ◌∙◌}
+use Rattle.std.proofs.Common.{append_assoc, append-nil}
 use Rattle.std.specs.Prelude.{option_map}
 use Rattle.kmip_ttlv_util.specs.TagNames.{name_in}
 use Rattle.kmip_ttlv_util.proofs.Saying.{adds_same, breaks_same, err_now}
@@ -22,8 +23,10 @@ bits-preserved g c =
     let set = set_name names c.bits.bit (c.bits.rest % 2 == 1) in
     let tail = bit_names names n.to.left (c.bits.bit * 2) (c.bits.rest / 2) (still_first c.bits.is_first set) in
     let same : behind ≡ behind_mark c.bits.is_first set = ap (behind_mark c.bits.is_first) c.set_name-name.ensures in
-    let first_is : c.still_first-is_first.result ≡ still_first c.bits.is_first set = c.still_first-is_first.ensures ∙ ap (still_first c.bits.is_first) c.set_name-name.ensures in
-    let front : mask_names (value_named (name_in c.args.names.now.own) (option_map (λ (s : Bor (List ℕ)). s.now) c.args.list) c.args.tag) c.args.mask ≡ (w.text ++ behind) ++ tail =
+    let first_is : c.still_first-is_first.result ≡ still_first c.bits.is_first set = c.still_first-is_first.ensures
+    ∙ ap (still_first c.bits.is_first) c.set_name-name.ensures in
+    let front : mask_names (value_named (name_in c.args.names.now.own) (option_map (λ (s : Bor (List ℕ)). s.now) c.args.list) c.args.tag) c.args.mask
+    ≡ (w.text ++ behind) ++ tail =
     w.is ∙ ap (λ (s : List ℕ). w.text ++ s) n.names_are ∙ ap (λ (s : List ℕ). w.text ++ (s ++ tail)) (sym same) ∙ sym (append_assoc w.text behind tail) in (
       n.to,
       record {
@@ -44,10 +47,12 @@ returns-in_err-push_bit-clause-err g c =
     let set = set_name names c.bits.bit (c.bits.rest % 2 == 1) in
     let tail = bit_names names n.to.left (c.bits.bit * 2) (c.bits.rest / 2) (still_first c.bits.is_first set) in
     let same : behind ≡ behind_mark c.bits.is_first set = ap (behind_mark c.bits.is_first) c.set_name-name.ensures in
-    let whole : w.text ++ (behind ++ tail) ≡ mask_names (value_named (name_in c.args.names.now.own) (option_map (λ (s : Bor (List ℕ)). s.now) c.args.list) c.args.tag) c.args.mask =
+    let whole : w.text ++ (behind ++ tail) ≡ mask_names (value_named (name_in c.args.names.now.own) (option_map (λ (s : Bor (List ℕ)). s.now) c.args.list)
+    c.args.tag) c.args.mask =
     ap (λ (s : List ℕ). w.text ++ (s ++ tail)) same ∙ ap (λ (s : List ℕ). w.text ++ s) (sym n.names_are) ∙ sym w.is in
     let first = g.met.S.TextSink.breaks_first _ _ behind tail c.in_err-push_bit.ensures.err in
-    err_now g.S.TextSink.adds g.S.TextSink.breaks _ _ _ _ (breaks_same g.S.TextSink.adds g.S.TextSink.breaks _ _ _ _ (g.met.S.TextSink.breaks_second _ _ _ w.text (behind ++ tail) w.holds first) whole)
+    err_now g.S.TextSink.adds g.S.TextSink.breaks _ _ _ _ (breaks_same g.S.TextSink.adds g.S.TextSink.breaks _ _ _ _
+    (g.met.S.TextSink.breaks_second _ _ _ w.text (behind ++ tail) w.holds first) whole)
 
 -- no bit is left
 pub returns-clause-ok : goal.returns-clause-ok
@@ -57,7 +62,8 @@ returns-clause-ok g c =
     let w = c.bits.invariant.1 in
     let none : c.bits.rest ≡ 0 = omega (arith, c.bits-test.false) in
     let all : mask_names (value_named (name_in c.args.names.now.own) (option_map (λ (s : Bor (List ℕ)). s.now) c.args.list) c.args.tag) c.args.mask ≡ w.text =
-    w.is ∙ ap (λ (r : ℕ). w.text ++ bit_names names p.left c.bits.bit r c.bits.is_first) none ∙ ap (λ (s : List ℕ). w.text ++ s) (none_left names p.left c.bits.bit c.bits.is_first) ∙ append-nil w.text in
+    w.is ∙ ap (λ (r : ℕ). w.text ++ bit_names names p.left c.bits.bit r c.bits.is_first) none
+    ∙ ap (λ (s : List ℕ). w.text ++ s) (none_left names p.left c.bits.bit c.bits.is_first) ∙ append-nil w.text in
     adds_same g.S.TextSink.adds g.S.TextSink.breaks _ _ w.text _ w.holds (sym all)
 
 -- nothing has a name

@@ -1,7 +1,8 @@
-use Rattle.ttlv_run.proofs.Told.{tells_more}
+use Rattle.ttlv_run.proofs.Decided.{decides_more}
 use Rattle.ttlv_run.proofs.misread.report_bytes.Goals as goal
 
 pub returns-then-writable : goal.returns-then-writable
 returns-then-writable g c =
     λ known front h.
-    tells_more c.send.result c.args.writable c.is_ok.result known _ _ front c.args.bytes.now c.if-writable.true c.is_ok.ensures.value c.send.ensures.ok c.send.ensures.err h
+    decides_more c.send.result c.args.writable c.is_ok.result known _ _ front c.args.bytes.now c.if-writable.true c.is_ok.ensures.value c.send.ensures.ok
+    c.send.ensures.err h

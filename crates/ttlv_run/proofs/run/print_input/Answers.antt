@@ -16,6 +16,13 @@ returns-in_err-ended g c =
     let job = c.args.job.now in
     let out = g.W.Write.contents c.args.output.now in
     let after = buffered c.read_front.new.window in
-    let s : Streams = record { input = g.R.Read.remaining c.args.input.now; input_left = g.R.Read.remaining c.read_front.new.input; output = out; output_now = out } in
-    let fails : BeginFails job.encoding s.input s.input_left [] after = subst (λ (b : List ℕ). BeginFails job.encoding s.input s.input_left b after) c.new-window.ensures c.in_err-ended.ensures.err in
+    let s : Streams = record {
+      input = g.R.Read.remaining c.args.input.now;
+      input_left = g.R.Read.remaining c.read_front.new.input;
+      output =
+          out;
+      output_now = out;
+    } in
+    let fails : BeginFails job.encoding s.input s.input_left [] after = subst (λ (b : List ℕ). BeginFails job.encoding s.input s.input_left b after)
+    c.new-window.ensures c.in_err-ended.ensures.err in
     subst (Places names job s) (sym y.1) (begin_fails names job s.input s.input_left out after y.0 (subst IsUnread (sym y.2) c.in_err-ended.ensures.why) fails)

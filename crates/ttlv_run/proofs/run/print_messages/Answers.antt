@@ -19,7 +19,10 @@ returns-in-Err-finish-clause-err g c =
     let end = c.finish.new.self in
     let p = c.in-Ok.ensures.ok in
     let is = goes_on names c.args.task c.args.base c.args.bytes.now c.args.last c.in-Ok.reached p.text c.in-Ok.ensures.end p.is in
-    let s : SomeText kind (λ t. (last.writer.ghost_name ≡ first.writer.ghost_name) × Moves (has first.writer.now) (has last.writer.now) (waiting first.buffer) t (waiting last.buffer)) = record { text = p.text; is = is; holds = p.holds } in
+    let s : SomeText kind (λ t. (last.writer.ghost_name ≡ first.writer.ghost_name) × Moves (has first.writer.now) (has last.writer.now) (waiting first.buffer) t
+    (waiting last.buffer)) = record { text = p.text; is = is; holds = p.holds } in
     let name = c.finish.ensures.same_reference ∙ s.holds.0 ∙ c.new-pieces.ensures.same_reference in
-    let written : SomeText kind (AppendsFront (has c.args.output.now) (has end.writer.now)) = sent_front kind first.writer.ghost_name last.writer.ghost_name (has c.args.output.now) (has first.writer.now) (has last.writer.now) (waiting first.buffer) (has end.writer.now) (waiting last.buffer) s (ap has c.new-pieces.ensures.writer) c.new-pieces.ensures.empty c.in-Err-finish.ensures.err in
+    let written : SomeText kind (AppendsFront (has c.args.output.now) (has end.writer.now)) = sent_front kind first.writer.ghost_name last.writer.ghost_name
+    (has c.args.output.now) (has first.writer.now) (has last.writer.now) (waiting first.buffer) (has end.writer.now) (waiting last.buffer) s
+    (ap has c.new-pieces.ensures.writer) c.new-pieces.ensures.empty c.in-Err-finish.ensures.err in
     search rules

@@ -8,7 +8,8 @@ use Rattle.ttlv_run.proofs.run.print_raw.Given as goal
 abbrev pub invariant-pieces : goal.invariant-pieces
 invariant-pieces g l =
     (known : Option (List ℕ)) → Consumes known (g.R.Read.remaining l.fn.input) (buffered l.fn.window)
-    → Printing (names_of l.names) l.job known (g.R.Read.remaining l.input) (g.W.Write.contents l.fn.output) (g.W.Write.contents l.output) l.base (buffered l.window) l.ended
+    → Printing (names_of l.names) l.job known (g.R.Read.remaining l.input) (g.W.Write.contents l.fn.output) (g.W.Write.contents l.output) l.base
+    (buffered l.window) l.ended
 
 abbrev pub decreases-pieces : goal.decreases-pieces
 decreases-pieces g l = 2 * (2 ^ 64 - (l.base + length (buffered l.window))) - as_number l.ended

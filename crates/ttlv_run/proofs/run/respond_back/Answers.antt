@@ -12,8 +12,9 @@ use Rattle.ttlv_run.specs.Reasons.{IsOfPrinting}
 use Rattle.ttlv_run.specs.Runs.{Streams, RespondsBack, PrintedBack}
 use Rattle.ttlv_run.specs.Streaming.{buffered, Yields}
 use Rattle.ttlv_run.specs.Texts.{names_of}
-use Rattle.ttlv_run.proofs.BackStreams.{BackReading, back_starts, back_came, back_goes, back_printed, back_unwritten, back_no_text, back_no_memory, back_read_fails}
-use Rattle.ttlv_run.proofs.Told.{unwritten_back}
+use Rattle.ttlv_run.proofs.BackStreams.{BackReading, back_starts, back_came, back_goes, back_printed, back_unwritten, back_no_text, back_no_memory}
+use Rattle.ttlv_run.proofs.BackStreams.{back_read_fails}
+use Rattle.ttlv_run.proofs.Decided.{unwritten_back}
 use Rattle.ttlv_run.proofs.run.respond_back.Goals as goal
 
 pub pieces-init : goal.pieces-init
@@ -21,7 +22,8 @@ pieces-init g c =
     let known = g.R.Read.remaining c.args.input.now in
     let out = g.W.Write.contents c.args.output.now in
     record {
-      reading = subst (λ (b : List ℕ). BackReading (names_of c.args.names.now) c.args.job.now known known out out 0 b None) (sym c.new-window.ensures) (back_starts (names_of c.args.names.now) c.args.job.now known out (Consumes-nil known));
+      reading = subst (λ (b : List ℕ). BackReading (names_of c.args.names.now) c.args.job.now known known out out 0 b None) (sym c.new-window.ensures)
+          (back_starts (names_of c.args.names.now) c.args.job.now known out (Consumes-nil known));
       at_end = λ e. cc;
     }
 
@@ -73,7 +75,8 @@ returns-in-NoText g c =
     let bytes = c.buffered-buffered.result.now in
     let p = subst (λ (b : List ℕ). BackReading names job known now old mid base b first) (sym c.buffered-buffered.ensures.are) c.pieces.invariant.reading in
     let new = g.W.Write.contents c.print_lines.new.output in
-    let reported = subst (λ (r : BackReached). SomeText (ReadsBack names.tags job.prefix.now base bytes c.pieces.ended r) (Appends mid new)) c.in-NoText.is c.in_ok-reached.ensures.ok in
+    let reported = subst (λ (r : BackReached). SomeText (ReadsBack names.tags job.prefix.now base bytes c.pieces.ended r) (Appends mid new)) c.in-NoText.is
+    c.in_ok-reached.ensures.ok in
     back_no_text names job known old now mid base bytes first p new c.pieces.ended c.pieces.invariant.at_end reported
 
 -- all lines were read back
@@ -92,10 +95,12 @@ returns-then-ended g c =
     let new = g.W.Write.contents c.print_lines.new.output in
     let count = c.in-Behind.count in
     let found = c.in-Behind.found in
-    let ok = subst (λ (b : Bool). SomeText (ReadsBack names.tags job.prefix.now base bytes b c.in_ok-reached.reached) (Appends mid new)) c.if-ended.true c.in_ok-reached.ensures.ok in
+    let ok = subst (λ (b : Bool). SomeText (ReadsBack names.tags job.prefix.now base bytes b c.in_ok-reached.reached) (Appends mid new)) c.if-ended.true
+    c.in_ok-reached.ensures.ok in
     let reported = subst (λ (r : BackReached). SomeText (ReadsBack names.tags job.prefix.now base bytes true r) (Appends mid new)) c.in-Behind.is ok in
     let s : Streams = record { input = known; input_left = now; output = old; output_now = new } in
-    subst (PrintedBack names job s) (sym c.or-first.ensures) (back_printed names job known old now mid base bytes first p new (c.pieces.invariant.at_end c.if-ended.true) count found reported)
+    subst (PrintedBack names job s) (sym c.or-first.ensures) (back_printed names job known old now mid base bytes first p new
+    (c.pieces.invariant.at_end c.if-ended.true) count found reported)
 
 -- reading failed, or memory ran out for it
 pub returns-in_err-ended : goal.returns-in_err-ended
@@ -113,7 +118,8 @@ returns-in_err-ended g c =
     let new = g.W.Write.contents c.print_lines.new.output in
     let count = c.in-Behind.count in
     let found = c.in-Behind.found in
-    let ok = subst (λ (b : Bool). SomeText (ReadsBack names.tags job.prefix.now base bytes b c.in_ok-reached.reached) (Appends mid new)) c.if-ended.false c.in_ok-reached.ensures.ok in
+    let ok = subst (λ (b : Bool). SomeText (ReadsBack names.tags job.prefix.now base bytes b c.in_ok-reached.reached) (Appends mid new)) c.if-ended.false
+    c.in_ok-reached.ensures.ok in
     let reported = subst (λ (r : BackReached). SomeText (ReadsBack names.tags job.prefix.now base bytes false r) (Appends mid new)) c.in-Behind.is ok in
     let next = g.R.Read.remaining c.read_lines.new.input in
     let after = buffered c.read_lines.new.self in
@@ -125,7 +131,8 @@ returns-in_err-ended g c =
     let yields = subst (λ (b : List ℕ). Yields now next b after) left fails.yields in
     let one : IsOneLine after = fails.one_line (subst IsOneLine (sym left) reported.is.2) in
     let reading = back_came names job known old now new (base + count) (drop count bytes) (option_or first found) on next after yields in
-    subst (RespondsBack names job s) (sym y.1) (back_read_fails names job known old next new (base + count) after (option_or first found) reading one y.0 (subst IsUnread (sym y.2) c.in_err-ended.ensures.why))
+    subst (RespondsBack names job s) (sym y.1) (back_read_fails names job known old next new (base + count) after (option_or first found) reading one y.0
+    (subst IsUnread (sym y.2) c.in_err-ended.ensures.why))
 
 pub pieces-preserved : goal.pieces-preserved
 pieces-preserved g c =
@@ -142,7 +149,8 @@ pieces-preserved g c =
     let new = g.W.Write.contents c.print_lines.new.output in
     let count = c.in-Behind.count in
     let found = c.in-Behind.found in
-    let ok = subst (λ (b : Bool). SomeText (ReadsBack names.tags job.prefix.now base bytes b c.in_ok-reached.reached) (Appends mid new)) c.if-ended.false c.in_ok-reached.ensures.ok in
+    let ok = subst (λ (b : Bool). SomeText (ReadsBack names.tags job.prefix.now base bytes b c.in_ok-reached.reached) (Appends mid new)) c.if-ended.false
+    c.in_ok-reached.ensures.ok in
     let reported = subst (λ (r : BackReached). SomeText (ReadsBack names.tags job.prefix.now base bytes false r) (Appends mid new)) c.in-Behind.is ok in
     let next = g.R.Read.remaining c.read_lines.new.input in
     let after = buffered c.read_lines.new.self in

@@ -8,7 +8,8 @@ use Rattle.ttlv_run.proofs.run.respond_back.Given as goal
 
 abbrev pub invariant-pieces : goal.invariant-pieces
 invariant-pieces g l = record {
-  reading : BackReading (names_of l.names) l.job (g.R.Read.remaining l.fn.input) (g.R.Read.remaining l.input) (g.W.Write.contents l.fn.output) (g.W.Write.contents l.output) l.base (buffered l.window) l.first;
+  reading : BackReading (names_of l.names) l.job (g.R.Read.remaining l.fn.input) (g.R.Read.remaining l.input) (g.W.Write.contents l.fn.output)
+      (g.W.Write.contents l.output) l.base (buffered l.window) l.first;
   at_end : l.ended ≡ true → IsAtEnd (g.R.Read.remaining l.input);
 }
 

@@ -12,6 +12,8 @@ pub returns : goal.returns
 returns g c =
     let whole = hostile c.args.prefix.now c.args.closed (length c.args.message.now) (trace c.args.closed c.args.message.now) in
     record {
-      ok = ok_then g.S.TextSink.adds g.S.TextSink.breaks g.met.S.TextSink.adds_both c.push_str.result _ _ _ whole (10 ∷ []) c.in_ok-push_diag.ensures.text c.push_str.ensures.ok;
-      err = err_then g.S.TextSink.adds g.S.TextSink.breaks g.met.S.TextSink.breaks_second c.push_str.result _ _ _ whole (10 ∷ []) c.in_ok-push_diag.ensures.text c.push_str.ensures.err;
+      ok = ok_then g.S.TextSink.adds g.S.TextSink.breaks g.met.S.TextSink.adds_both c.push_str.result _ _ _ whole (10 ∷ []) c.in_ok-push_diag.ensures.text
+          c.push_str.ensures.ok;
+      err = err_then g.S.TextSink.adds g.S.TextSink.breaks g.met.S.TextSink.breaks_second c.push_str.result _ _ _ whole (10 ∷ []) c.in_ok-push_diag.ensures.text
+          c.push_str.ensures.err;
     }

@@ -14,7 +14,8 @@ pub returns-in_err-push_value-clause-err : goal.returns-in_err-push_value-clause
 returns-in_err-push_value-clause-err g c =
     let m = c.args.message.now in
     let is = shown_upper m (λ k. omega (arith, c.type_inv.message k)) in
-    err_now g.S.TextSink.adds g.S.TextSink.breaks _ _ _ _ (g.met.S.TextSink.breaks_first _ _ (encode_upper m) (10 ∷ []) (breaks_same g.S.TextSink.adds g.S.TextSink.breaks _ _ _ _ c.in_err-push_value.ensures.err is))
+    err_now g.S.TextSink.adds g.S.TextSink.breaks _ _ _ _ (g.met.S.TextSink.breaks_first _ _ (encode_upper m) (10 ∷ [])
+    (breaks_same g.S.TextSink.adds g.S.TextSink.breaks _ _ _ _ c.in_err-push_value.ensures.err is))
 
 pub returns : goal.returns
 returns g c =
@@ -22,6 +23,8 @@ returns g c =
     let is = shown_upper m (λ k. omega (arith, c.type_inv.message k)) in
     let digits = adds_same g.S.TextSink.adds g.S.TextSink.breaks _ _ _ _ c.in_ok-push_value.ensures.ok is in
     record {
-      ok = ok_then g.S.TextSink.adds g.S.TextSink.breaks g.met.S.TextSink.adds_both c.push_str.result _ _ _ (encode_upper m) (10 ∷ []) digits c.push_str.ensures.ok;
-      err = err_then g.S.TextSink.adds g.S.TextSink.breaks g.met.S.TextSink.breaks_second c.push_str.result _ _ _ (encode_upper m) (10 ∷ []) digits c.push_str.ensures.err;
+      ok = ok_then g.S.TextSink.adds g.S.TextSink.breaks g.met.S.TextSink.adds_both c.push_str.result _ _ _ (encode_upper m)
+          (10 ∷ []) digits c.push_str.ensures.ok;
+      err = err_then g.S.TextSink.adds g.S.TextSink.breaks g.met.S.TextSink.breaks_second c.push_str.result _ _ _ (encode_upper m)
+          (10 ∷ []) digits c.push_str.ensures.err;
     }

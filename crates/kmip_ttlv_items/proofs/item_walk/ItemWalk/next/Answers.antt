@@ -21,7 +21,10 @@ invariant_of-self-in-Item g c =
     let old = open_ends c.args.self.now.ends in
     let new = open_ends c.due-step.new.ends in
     let due : IsDue w p new c.in-Item.item = subst (Due w p new) c.in-Item.is c.due-step.ensures.due in
-    record { stands = stands_on w p new c.in-Item.item c.in_ok-self.field-0 (open_ends c.enter.new.ends) due c.in_ok-self.ensures.ok (stands_still w p old new c.due-step.ensures.stays c.args.self.now.stands) }
+    record {
+      stands = stands_on w p new c.in-Item.item c.in_ok-self.field-0 (open_ends c.enter.new.ends) due c.in_ok-self.ensures.ok
+          (stands_still w p old new c.due-step.ensures.stays c.args.self.now.stands);
+    }
 
 pub invariant_of-self-in_default : goal.invariant_of-self-in_default
 invariant_of-self-in_default g c =
@@ -53,5 +56,9 @@ returns-clause-ok g c =
             whole = due_whole bytes p new i due;
             onward = due_onward bytes p new i q fs due goes;
           }
-      | in_default w ↦ rw (w.self-is, w.in_default.is) (c.due-step.ensures.stays, λ xs m. subst (Due c.args.self.now.bytes.now c.args.self.now.offset (open_ends c.due-step.new.ends)) w.in_default.is c.due-step.ensures.due xs (c.due-step.ensures.stays xs m))
+      | in_default w ↦ rw (w.self-is, w.in_default.is) (
+        c.due-step.ensures.stays,
+        λ xs m. subst (Due c.args.self.now.bytes.now c.args.self.now.offset (open_ends c.due-step.new.ends)) w.in_default.is
+            c.due-step.ensures.due xs (c.due-step.ensures.stays xs m),
+      )
     ]

@@ -19,7 +19,10 @@ pub invariant_of-self : goal.invariant_of-self
 invariant_of-self g c =
     let es = open_ends c.args.self.now.ends in
     let at = first_of es c.in-Some.end c.in-Some.ensures in
-    record { stands = stands_passed c.args.self.now.bytes.now c.args.self.now.offset c.behind_leaves-self.result c.in-Some.end at.0 es at.1 c.behind_leaves-self.ensures c.args.self.now.stands }
+    record {
+      stands = stands_passed c.args.self.now.bytes.now c.args.self.now.offset c.behind_leaves-self.result c.in-Some.end at.0 es at.1
+          c.behind_leaves-self.ensures c.args.self.now.stands;
+    }
 
 pub returns-in-Some : goal.returns-in-Some
 returns-in-Some g c =
@@ -27,6 +30,7 @@ returns-in-Some g c =
     let at = first_of es c.in-Some.end c.in-Some.ensures in
     record {
       bytes = refl;
-      met = λ xs m. met_passed c.args.self.now.bytes.now c.args.self.now.offset c.behind_leaves-self.result c.in-Some.end at.0 es xs at.1 c.behind_leaves-self.ensures m;
+      met = λ xs m. met_passed c.args.self.now.bytes.now c.args.self.now.offset c.behind_leaves-self.result c.in-Some.end at.0 es xs at.1
+          c.behind_leaves-self.ensures m;
       onward = omega (arith, c.behind_leaves-self.ensures.onward);
     }

@@ -10,5 +10,6 @@ returns g c = λ s h.
     let bs = c.args.bytes.now in
     let n = c.padding-extending.result in
     let gave = c.give.ensures s.start _ (c.put_filling.ensures s.start _ (c.put_header.ensures s.start s.bytes h.gave)) in
-    let are = ap (λ b. ((s.bytes ++ header c.in-Some.tag BigInteger (n + length bs)) ++ replicate n b) ++ bs) c.sign_of.ensures ∙ big_integer_bytes_are c.in-Some.tag bs s.bytes n c.padding-extending.ensures.value in
+    let are = ap (λ b. ((s.bytes ++ header c.in-Some.tag BigInteger (n + length bs)) ++ replicate n b) ++ bs) c.sign_of.ensures
+    ∙ big_integer_bytes_are c.in-Some.tag bs s.bytes n c.padding-extending.ensures.value in
     wrote_leaf g.O.Output.given c.args.self.now _ s c.in-Some.tag BigInteger (sign_extended bs) _ h (sym c.tag.ensures ∙ c.in-Some.is) are gave refl refl

@@ -9,4 +9,5 @@ returns g c = λ s h.
     let t = c.in-Some.tag in
     let content = to_be_bytes w32 c.args.number in
     let are = ap (λ b. s.bytes ++ b) (sym (append-nil (leaf_bytes t c.args.typ content))) in
-    wrote_leaf g.O.Output.given c.args.self.now _ s t c.args.typ content _ h (sym c.tag.ensures ∙ c.in-Some.is) are (c.put_word.ensures s.start s.bytes h.gave) refl refl
+    wrote_leaf g.O.Output.given c.args.self.now _ s t c.args.typ content _ h (sym c.tag.ensures ∙ c.in-Some.is) are
+    (c.put_word.ensures s.start s.bytes h.gave) refl refl

@@ -15,11 +15,19 @@ pub returns-then-end-self-clause-advances : goal.returns-then-end-self-clause-ad
 returns-then-end-self-clause-advances g c =
     let is : slice_get c.args.self.now.ends.items (length c.args.self.now.ends.items - 1) ≡ Some c.in-Some.end = search rules in
     let size : length c.args.self.now.ends.items ≡ vec_len c.args.self.now.ends = ap length (sym c.deref.ensures.value) ∙ c.deref.ensures.len in
-    let less : length c.pop.new.self.items ≡ vec_len c.pop.new.self = omega (arith, ap length c.pop.ensures.items, length-append c.pop.new.self.items (option_to_list c.pop.result), c.pop.ensures.len) in
-    comes_close c.args.self.now.pos c.in-Some.end c.args.self.now.ends.items c.pop.new.self.items c.args.self.now.endless c.args.self.now.loose is c.if-end-self.true (c.pop.ensures.rest ∙ ap (λ (n : ℕ). take (n - 1) c.args.self.now.ends.items) (sym size)) (λ h. eqb-false (vec_len c.pop.new.self) 0 (sym c.is_empty.ensures ∙ c.if-is_empty.false) (sym less ∙ h))
+    let less : length c.pop.new.self.items ≡ vec_len c.pop.new.self =
+    omega (arith, ap length c.pop.ensures.items, length-append c.pop.new.self.items (option_to_list c.pop.result), c.pop.ensures.len) in
+    comes_close c.args.self.now.pos c.in-Some.end c.args.self.now.ends.items c.pop.new.self.items c.args.self.now.endless c.args.self.now.loose is
+    c.if-end-self.true (c.pop.ensures.rest ∙ ap (λ (n : ℕ). take (n - 1) c.args.self.now.ends.items) (sym size))
+    (λ h. eqb-false (vec_len c.pop.new.self) 0 (sym c.is_empty.ensures ∙ c.if-is_empty.false) (sym less ∙ h))
 
 pub returns-clause-advances : goal.returns-clause-advances
 returns-clause-advances g c =
     let is : slice_get c.args.self.now.ends.items (length c.args.self.now.ends.items - 1) ≡ Some c.in-Some.end = search rules in
-    let how : (c.args.self.now.loose ≡ true) ⊎ (c.args.self.now.pos ≤ c.in-Some.end) = elim c.else-end-self-2.branch [ else-end-self-2-via-then-end-self-2+else-not-self w ↦ inl (search rules) | else-end-self-2-via-else-end-self-2 w ↦ inr (omega arith) ] in
+    let how : (c.args.self.now.loose ≡ true) ⊎ (c.args.self.now.pos ≤ c.in-Some.end) =
+    elim c.else-end-self-2.branch [
+      | else-end-self-2-via-then-end-self-2+else-not-self w ↦ inl (search rules)
+      | else-end-self-2-via-else-end-self-2 w ↦
+          inr (omega arith)
+    ] in
     (refl, comes_read c.args.self.now.pos c.in-Some.end c.args.self.now.ends.items c.args.self.now.endless c.args.self.now.loose is c.if-end-self.false how)

@@ -8,7 +8,8 @@ pub returns-in-Padded : goal.returns-in-Padded
 returns-in-Padded c =
     let d = c.args.self.now in
     let b = c.args.b in
-    let made : (digits bytes : List ℕ) → Knows d.phase d.form digits (begun d) bytes → IsSpoilt d.form (digits ++ b ∷ []) bytes = λ digits bytes k. elim c.in-Padded.is [
+    let made : (digits bytes : List ℕ) → Knows d.phase d.form digits (begun d) bytes → IsSpoilt d.form (digits ++ b ∷ []) bytes =
+    λ digits bytes k. elim c.in-Padded.is [
       | inl is ↦ padded_more d.form digits bytes b (subst (λ (p : Phase). Knows p d.form digits (begun d) bytes) is k)
       | inr is ↦ spoilt_more d.form digits bytes b (subst (λ (p : Phase). Knows p d.form digits (begun d) bytes) is k)
     ] in

@@ -12,7 +12,8 @@ returns-in-Nothing-clause-made c = λ mark s bytes r.
     let mid = c.take.new.self in
     let w = c.in-Some.last in
     let takes = subst (Takes d mid s bytes w []) c.in-Nothing.is (c.take.ensures.made s bytes [] refl (last_taken d mid mark s bytes w w r c.in-Some.is)) in
-    finishes d mid mark s bytes w w r c.in-Some.is c.take.ensures.form c.ended.result c.take.ensures.offset takes (c.ended.ensures takes.digits bytes takes.knows)
+    finishes d mid mark s bytes w w r c.in-Some.is c.take.ensures.form c.ended.result c.take.ensures.offset takes
+    (c.ended.ensures takes.digits bytes takes.knows)
 
 pub returns-in_default-take-clause-made : goal.returns-in_default-take-clause-made
 returns-in_default-take-clause-made c = λ mark s bytes r.

@@ -7,5 +7,6 @@ returns-clause-made c = λ mark s bytes r.
     let d = c.args.self.now in
     let b = c.args.b in
     let w = c.in-Some.first in
-    pushes d c.take-made.new.self mark s bytes b w r c.in-Some.is _ c.take-made.result c.take-made.ensures.offset (record { form = refl; part = refl; phase = refl; begun = refl }) refl refl
+    pushes d c.take-made.new.self mark s bytes b w r c.in-Some.is _ c.take-made.result c.take-made.ensures.offset
+    (record { form = refl; part = refl; phase = refl; begun = refl }) refl refl
     (λ more. c.take-made.ensures.made (s ++ b ∷ more) bytes (b ∷ more) refl (waits d mark s bytes b r w c.in-Some.is more))

@@ -12,7 +12,8 @@ returns-in_default-clause-made c = λ digits bytes o.
     let d = c.args.self.now in
     let w : ℕ = c.width-width.result in
     let g : List ℕ = take w (slice_set d.digits d.count c.args.b) in
-    let is = filled d.digits d.count w c.args.b (omega (arith, d.fits, c.if-self-width.false, c.width-width.ensures.is)) (omega (arith, c.width-width.ensures.most)) in
+    let is = filled d.digits d.count w c.args.b (omega (arith, d.fits, c.if-self-width.false, c.width-width.ensures.is))
+    (omega (arith, c.width-width.ensures.most)) in
     open_spoilt d.form digits (begun d) bytes o c.args.b g is.0 (is.1 ∙ c.width-width.ensures.is) c.of.ensures.digits c.in_default.ensures.none
 
 pub returns-then-group-width-clause-made : goal.returns-then-group-width-clause-made
@@ -20,10 +21,12 @@ returns-then-group-width-clause-made c = λ digits bytes o.
     let d = c.args.self.now in
     let w : ℕ = c.width-width.result in
     let g : List ℕ = take w (slice_set d.digits d.count c.args.b) in
-    let is = filled d.digits d.count w c.args.b (omega (arith, d.fits, c.if-self-width.false, c.width-width.ensures.is)) (omega (arith, c.width-width.ensures.most)) in
+    let is = filled d.digits d.count w c.args.b (omega (arith, d.fits, c.if-self-width.false, c.width-width.ensures.is))
+    (omega (arith, c.width-width.ensures.most)) in
     let long : length g ≡ width d.form = is.1 ∙ c.width-width.ensures.is in
     let x : List ℕ = bytes_in c.in-Some.group in
-    let few : length x + 1 < width d.form = omega (arith, c.if-group-width.true, c.width-width.ensures.is, length-take-le c.in-Some.group.count c.in-Some.group.bytes (omega arith)) in (
+    let few : length x + 1 < width d.form =
+    omega (arith, c.if-group-width.true, c.width-width.ensures.is, length-take-le c.in-Some.group.count c.in-Some.group.bytes (omega arith)) in (
       open_padded d.form digits (begun d) bytes o c.args.b g is.0 long c.of.ensures.digits x c.in-Some.ensures.some few,
       open_made d.form digits (begun d) bytes o c.args.b g is.0 long c.of.ensures.digits x c.in-Some.ensures.some,
     )
@@ -33,10 +36,13 @@ returns-else-group-width-clause-made c = λ digits bytes o.
     let d = c.args.self.now in
     let w : ℕ = c.width-width.result in
     let g : List ℕ = take w (slice_set d.digits d.count c.args.b) in
-    let is = filled d.digits d.count w c.args.b (omega (arith, d.fits, c.if-self-width.false, c.width-width.ensures.is)) (omega (arith, c.width-width.ensures.most)) in
+    let is = filled d.digits d.count w c.args.b (omega (arith, d.fits, c.if-self-width.false, c.width-width.ensures.is))
+    (omega (arith, c.width-width.ensures.most)) in
     let long : length g ≡ width d.form = is.1 ∙ c.width-width.ensures.is in
     let x : List ℕ = bytes_in c.in-Some.group in
-    let least : width d.form ≤ length x + 1 = omega (arith, c.if-group-width.false, c.width-width.ensures.is, length-take-le c.in-Some.group.count c.in-Some.group.bytes (omega arith)) in (
-      subst (λ (p : Phase). Knows p d.form (digits ++ c.args.b ∷ []) [] (bytes ++ x)) (sym c.requires) (open_whole d.form digits (begun d) bytes o c.args.b g is.0 long c.of.ensures.digits x c.in-Some.ensures.some c.in-Some.ensures.bytes least),
+    let least : width d.form ≤ length x + 1 =
+    omega (arith, c.if-group-width.false, c.width-width.ensures.is, length-take-le c.in-Some.group.count c.in-Some.group.bytes (omega arith)) in (
+      subst (λ (p : Phase). Knows p d.form (digits ++ c.args.b ∷ []) [] (bytes ++ x)) (sym c.requires)
+          (open_whole d.form digits (begun d) bytes o c.args.b g is.0 long c.of.ensures.digits x c.in-Some.ensures.some c.in-Some.ensures.bytes least),
       open_made d.form digits (begun d) bytes o c.args.b g is.0 long c.of.ensures.digits x c.in-Some.ensures.some,
     )

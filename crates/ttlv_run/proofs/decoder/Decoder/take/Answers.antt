@@ -8,7 +8,8 @@ use Rattle.ttlv_run.proofs.decoder.Decoder.take.Goals as goal
 pub returns-in-Counts-clause-made : goal.returns-in-Counts-clause-made
 returns-in-Counts-clause-made c = λ s bytes rest next h.
     let d = c.args.self.now in
-    let is : step d.form d.part c.args.b (slice_index rest 0) ≡ Counts c.in-Counts.part = ap (step d.form d.part c.args.b) (sym next) ∙ sym c.in-Counts.ensures in
+    let is : step d.form d.part c.args.b (slice_index rest 0) ≡ Counts c.in-Counts.part = ap (step d.form d.part c.args.b) (sym next)
+    ∙ sym c.in-Counts.ensures in
     counted_takes d c.count.new.self s bytes c.args.b rest c.in-Counts.part c.count.result h is c.count.ensures.made c.count.ensures.form c.count.ensures.part
 
 pub returns-in-Skips-clause-made : goal.returns-in-Skips-clause-made

@@ -12,8 +12,10 @@ pieces-preserved g c =
     let after = buffered c.read_behind.new.self in
     let more = c.in_ok-read_behind.ensures.ok.yields in
     let none : c.has_line_feed.result ≡ false = search rules in
-    let rest : IsOneLine (drop (length before) after) = subst (λ (s : List ℕ). IsOneLine (drop (length s) after)) c.buffered-before.ensures.are (subst (λ (s : List ℕ). IsOneLine (drop (length c.buffered-before.result.now) s)) c.buffered.ensures.are (c.has_line_feed.ensures none)) in
+    let rest : IsOneLine (drop (length before) after) = subst (λ (s : List ℕ). IsOneLine (drop (length s) after)) c.buffered-before.ensures.are
+    (subst (λ (s : List ℕ). IsOneLine (drop (length c.buffered-before.result.now) s)) c.buffered.ensures.are (c.has_line_feed.ensures none)) in
     record {
-      yields = comes_more (left c.args.input.now) (left c.pieces.input) (left c.read_behind.new.input) (buffered c.args.self.now) before after c.pieces.invariant.yields more;
+      yields = comes_more (left c.args.input.now) (left c.pieces.input) (left c.read_behind.new.input) (buffered c.args.self.now) before after
+          c.pieces.invariant.yields more;
       one_line = λ one. still_one_line before after more.came more.are (c.pieces.invariant.one_line one) rest;
     }

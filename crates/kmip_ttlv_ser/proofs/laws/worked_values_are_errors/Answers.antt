@@ -1,5 +1,7 @@
-use Rattle.kmip_ttlv_ser.proofs.Rows.{a_bare_field-holds, a_bare_value-holds, a_wrapper_over_nothing-holds, a_variant_that_is_no_number-holds, a_wrapper_in_a_wrapper-holds, a_doubled_prefix_of_a_wrapper-holds, a_wrapper_over_none-holds, a_structure_named_transparent-holds}
-use Rattle.kmip_ttlv_ser.proofs.laws.worked_values_are_refused.Goals as goal
+use Rattle.kmip_ttlv_ser.proofs.Rows.{a_bare_field-holds, a_bare_value-holds, a_wrapper_over_nothing-holds, a_variant_that_is_no_number-holds}
+use Rattle.kmip_ttlv_ser.proofs.Rows.{a_wrapper_in_a_wrapper-holds, a_doubled_prefix_of_a_wrapper-holds, a_wrapper_over_none-holds}
+use Rattle.kmip_ttlv_ser.proofs.Rows.{a_structure_named_transparent-holds}
+use Rattle.kmip_ttlv_ser.proofs.laws.worked_values_are_errors.Goals as goal
 
 pub returns-clause-a_bare_field : goal.returns-clause-a_bare_field
 returns-clause-a_bare_field c = a_bare_field-holds

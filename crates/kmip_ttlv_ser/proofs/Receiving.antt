@@ -1,10 +1,12 @@
 -- Trees by their canonical bytes.
-use Rattle.std.proofs.Common.{◌≡◌, ℕ, ◌/◌, ◌%◌, ◌<◌, ◌^◌, true, false, List, [], ◌∷◌, ◌++◌, length, replicate, Some, refl, sym, ap, ap₂, ◌∙◌, arith, append_assoc, length-append}
+use Rattle.std.proofs.Common.{◌≡◌, ℕ, ◌/◌, ◌%◌, ◌<◌, ◌^◌, true, false, List, [], ◌∷◌, ◌++◌, length, replicate, Some, refl, sym, ap, ap₂, ◌∙◌, arith}
+use Rattle.std.proofs.Common.{append_assoc, length-append}
 use Rattle.std.specs.List.{AllByRecursion}
 use Rattle.std.specs.Int.{w32, to_be_bytes, from_be_bytes, bytes_high_first}
 use Rattle.std.proofs.lemmas.Nat.{from_be_bytes-to_be_bytes_4}
 use Rattle.kmip_ttlv_types.specs.declared.typ.TtlvType.{TtlvType}
-use Rattle.kmip_ttlv_types.specs.declared.typ.TtlvType.TheVariants.{Structure, Integer, LongInteger, BigInteger, Enumeration, Boolean, TextString, ByteString, DateTime, Interval}
+use Rattle.kmip_ttlv_types.specs.declared.typ.TtlvType.TheVariants.{Structure, Integer, LongInteger, BigInteger, Enumeration, Boolean, TextString, ByteString}
+use Rattle.kmip_ttlv_types.specs.declared.typ.TtlvType.TheVariants.{DateTime, Interval}
 use Rattle.kmip_ttlv_types.specs.ItemTypes.{code, type_of, is_structure, pad_len}
 use Rattle.kmip_ttlv_types.specs.Items.{header}
 use Rattle.kmip_ttlv_types.specs.Trees.{Tree, leaf, node, Trees, no_trees, tree, trees_of, leaf_bytes, node_bytes, bytes, bytes_below, bytes_all}
@@ -51,7 +53,8 @@ split_same (x ∷ xs) (y ∷ ys) a b len e =
     (ap₂ (λ z zs. z ∷ zs) head s.0, s.1)
 
 -- two headers, and what follows them
-same_header : (t u : ℕ) (p q : TtlvType) (m n : ℕ) (a b : List ℕ) → t < 2 ^ 24 → u < 2 ^ 24 → m < 2 ^ 32 → n < 2 ^ 32 → header t p m ++ a ≡ header u q n ++ b → (t ≡ u) × (p ≡ q) × (m ≡ n) × (a ≡ b)
+same_header : (t u : ℕ) (p q : TtlvType) (m n : ℕ) (a b : List ℕ) → t < 2 ^ 24 → u < 2 ^ 24 → m < 2 ^ 32 → n < 2 ^ 32 → header t p m ++ a ≡ header u q n ++ b
+    → (t ≡ u) × (p ≡ q) × (m ≡ n) × (a ≡ b)
 same_header t u p q m n a b ht hu hm hn e =
     let whole = split_same (header t p m) (header u q n) a b refl e in
     let parts = split_same (bytes_high_first 3 t) (bytes_high_first 3 u) (code p ∷ to_be_bytes w32 m) (code q ∷ to_be_bytes w32 n) refl whole.0 in
@@ -61,33 +64,39 @@ same_header t u p q m n a b ht hu hm hn e =
 
 -- ---- trees
 
-leaf_split : (t u : ℕ) (p q : TtlvType) (c d a b : List ℕ) → t < 2 ^ 24 → u < 2 ^ 24 → length c < 2 ^ 32 → length d < 2 ^ 32 → leaf_bytes t p c ++ a ≡ leaf_bytes u q d ++ b → (leaf t p c ≡ leaf u q d) × (a ≡ b)
+leaf_split : (t u : ℕ) (p q : TtlvType) (c d a b : List ℕ) → t < 2 ^ 24 → u < 2 ^ 24 → length c < 2 ^ 32 → length d < 2 ^ 32
+    → leaf_bytes t p c ++ a ≡ leaf_bytes u q d ++ b → (leaf t p c ≡ leaf u q d) × (a ≡ b)
 unfolding leaf_bytes
 leaf_split t u p q c d a b ht hu hc hd e =
     let zc = replicate (pad_len (length c)) 0 in
     let zd = replicate (pad_len (length d)) 0 in
     let flat : header t p (length c) ++ (c ++ (zc ++ a)) ≡ header u q (length d) ++ (d ++ (zd ++ b)) =
-    ap (λ xs. header t p (length c) ++ xs) (sym (append_assoc c zc a)) ∙ sym (append_assoc (header t p (length c)) (c ++ zc) a) ∙ e ∙ append_assoc (header u q (length d)) (d ++ zd) b ∙ ap (λ xs. header u q (length d) ++ xs) (append_assoc d zd b) in
+    ap (λ xs. header t p (length c) ++ xs) (sym (append_assoc c zc a)) ∙ sym (append_assoc (header t p (length c)) (c ++ zc) a) ∙ e
+    ∙ append_assoc (header u q (length d)) (d ++ zd) b ∙ ap (λ xs. header u q (length d) ++ xs) (append_assoc d zd b) in
     let h = same_header t u p q (length c) (length d) (c ++ (zc ++ a)) (d ++ (zd ++ b)) ht hu hc hd flat in
     let content = split_same c d (zc ++ a) (zd ++ b) h.2 h.3 in
     let pad : zd ≡ zc = ap (λ n. replicate (pad_len n) 0) (sym h.2) in
     let rest = split_same zc zd a b (ap length (sym pad)) content.1 in
     (ap (λ k. leaf k p c) h.0 ∙ ap (λ k. leaf u k c) h.1 ∙ ap (λ k. leaf u q k) content.0, rest.1)
 
-node_split : (t u : ℕ) (c d a b : List ℕ) → t < 2 ^ 24 → u < 2 ^ 24 → length c < 2 ^ 32 → length d < 2 ^ 32 → node_bytes t c ++ a ≡ node_bytes u d ++ b → (t ≡ u) × (c ≡ d) × (a ≡ b)
+node_split : (t u : ℕ) (c d a b : List ℕ) → t < 2 ^ 24 → u < 2 ^ 24 → length c < 2 ^ 32 → length d < 2 ^ 32 → node_bytes t c ++ a ≡ node_bytes u d ++ b
+    → (t ≡ u) × (c ≡ d) × (a ≡ b)
 unfolding node_bytes
 node_split t u c d a b ht hu hc hd e =
-    let flat : header t Structure (length c) ++ (c ++ a) ≡ header u Structure (length d) ++ (d ++ b) = sym (append_assoc (header t Structure (length c)) c a) ∙ e ∙ append_assoc (header u Structure (length d)) d b in
+    let flat : header t Structure (length c) ++ (c ++ a) ≡ header u Structure (length d) ++ (d ++ b) = sym (append_assoc (header t Structure (length c)) c a)
+    ∙ e ∙ append_assoc (header u Structure (length d)) d b in
     let h = same_header t u Structure Structure (length c) (length d) (c ++ a) (d ++ b) ht hu hc hd flat in
     let s = split_same c d a b h.2 h.3 in
     (h.0, s.0, s.1)
 
 -- a leaf's header has another type than a structure's
-leaf_no_node : (t u : ℕ) (p : TtlvType) (c d a b : List ℕ) → t < 2 ^ 24 → u < 2 ^ 24 → is_structure p ≡ false → length c < 2 ^ 32 → length d < 2 ^ 32 → leaf_bytes t p c ++ a ≡ node_bytes u d ++ b → ⊥
+leaf_no_node : (t u : ℕ) (p : TtlvType) (c d a b : List ℕ) → t < 2 ^ 24 → u < 2 ^ 24 → is_structure p ≡ false → length c < 2 ^ 32 → length d < 2 ^ 32
+    → leaf_bytes t p c ++ a ≡ node_bytes u d ++ b → ⊥
 unfolding leaf_bytes node_bytes
 leaf_no_node t u p c d a b ht hu plain hc hd e =
     let z = c ++ replicate (pad_len (length c)) 0 in
-    let flat : header t p (length c) ++ (z ++ a) ≡ header u Structure (length d) ++ (d ++ b) = sym (append_assoc (header t p (length c)) z a) ∙ e ∙ append_assoc (header u Structure (length d)) d b in
+    let flat : header t p (length c) ++ (z ++ a) ≡ header u Structure (length d) ++ (d ++ b) = sym (append_assoc (header t p (length c)) z a) ∙ e
+    ∙ append_assoc (header u Structure (length d)) d b in
     let h = same_header t u p Structure (length c) (length d) (z ++ a) (d ++ b) ht hu hc hd flat in
     let k : true ≡ false = sym (ap is_structure h.1) ∙ plain in
     absurd cc

@@ -1,5 +1,6 @@
 -- The JSON of a message, where nothing is hidden, is that of no other one.
-use Rattle.std.proofs.Common.{◌≡◌, ◌∙◌, inl, inr, ℕ, suc, ◌^◌, ◌<◌, ◌==◌, Bool, true, false, List, [], ◌∷◌, ◌++◌, length, drop, get_or, if◌then◌else◌, Option, Some, None, Result, Ok, Err, refl, sym, ap, arith, append-nil}
+use Rattle.std.proofs.Common.{◌≡◌, ◌∙◌, inl, inr, ℕ, suc, ◌^◌, ◌<◌, ◌==◌, Bool, true, false, List, [], ◌∷◌, ◌++◌, length, drop, get_or, if◌then◌else◌, Option}
+use Rattle.std.proofs.Common.{Some, None, Result, Ok, Err, refl, sym, ap, arith, append-nil}
 use Rattle.std.specs.Prelude.{max, nat_lt, slice_index}
 use Rattle.std.specs.Int.{w64, to_be_bytes, from_be_bytes, bytes_high_first}
 use Rattle.std.proofs.lemmas.Bool.{cases_lt, lt-ltb, le-ltb, ltb-true, ltb-false, eqb-true}
@@ -17,7 +18,8 @@ use Rattle.serde_json.specs.Data.{Data, null, boolean, string, array, object, It
 use Rattle.serde_json.specs.Read.{of_json}
 use Rattle.serde_json.specs.Written.{compact_text, outline}
 use Rattle.kmip_ttlv_types.specs.declared.typ.TtlvType.{TtlvType}
-use Rattle.kmip_ttlv_types.specs.declared.typ.TtlvType.TheVariants.{Structure, Integer, LongInteger, BigInteger, Enumeration, Boolean, TextString, ByteString, DateTime, Interval}
+use Rattle.kmip_ttlv_types.specs.declared.typ.TtlvType.TheVariants.{Structure, Integer, LongInteger, BigInteger, Enumeration, Boolean, TextString, ByteString}
+use Rattle.kmip_ttlv_types.specs.declared.typ.TtlvType.TheVariants.{DateTime, Interval}
 use Rattle.kmip_ttlv_types.specs.Leaves.{is_valid}
 use Rattle.kmip_ttlv_types.specs.Trees.{Tree, Trees, leaf, node, no_trees, IsTreeText, AreTreeTexts}
 use Rattle.kmip_ttlv_types.specs.Trees as trees
@@ -46,7 +48,8 @@ text_one d e p q same =
     let j = outline d in
     let k = outline e in
     let n = max (tree.depth j) (tree.depth k) in
-    let both : json_tokens j ++ [] ≡ json_tokens k ++ [] = append-nil (json_tokens j) ∙ sym (tokens_are d p) ∙ ap tokens same ∙ tokens_are e q ∙ sym (append-nil (json_tokens k)) in
+    let both : json_tokens j ++ [] ≡ json_tokens k ++ [] = append-nil (json_tokens j) ∙ sym (tokens_are d p) ∙ ap tokens same ∙ tokens_are e q
+    ∙ sym (append-nil (json_tokens k)) in
     let values = sym (value-json_tokens j n [] (omega arith)) ∙ ap (json.value n) both ∙ value-json_tokens k n [] (omega arith) in
     ap data_in (sym p.same ∙ ap of_json (ap value_in values) ∙ q.same)
 
@@ -141,9 +144,11 @@ boolean_one v w good fine p q e =
     let a = both_true (length v == 8) (nat_lt (from_be_bytes w64 v) 2) good in
     let b = both_true (length w == 8) (nat_lt (from_be_bytes w64 w) 2) fine in
     let same = number_one (from_be_bytes w64 v) (from_be_bytes w64 w) (ltb-true _ 2 a.1) (ltb-true _ 2 b.1) e in
-    sym (be_bytes_8 v (from_be_bytes w64 v) (eqb-true (length v) 8 a.0) p refl) ∙ ap (to_be_bytes w64) same ∙ be_bytes_8 w (from_be_bytes w64 w) (eqb-true (length w) 8 b.0) q refl
+    sym (be_bytes_8 v (from_be_bytes w64 v) (eqb-true (length v) 8 a.0) p refl) ∙ ap (to_be_bytes w64) same
+    ∙ be_bytes_8 w (from_be_bytes w64 w) (eqb-true (length w) 8 b.0) q refl
 
-content_one : (typ : TtlvType) (v w : List ℕ) → is_valid typ v ≡ true → is_valid typ w ≡ true → ArePlain v → ArePlain w → value_json false typ v ≡ value_json false typ w → v ≡ w
+content_one : (typ : TtlvType) (v w : List ℕ) → is_valid typ v ≡ true → is_valid typ w ≡ true → ArePlain v → ArePlain w
+    → value_json false typ v ≡ value_json false typ w → v ≡ w
 content_one Structure v w good fine p q e = absurd (leaf_not Structure v good refl)
 content_one Integer v w good fine p q e = hex_one v w p q (ap text_in e)
 content_one LongInteger v w good fine p q e = hex_one v w p q (ap text_in e)
@@ -166,31 +171,37 @@ tail_in no_items = no_items
 tail_in (item d ds) = ds
 
 mutual
-  tree_one : (d : ℕ) (t u : Tree) (x y : List ℕ) → IsTreeText t x → IsTreeText u y → AllPlain (lines d t) → AllPlain (lines d u) → tree_json no_secrets false t ≡ tree_json no_secrets false u → t ≡ u
+  tree_one : (d : ℕ) (t u : Tree) (x y : List ℕ) → IsTreeText t x → IsTreeText u y → AllPlain (lines d t) → AllPlain (lines d u)
+      → tree_json no_secrets false t ≡ tree_json no_secrets false u → t ≡ u
   tree_one d (leaf a typ v) (leaf b kind w) x y h k p q e =
       let s = item_one a b typ kind (value_json false typ v) (value_json false kind w) h.1.tag_fits k.1.tag_fits e in
       let fine : is_valid typ w ≡ true = ap (λ (o : TtlvType). is_valid o w) s.typ ∙ k.0 in
       let value : value_json false typ v ≡ value_json false typ w = s.value ∙ sym (ap (λ (o : TtlvType). value_json false o w) s.typ) in
-      ap (λ (n : ℕ). leaf n typ v) s.tag ∙ ap (λ (o : TtlvType). leaf b o v) s.typ ∙ ap (λ (c : List ℕ). leaf b kind c) (content_one typ v w h.0 fine p.0 q.0 value)
+      ap (λ (n : ℕ). leaf n typ v) s.tag ∙ ap (λ (o : TtlvType). leaf b o v) s.typ
+      ∙ ap (λ (c : List ℕ). leaf b kind c) (content_one typ v w h.0 fine p.0 q.0 value)
   tree_one d (leaf a typ v) (node b us) x y h k p q e =
       absurd (leaf_not typ v h.0 (item_one a b typ Structure (value_json false typ v) (array (trees_json no_secrets false us)) h.1.tag_fits k.1.tag_fits e).typ)
   tree_one d (node a ts) (leaf b kind w) x y h k p q e =
-      absurd (leaf_not kind w k.0 (sym (item_one a b Structure kind (array (trees_json no_secrets false ts)) (value_json false kind w) h.1.tag_fits k.1.tag_fits e).typ))
+      absurd (leaf_not kind w k.0 (sym (item_one a b Structure kind (array (trees_json no_secrets false ts)) (value_json false kind w) h.1.tag_fits
+      k.1.tag_fits e).typ))
   tree_one d (node a ts) (node b us) x y h k p q e =
       let s = item_one a b Structure Structure (array (trees_json no_secrets false ts)) (array (trees_json no_secrets false us)) h.1.tag_fits k.1.tag_fits e in
       ap (λ (n : ℕ). node n ts) s.tag ∙ ap (λ (vs : Trees). node b vs) (trees_one (suc d) ts us h.0 k.0 h.2 k.2 p.1 q.1 (ap items_in s.value))
 
-  trees_one : (d : ℕ) (ts us : Trees) (x y : List ℕ) → AreTreeTexts ts x → AreTreeTexts us y → AllPlain (lines_below d ts) → AllPlain (lines_below d us) → trees_json no_secrets false ts ≡ trees_json no_secrets false us → ts ≡ us
+  trees_one : (d : ℕ) (ts us : Trees) (x y : List ℕ) → AreTreeTexts ts x → AreTreeTexts us y → AllPlain (lines_below d ts) → AllPlain (lines_below d us)
+      → trees_json no_secrets false ts ≡ trees_json no_secrets false us → ts ≡ us
   trees_one d no_trees no_trees x y h k p q e = refl
   trees_one d no_trees (trees.tree u us) x y h k p q e = absurd (cc)
   trees_one d (trees.tree t ts) no_trees x y h k p q e = absurd (cc)
   trees_one d (trees.tree t ts) (trees.tree u us) x y h k p q e =
       let m = plain_both (lines d t) (lines_below d ts) p in
       let n = plain_both (lines d u) (lines_below d us) q in
-      ap (λ (v : Tree). trees.tree v ts) (tree_one d t u h.0 k.0 h.3 k.3 m.0 n.0 (ap head_in e)) ∙ ap (λ (vs : Trees). trees.tree u vs) (trees_one d ts us h.1 k.1 h.4 k.4 m.1 n.1 (ap tail_in e))
+      ap (λ (v : Tree). trees.tree v ts) (tree_one d t u h.0 k.0 h.3 k.3 m.0 n.0 (ap head_in e))
+      ∙ ap (λ (vs : Trees). trees.tree u vs) (trees_one d ts us h.1 k.1 h.4 k.4 m.1 n.1 (ap tail_in e))
 
-pub tells_all : (a b : List ℕ) (xs ys : List FoundItem) → ArePlain a → ArePlain b → (h : Lists a xs) (k : Lists b ys) → json_line no_secrets false h.message ≡ json_line no_secrets false k.message → h.message ≡ k.message
-tells_all m w xs ys plain also h k e =
+pub determines_all : (a b : List ℕ) (xs ys : List FoundItem) → ArePlain a → ArePlain b → (h : Lists a xs) (k : Lists b ys)
+    → json_line no_secrets false h.message ≡ json_line no_secrets false k.message → h.message ≡ k.message
+determines_all m w xs ys plain also h k e =
     let t = h.message in
     let u = k.message in
     let text = append_cancel_right (compact_text (tree_json no_secrets false t)) (compact_text (tree_json no_secrets false u)) (10 ∷ []) e in

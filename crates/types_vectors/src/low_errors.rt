@@ -130,7 +130,7 @@ fn is_malformed(heap: Global, low: types::Error, wanted: MalformedTtlvError) -> 
 }
 
 #[test]
-fn kinds_of_low_refusals(rt: HostRuntime) -> Result<(), Fail> {
+fn kinds_of_low_errors(rt: HostRuntime) -> Result<(), Fail> {
     let alloc = rt.alloc();
     let words = "Internal error: invalid state machine operaiton";
     assert!(rt; is_in_words(alloc, types::Error::InvalidStateMachineOperation, words));
@@ -157,41 +157,41 @@ fn overflows(rt: HostRuntime) -> Result<(), Fail> {
 }
 
 // Whether an error of this kind at offset 3 is printed so.
-fn refusal_prints(heap: Global, kind: ErrorKind, text: &str) -> bool {
+fn error_prints(heap: Global, kind: ErrorKind, text: &str) -> bool {
     prints(heap, Error::new(kind, ErrorLocation::from(3u8)), text)
 }
 
 #[test]
-fn texts_of_refusals(rt: HostRuntime) -> Result<(), Fail> {
+fn texts_of_errors(rt: HostRuntime) -> Result<(), Fail> {
     let alloc = rt.alloc();
     let kind = ErrorKind::from(io::Error::from(io::ErrorKind::BrokenPipe));
-    assert!(rt; refusal_prints(alloc, kind, "IO error broken pipe (at pos: 3 bytes)"));
+    assert!(rt; error_prints(alloc, kind, "IO error broken pipe (at pos: 3 bytes)"));
     let kind = ErrorKind::ResponseSizeExceedsLimit(24);
-    assert!(rt; refusal_prints(alloc, kind, "Response size 24 exceeds the configured limit"));
+    assert!(rt; error_prints(alloc, kind, "Response size 24 exceeds the configured limit"));
     let malformed = MalformedTtlvError::UnexpectedTtlvField {
         expected: FieldType::Typ,
         actual: FieldType::Tag,
     };
     let text = "Malformed TTLV: field Tag where Type is expected (at pos: 3 bytes)";
-    assert!(rt; refusal_prints(alloc, ErrorKind::from(malformed), text));
+    assert!(rt; error_prints(alloc, ErrorKind::from(malformed), text));
     let text = "Serde error : the variant Create is no number (at pos: 3 bytes)";
     let kind = ErrorKind::from(SerdeError::InvalidVariant("Create"));
-    assert!(rt; refusal_prints(alloc, kind, text));
-    assert!(rt; refusal_prints(alloc, ErrorKind::OutOfMemory, "Out of memory"));
+    assert!(rt; error_prints(alloc, kind, text));
+    assert!(rt; error_prints(alloc, ErrorKind::OutOfMemory, "Out of memory"));
     let text = "Length overflow (at pos: 3 bytes)";
-    assert!(rt; refusal_prints(alloc, ErrorKind::LengthOverflow, text));
+    assert!(rt; error_prints(alloc, ErrorKind::LengthOverflow, text));
     Ok(())
 }
 
 // Whether an error of this kind without a place is printed so.
-fn refusal_at_no_place_prints(heap: Global, kind: ErrorKind, text: &str) -> bool {
+fn error_at_no_place_prints(heap: Global, kind: ErrorKind, text: &str) -> bool {
     prints(heap, Error::new(kind, ErrorLocation::unknown()), text)
 }
 
 #[test]
-fn a_refusal_at_no_place(rt: HostRuntime) -> Result<(), Fail> {
+fn an_error_at_no_place(rt: HostRuntime) -> Result<(), Fail> {
     let text = "Length overflow (at Unknown)";
-    assert!(rt; refusal_at_no_place_prints(rt.alloc(), ErrorKind::LengthOverflow, text));
+    assert!(rt; error_at_no_place_prints(rt.alloc(), ErrorKind::LengthOverflow, text));
     Ok(())
 }
 

@@ -15,23 +15,23 @@ fn grow<A: Allocator + Copy>(alloc: A) -> Result<usize, AllocError> {
 }
 
 // Whether the growth after this many fails, and no other.
-fn one_is_refused(alloc: Global, before: u64) -> bool {
+fn one_fails(alloc: Global, before: u64) -> bool {
     let heap = BoundedAllocator::failing_after(alloc, before);
     grow(&heap).is_err() && heap.has_failed() && grow(&heap).ok() == Some(4)
 }
 
 // Whether no growth fails if this many may succeed.
-fn none_is_refused(alloc: Global, before: u64) -> bool {
+fn none_fails(alloc: Global, before: u64) -> bool {
     let heap = BoundedAllocator::failing_after(alloc, before);
     grow(&heap).ok() == Some(4) && !heap.has_failed()
 }
 
 #[test]
-fn one_growth_is_refused(rt: HostRuntime) -> Result<(), Fail> {
+fn one_growth_fails(rt: HostRuntime) -> Result<(), Fail> {
     for before in 0..3u64 {
-        assert!(rt; one_is_refused(rt.alloc(), before), "at {before}");
+        assert!(rt; one_fails(rt.alloc(), before), "at {before}");
     }
-    assert!(rt; none_is_refused(rt.alloc(), 3));
+    assert!(rt; none_fails(rt.alloc(), 3));
     Ok(())
 }
 
@@ -53,17 +53,17 @@ fn ten_bytes_fit(alloc: Global) -> Option<bool> {
 }
 
 // Whether room for this many values can't be had if blocks are limited to ten bytes.
-fn room_is_refused<T: Drop>(alloc: Global, len: usize) -> bool {
+fn room_runs_out<T: Drop>(alloc: Global, len: usize) -> bool {
     let heap = BoundedAllocator::in_blocks(alloc, 10);
     let room: Result<Vec<T, _>, AllocError> = Vec::with_capacity(&heap, len);
     room.is_err()
 }
 
 #[test]
-fn large_requests_are_refused(rt: HostRuntime) -> Result<(), Fail> {
+fn large_requests_fail(rt: HostRuntime) -> Result<(), Fail> {
     assert!(rt; ten_bytes_fit(rt.alloc()) == Some(true));
-    assert!(rt; room_is_refused::<u8>(rt.alloc(), 11));
-    assert!(rt; room_is_refused::<u64>(rt.alloc(), 2));
+    assert!(rt; room_runs_out::<u8>(rt.alloc(), 11));
+    assert!(rt; room_runs_out::<u64>(rt.alloc(), 2));
     Ok(())
 }
 

@@ -3,7 +3,7 @@ use Rattle.std.specs.Option.{option_copied}
 use Rattle.kmip_ttlv_reader.specs.TagValues.{last}
 use Rattle.kmip_ttlv_reader.specs.Rules.{plain_verdict}
 use Rattle.kmip_ttlv_reader.proofs.PartLemmas.{is_wanted}
-use Rattle.kmip_ttlv_reader.proofs.rules.is_kept.Goals as goal
+use Rattle.kmip_ttlv_reader.proofs.rules.is_stored.Goals as goal
 
 pub returns-in-Some : goal.returns-in-Some
 returns-in-Some g c =

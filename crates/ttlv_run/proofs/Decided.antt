@@ -1,5 +1,6 @@
--- What is told of an input, and why a run fails.
-use Rattle.std.proofs.Common.{◌≡◌, inl, inr, ℕ, suc, List, [], ◌∷◌, ◌++◌, Option, Result, Ok, Err, OnOk, OnErr, Bool, true, is_ok, length, take, sym, ap, subst, ◌∙◌, ◌+◌, arith, codes, length-append}
+-- What is decided of an input, and why a run fails.
+use Rattle.std.proofs.Common.{◌≡◌, inl, inr, ℕ, suc, List, [], ◌∷◌, ◌++◌, Option, Result, Ok, Err, OnOk, OnErr, Bool, true, is_ok, length, take, sym, ap, subst}
+use Rattle.std.proofs.Common.{◌∙◌, ◌+◌, arith, codes, length-append}
 use Rattle.std.proofs.KnownBytes.{Appends-trans}
 use Rattle.std.specs.Io.KnownBytes.{Appends}
 use Rattle.kmip_ttlv_types.specs.Streams.{AppendsFront}
@@ -27,11 +28,13 @@ front_more a b c front text all more = record {
   appends = subst (Appends a c) (sym (take_more front text more.count)) (Appends-trans a b c front (take more.count text) all more.appends);
 }
 
-pub tells_more : {T E : Type 0} (r : Result T E) (writable said : Bool) (known mid new : Option (List ℕ)) (front text : List ℕ) → writable ≡ true → said ≡ is_ok r → OnOk r (Appends mid new text) → OnErr r (AppendsFront mid new text) → Reports writable known mid front → Reports said known new (front ++ text)
-tells_more (Ok x) writable said known mid new front text is says all some h =
+pub decides_more : {T E : Type 0} (r : Result T E) (writable said : Bool) (known mid new : Option (List ℕ)) (front text : List ℕ) → writable ≡ true
+    → said ≡ is_ok r → OnOk r (Appends mid new text) → OnErr r (AppendsFront mid new text) → Reports writable known mid front
+    → Reports said known new (front ++ text)
+decides_more (Ok x) writable said known mid new front text is says all some h =
     let before = subst (λ b. Reports b known mid front) is h in
     subst (λ b. Reports b known new (front ++ text)) (sym says) (Appends-trans known mid new front text before all)
-tells_more (Err e) writable said known mid new front text is says all some h =
+decides_more (Err e) writable said known mid new front text is says all some h =
     let before = subst (λ b. Reports b known mid front) is h in
     subst (λ b. Reports b known new (front ++ text)) (sym says) (front_more known mid new front text before some)
 

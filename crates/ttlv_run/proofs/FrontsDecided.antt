@@ -1,5 +1,6 @@
--- What the front of an input tells, it tells whatever follows.
-use Rattle.std.proofs.Common.{◌≡◌, ◌⊎◌, inl, inr, ℕ, ◌<◌, ◌≤◌, Bool, true, false, if◌then◌else◌, List, [], ◌++◌, length, take, drop, Some, None, Option, ap, sym, refl, ◌∙◌, arith, append-nil, length-append}
+-- What the front of an input decides, it decides whatever follows.
+use Rattle.std.proofs.Common.{◌≡◌, ◌⊎◌, inl, inr, ℕ, ◌<◌, ◌≤◌, Bool, true, false, if◌then◌else◌, List, [], ◌++◌, length, take, drop, Some, None, Option, ap}
+use Rattle.std.proofs.Common.{sym, refl, ◌∙◌, arith, append-nil, length-append}
 use Rattle.std.specs.Prelude.{slice_index, nat_lt, not, ◌==◌, ◌&&◌, ◌||◌}
 use Rattle.std.proofs.lemmas.Bool.{le-ltb}
 use Rattle.std.proofs.lemmas.List.{take-append-le, drop-append-le, get_or_append_left}
@@ -29,8 +30,8 @@ most_by false false = omega arith
 pub size_most : (e : Encoding) (s : List ℕ) → front_size e s ≤ 1024
 size_most e s = most_by (not (is_detected e) || (nat_lt (length s) 4 || looks_raw s)) (nat_lt (length s) 64 || is_some (front_of s))
 
--- what an input tells is that of its front
-pub record Told (e : Encoding) (s more : List ℕ) : Type 0 where
+-- what an input decides is what its front does
+pub record Decided (e : Encoding) (s more : List ℕ) : Type 0 where
   pub size : front_size e (s ++ more) ≡ front_size e s
   pub encoding : encoding_of e (s ++ more) ≡ encoding_of e s
 
@@ -51,9 +52,9 @@ module _ (s more : List ℕ) (long : front_size Detected s ≤ length s) where
   raw : looks_raw (s ++ more) ≡ looks_raw s
   raw = ap has_control (take-append-le 4 s more four)
 
-  told_by : (r : Bool) → looks_raw s ≡ r → (o : Option Encoding) → front_of s ≡ o → Told Detected s more
-  told_by true is o of = record { size = rw (few_on, few, raw, is) refl; encoding = rw (raw, is) refl }
-  told_by false is o of =
+  decided_by : (r : Bool) → looks_raw s ≡ r → (o : Option Encoding) → front_of s ≡ o → Decided Detected s more
+  decided_by true is o of = record { size = rw (few_on, few, raw, is) refl; encoding = rw (raw, is) refl }
+  decided_by false is o of =
       let least : (if nat_lt (length s) 64 || is_some (front_of s) then 64 else 1024) ≤ length s = rw (few, is) at long in
       let sixty : 64 ≤ length s = omega (arith, least, some_least (nat_lt (length s) 64 || is_some (front_of s))) in
       let no = le-ltb (length s) 64 sixty in
@@ -61,25 +62,26 @@ module _ (s more : List ℕ) (long : front_size Detected s ≤ length s) where
       let front : front_of (s ++ more) ≡ front_of s = ap (λ (t : List ℕ). front_found (body t)) (take-append-le 64 s more sixty) in
       record { size = rw (few_on, few, raw, is, no_on, no, front) refl; encoding = rw (raw, is, front) (by o of (rw no at least)) }
     where
-      by : (o : Option Encoding) → front_of s ≡ o → (if is_some (front_of s) then 64 else 1024) ≤ length s → text_found (front_of s) (body (take 1024 (s ++ more))) ≡ text_found (front_of s) (body (take 1024 s))
+      by : (o : Option Encoding) → front_of s ≡ o → (if is_some (front_of s) then 64 else 1024) ≤ length s
+          → text_found (front_of s) (body (take 1024 (s ++ more))) ≡ text_found (front_of s) (body (take 1024 s))
       by (Some e) of least = rw of refl
       by None of least =
           let long_front : 1024 ≤ length s = rw of at least in
           ap (λ (t : List ℕ). text_found (front_of s) (body t)) (take-append-le 1024 s more long_front)
 
-pub told_on : (e : Encoding) (s more : List ℕ) → (front_size e s ≤ length s) ⊎ (more ≡ []) → Told e s more
-told_on e s more (inr none) = record { size = ap (front_size e) same; encoding = ap (encoding_of e) same }
+pub decided_on : (e : Encoding) (s more : List ℕ) → (front_size e s ≤ length s) ⊎ (more ≡ []) → Decided e s more
+decided_on e s more (inr none) = record { size = ap (front_size e) same; encoding = ap (encoding_of e) same }
   where
     same : s ++ more ≡ s
     same = ap (λ (m : List ℕ). s ++ m) none ∙ append-nil s
-told_on Detected s more (inl long) = told_by s more long (looks_raw s) refl (front_of s) refl
-told_on Raw s more (inl long) = record { size = refl; encoding = refl }
-told_on Hexadecimal s more (inl long) = record { size = refl; encoding = refl }
-told_on Base64 s more (inl long) = record { size = refl; encoding = refl }
-told_on Base64Url s more (inl long) = record { size = refl; encoding = refl }
-told_on Armoured s more (inl long) = record { size = refl; encoding = refl }
-told_on Dump s more (inl long) = record { size = refl; encoding = refl }
-told_on Packets s more (inl long) = record { size = refl; encoding = refl }
+decided_on Detected s more (inl long) = decided_by s more long (looks_raw s) refl (front_of s) refl
+decided_on Raw s more (inl long) = record { size = refl; encoding = refl }
+decided_on Hexadecimal s more (inl long) = record { size = refl; encoding = refl }
+decided_on Base64 s more (inl long) = record { size = refl; encoding = refl }
+decided_on Base64Url s more (inl long) = record { size = refl; encoding = refl }
+decided_on Armoured s more (inl long) = record { size = refl; encoding = refl }
+decided_on Dump s more (inl long) = record { size = refl; encoding = refl }
+decided_on Packets s more (inl long) = record { size = refl; encoding = refl }
 
 -- and how long its mark is
 mark_on : (s more : List ℕ) → 4 ≤ length s → mark_length (s ++ more) ≡ mark_length s
@@ -94,7 +96,8 @@ three_most true = omega arith
 three_most false = omega arith
 
 pub body_on : (s more : List ℕ) → (4 ≤ length s) ⊎ (more ≡ []) → body (s ++ more) ≡ body s ++ more
-body_on s more (inr none) = ap (λ (m : List ℕ). body (s ++ m)) none ∙ ap body (append-nil s) ∙ sym (append-nil (body s)) ∙ ap (λ (m : List ℕ). body s ++ m) (sym none)
+body_on s more (inr none) = ap (λ (m : List ℕ). body (s ++ m)) none ∙ ap body (append-nil s) ∙ sym (append-nil (body s))
+    ∙ ap (λ (m : List ℕ). body s ++ m) (sym none)
 body_on s more (inl long) =
     ap (λ (n : ℕ). drop n (s ++ more)) (mark_on s more long)
     ∙ drop-append-le (mark_length s) s more (omega (arith, long, three_most (slice_index s 0 == 239 && (slice_index s 1 == 187 && slice_index s 2 == 191))))

@@ -1,5 +1,0 @@
-use Rattle.kmip_ttlv_util.proofs.Message.{tells_outlines, each_byte}
-use Rattle.kmip_ttlv_util.proofs.laws.diagnostics_tell_outlines.Goals as goal
-
-pub returns : goal.returns
-returns c = λ prefix closed a b t u bytes-a bytes-b. tells_outlines prefix closed a b t u (each_byte a bytes-a) (each_byte b bytes-b)
