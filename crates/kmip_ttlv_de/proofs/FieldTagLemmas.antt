@@ -21,9 +21,10 @@ pub tag_put : (m n : BTreeSet ℕ) (name : List ℕ) (s : Form) (fs : Fields) (k
     → ((q : ℕ) → contains nat_cmp n q ≡ cond (is_at (nat_cmp k) q) true (contains nat_cmp m q))
     → (contains nat_cmp n t || names_tag fs t) ≡ (contains nat_cmp m t || names_tag (field name s fs) t)
 tag_put m n name s fs k t named put =
+    let was = contains nat_cmp m t in
     let here : contains nat_cmp n t ≡ cond (k == t) true (contains nat_cmp m t) = put t ∙ ap (λ b. cond b true (contains nat_cmp m t)) (is_eq-nat_cmp k t) in
     ap (λ b. b || names_tag fs t) here
-    ∙ elim (k == t) as (λ b. (cond b true (contains nat_cmp m t) || names_tag fs t) ≡ (contains nat_cmp m t || elim b [ true ↦ true | false ↦ names_tag fs t ])) [
+    ∙ elim (k == t) as (λ b. (cond b true was || names_tag fs t) ≡ (was || elim b [ true ↦ true | false ↦ names_tag fs t ])) [
       | true ↦ elim (contains nat_cmp m t) as (λ b. true ≡ (b || true)) [ true ↦ refl | false ↦ refl ]
       | false ↦ refl
     ]

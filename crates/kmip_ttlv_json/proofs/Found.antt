@@ -105,7 +105,8 @@ module _ (secrets : ℕ → Bool) (hidden : Bool) where
 
   -- what is printed of an item
   abbrev item_printed : Spot → List ℕ → FoundItem → List ℕ
-  item_printed s w i = gap s i.depth ++ (opening i.tag i.typ ++ value_part ((hidden || is_inside s.secret i.depth) || secrets i.tag) i.typ (content_at w i.offset))
+  item_printed s w i = gap s i.depth ++ (opening i.tag i.typ ++ value_part ((hidden || is_inside s.secret i.depth) || secrets i.tag) i.typ
+      (content_at w i.offset))
 
   printed_is : (s : Spot) (w : List ℕ) (i : FoundItem) → IsThere w i → parts secrets hidden s (found_lines w (i ∷ [])) ≡ item_printed s w i
   printed_is s w i there =

@@ -283,7 +283,8 @@ optional_then {s = s} f g x None named other p rest = absent_then other (where_m
 optional_then f g x (Some z) named other p rest = present_then named p.1 p.0 rest
 
 -- the same where what is decoded is what was encoded
-pub optional_same_then : {T : Type 0} {known : List Known} {name : List ℕ} {s : Form} {fs : Fields} {ws vs : Values} {y : Option Head} (f : T → Value) (x : Head)
+pub optional_same_then : {T : Type 0} {known : List Known} {name : List ℕ} {s : Form} {fs : Fields} {ws vs : Values} {y : Option Head} (f : T
+    → Value) (x : Head)
     (o : Option T) → is_field_of name (option s) x ≡ true → is_named name y ≡ false → PresentAgrees f f s x o
     → PartsAgree (left known x.tag (option s)) fs ws y vs → PartsAgree known (field name (option s) fs) (joined (optional_field (option_map f o)) ws)
     (head_or o x y) (value (read_optional f o) vs)

@@ -78,7 +78,8 @@ stored_then {known} {v = v} {x = x} {y = y} {r = r} named single p rest =
     }
 
 -- one that may be absent: then nothing is known of its tag
-pub optional_stored_then : {T : Type 0} {P : T → Type 0} {known : List Known} {name : List ℕ} {s : Form} {fs : Fields} {ws vs : Values} {y : Option Head} (f g : T
+pub optional_stored_then : {T : Type 0} {P : T → Type 0} {known : List Known} {name : List ℕ} {s : Form} {fs : Fields} {ws vs : Values}
+    {y : Option Head} (f g : T
     → Value) (x : Head) (text : T → List ℕ) (o : Option T) → is_field_of name (option s) x ≡ true → is_named name y ≡ false
     → ((t : T) → P t → PartKeeps s (f t) x (g t) record { tag = x.tag; text = text t }) → ((t : T) → is_run (g t) ≡ false) → IfSome o P
     → PartsAgree (record { tag = x.tag; text = option_map text o } ∷ known) fs ws y vs
@@ -268,7 +269,8 @@ pending_structure takes (inner_agrees wraps a) = absurd (no_wrapper wraps)
 pending_structure takes (struct_agrees named (struct_encodes own) parts) = struct_agrees named (struct_encodes takes) parts
 
 -- so does one that is encoded as a newtype which is no wrapper
-pending_newtype : {own name : List ℕ} {fs : Fields} {deny : Boole} {k k' : List TagValue} {h : PendingTag} {w v : Value} {x : Head} → transparent_name name ≡ None
+pending_newtype : {own name : List ℕ} {fs : Fields} {deny : Boole} {k k' : List TagValue} {h : PendingTag} {w v : Value} {x : Head}
+    → transparent_name name ≡ None
     → take_tag h name ≡ Some x.tag → Agrees (struct own fs deny) k Nothing (newtype_value name w) x v k'
     → Agrees (struct own fs deny) k h (newtype_value name w) x v k'
 pending_newtype plain takes (leaf_agrees pending c) = absurd (no_leaf c)

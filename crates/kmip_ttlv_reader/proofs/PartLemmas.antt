@@ -69,7 +69,8 @@ member_in_parts ks l x p = go (in_brackets x) (tag_of l)
   where
     go : (o : Option (List ℕ)) (n : Option ℕ) → option_and_then (λ all. option_map (λ t. (t, map trim (slice_split (λ c. c == 44) all))) n) o ≡ Some p
         → with_text o (λ all. needs n l
-        (λ t. with_text (last ks t) (λ text. plain_verdict (list_any (λ m. bytes_eq (trim m) text) (slice_split (λ c. c == 44) all))))) ≡ texts_verdict p.0 p.1 ks
+        (λ t. with_text (last ks t) (λ text. plain_verdict (list_any (λ m. bytes_eq (trim m) text) (slice_split (λ c. c == 44) all)))))
+        ≡ texts_verdict p.0 p.1 ks
     go None n e = absurd (search rules)
     go (Some all) None e = absurd (search rules)
     go (Some all) (Some t) e = some_texts (last ks t) (slice_split (λ c. c == 44) all) ∙ ap (said_by ks) e
@@ -81,7 +82,8 @@ by_sides ks typ name None (Some x) c p e = absurd (search rules)
 by_sides ks typ name None None (Some x) p e = member_in_parts ks x.0 x.1 p e
 by_sides ks typ name None None None p e = absurd (search rules)
 
-rule_by_name : (ks : List TagValue) (typ : TtlvType) (name : List ℕ) (p : ℕ × List (List ℕ)) → parts_by_name name ≡ Some p → rule name ks typ ≡ texts_verdict p.0 p.1 ks
+rule_by_name : (ks : List TagValue) (typ : TtlvType) (name : List ℕ) (p : ℕ × List (List ℕ)) → parts_by_name name ≡ Some p
+    → rule name ks typ ≡ texts_verdict p.0 p.1 ks
 unfolding rule
 rule_by_name ks typ name p = go (after_prefix (codes "if ") name)
   where
@@ -94,7 +96,8 @@ unfolding parts_of tag_of number sides in_brackets trim_end trim_start chars enc
 computed name = refl
 
 -- a rule that asks for a text says what its tag and texts say
-rule_in_parts : (ks : List TagValue) (typ : TtlvType) (name : List ℕ) (p : ℕ × List (List ℕ)) → parts_of name ≡ Some p → rule name ks typ ≡ texts_verdict p.0 p.1 ks
+rule_in_parts : (ks : List TagValue) (typ : TtlvType) (name : List ℕ) (p : ℕ × List (List ℕ)) → parts_of name ≡ Some p
+    → rule name ks typ ≡ texts_verdict p.0 p.1 ks
 rule_in_parts ks typ name p e = rule_by_name ks typ name p (sym (computed name) ∙ e)
 
 -- whether the last text is one of some texts

@@ -67,7 +67,8 @@ module _ (beginning : ℕ → ℕ → List ℕ) (prefix : List ℕ) where
       ap (λ (t : List ℕ). part_line beginning depth q ++ t) (lines_more qs (depth_behind depth q) h.0 deep rest h.2 p)
       ∙ sym (append_assoc (part_line beginning depth q) (part_lines beginning (depth_behind depth q) qs) (part_line beginning deep p))
 
-  goes_by : (s out now : List ℕ) (depth : ℕ) (rest : List ℕ) (x : ℕ × Bor (List ℕ)) (t : Step) → StepIs beginning prefix depth rest t → Standing s out depth rest
+  goes_by : (s out now : List ℕ) (depth : ℕ) (rest : List ℕ) (x : ℕ × Bor (List ℕ)) (t : Step) → StepIs beginning prefix depth rest t
+      → Standing s out depth rest
       → Reads t out now (Some x) → Standing s now x.0 x.1.now
   goes_by s out now depth rest x (stops_with w) t k reads = absurd reads
   goes_by s out now depth rest x (reads_on w d r) t k reads =

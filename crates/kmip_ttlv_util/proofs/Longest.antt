@@ -158,7 +158,8 @@ module _ (beginning : ℕ → ℕ → List ℕ) (prefix : List ℕ) where
         by false true e f = stop (rw e refl)
         by false false e f = stop (rw e refl)
 
-    data_determines : (tag : ℕ) (typ : TtlvType) (c : ℕ) (r : List ℕ) → tag_in_front prefix s ≡ Some tag → drop digits_end s ≡ c ∷ r → type_of_letter c ≡ Some typ
+    data_determines : (tag : ℕ) (typ : TtlvType) (c : ℕ) (r : List ℕ) → tag_in_front prefix s ≡ Some tag → drop digits_end s ≡ c ∷ r
+        → type_of_letter c ≡ Some typ
         → StepIs depth s (data_step beginning depth tag typ r)
     data_determines tag Structure c [] some at is = no_data tag Structure c [] some at is (none_behind Structure)
     data_determines tag Integer c [] some at is = no_data tag Integer c [] some at is (none_behind Integer)

@@ -165,7 +165,8 @@ each_byte bs each i = by (cases_lt i (length bs))
     by (inr le) = let e : get_or bs i 0 ≡ 0 = get_or_past bs i 0 le in omega (arith, e)
 
 -- two messages' diagnostics
-pub determine_outlines : (prefix : List ℕ) (closed : Bool) (a b : List ℕ) (t u : Tree) → AreBytes a → AreBytes b → IsTreeText t a → IsTreeText u b → IsStructure t
+pub determine_outlines : (prefix : List ℕ) (closed : Bool) (a b : List ℕ) (t u : Tree) → AreBytes a → AreBytes b → IsTreeText t a → IsTreeText u b
+    → IsStructure t
     → IsStructure u → (closed ≡ false → HasNoEmpty t) → (closed ≡ false → HasNoEmpty u)
     → (hostile prefix closed (length a) (trace closed a) ≡ hostile prefix closed (length b) (trace closed b)) ↔ (outline_of t ≡ outline_of u)
 determine_outlines prefix closed a b t u bytes-a bytes-b text-a text-b root-t root-u none-t none-u =

@@ -15,7 +15,8 @@ use Rattle.kmip_ttlv_write.specs.declared.judge.Reach.{Reach}
 use Rattle.kmip_ttlv_write.specs.GivenItems.{Line, line, line_of, given_content, IsInside, IsWritten}
 use Rattle.kmip_ttlv_write.specs.FlatWrites.{taken, opened, start, advanced, typ_of, after, after_all, HasValue, HasRoom, Fits, AllFit}
 use Rattle.kmip_ttlv_write.specs.OpenStructures.{Opened, outside, within, depth_of, link, spine, since, add, leave, entered_as, entered, Small}
-use Rattle.kmip_ttlv_write.proofs.Opens.{AllSound, lines_so_far, texts_all, leaf_text, leaf_len, add_lines_so_far, add_depth, add_sound, add_spine, since_more, add_since}
+use Rattle.kmip_ttlv_write.proofs.Opens.{AllSound, lines_so_far, texts_all, leaf_text, leaf_len, add_lines_so_far, add_depth, add_sound, add_spine, since_more}
+use Rattle.kmip_ttlv_write.proofs.Opens.{add_since}
 use Rattle.kmip_ttlv_write.proofs.Opens.{Closes, closes_by, leave_depth}
 
 -- what is known after items

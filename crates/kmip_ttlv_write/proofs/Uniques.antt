@@ -150,7 +150,8 @@ module _ (w : List ℕ) where
       nil (x ∷ s) e = absurd (omega (arith, e))
 
   mutual
-    tree_has_lines : (p d : ℕ) (t : Tree) (text rest : List ℕ) → p ≤ length w → drop p w ≡ text ++ rest → IsTreeText t text → HasLines w (listed p d t) (lines d t)
+    tree_has_lines : (p d : ℕ) (t : Tree) (text rest : List ℕ) → p ≤ length w → drop p w ≡ text ++ rest → IsTreeText t text
+        → HasLines w (listed p d t) (lines d t)
     tree_has_lines p d (leaf tag typ content) text rest le at h = leaf_has_lines p d tag typ content text rest le at h
     tree_has_lines p d (node tag below) text rest le at h =
         let fits : p + 8 ≤ length w = omega (arith, length-drop p w, ap length at, length-append text rest, text_length (raw_with tag Structure h.0) text h.1)

@@ -36,7 +36,8 @@ items-preserved g c =
       printed_lines = (
         found ++ (i ∷ []),
         comes.met found c.items.invariant.printed_lines.1,
-        c.spot_after-spot.ensures secrets c.is_secret-is_secret.ensures ∙ ap (λ (s : Spot). spot_after secrets s i.depth i.tag i.typ) c.items.invariant.printed_lines.2
+        c.spot_after-spot.ensures secrets c.is_secret-is_secret.ensures
+            ∙ ap (λ (s : Spot). spot_after secrets s i.depth i.tag i.typ) c.items.invariant.printed_lines.2
             ∙ spot_more secrets hidden w found i,
         adds_same g.S.TextSink.adds g.S.TextSink.breaks _ _ _ _
             (g.met.S.TextSink.adds_both _ _ _ first _ c.items.invariant.printed_lines.3 c.in_ok-push_item-in-Item.ensures.ok) same,

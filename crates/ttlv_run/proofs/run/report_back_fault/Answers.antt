@@ -6,8 +6,8 @@ use Rattle.ttlv_run.proofs.run.report_back_fault.Goals as goal
 
 pub returns : goal.returns
 returns g c =
-    let reported = decided_front _ _ _ _ (c.report.ensures _ _ (c.report-writable-2.ensures _ _ (c.report-writable.ensures _ _ c.report_place-writable.ensures)))
+    let shown = decided_front _ _ _ _ (c.report.ensures _ _ (c.report-writable-2.ensures _ _ (c.report-writable.ensures _ _ c.report_place-writable.ensures)))
     in
     let front = place_report c.args.name.now (Some c.args.fault.offset) in
     subst (λ (words : List ℕ). AppendsFront (g.E.Write.contents c.args.errors.now) (g.E.Write.contents c.report.new.errors)
-    (front ++ codes ": " ++ words ++ codes "\n")) c.words.ensures reported
+    (front ++ codes ": " ++ words ++ codes "\n")) c.words.ensures shown
