@@ -5,8 +5,9 @@ use Rattle.kmip_ttlv.specs.Names.{number, override_name, tag_of, transparent_nam
 use Rattle.kmip_ttlv.specs.Returns.{as_date_time, as_int32, as_text}
 use Rattle.kmip_ttlv.specs.Rules.{at_least, equal, in_brackets, member, rule, sides}
 use Rattle.kmip_ttlv.specs.WrittenItems.{is_wrapper, pending_after, take_tag}
-use Rattle.kmip_ttlv_laws.proofs.MessageParts.{IsUnit, PartAgrees, a_structure, constant_then, enumeration_part, every_agrees, leaf_then, message}
-use Rattle.kmip_ttlv_laws.proofs.MessageParts.{newtype_structure, nothing_left, part_then, several_then, structure, text_is_utf8, wrapped_leaf, wrapped_unit}
+use Rattle.kmip_ttlv_laws.proofs.MessageParts.{IsUnit, PartAgrees, a_structure, an_enumeration, constant_then, enumeration_part, every_agrees, leaf_then}
+use Rattle.kmip_ttlv_laws.proofs.MessageParts.{message, newtype_structure, nothing_left, part_then, several_then, structure, text_is_utf8, wrapped_leaf}
+use Rattle.kmip_ttlv_laws.proofs.MessageParts.{wrapped_unit}
 use Rattle.kmip_ttlv_laws.proofs.MessageRules.{PartAfter, choice_then, chosen_after, enumeration_stored, stored_then, text_stored}
 use Rattle.std.proofs.Common.{ap, inl, inr, refl, ◌∙◌}
 use Rattle.std.specs.Prelude.{List, Some, false, string_bytes, ℕ, ◌≡◌}
@@ -18,61 +19,45 @@ use Rattle.create_destroy.specs.Headers.{protocol_version_form, protocol_version
 use Rattle.create_destroy.specs.Headers.{response_header_value}
 use Rattle.create_destroy.specs.Soundness.{IsProtocolVersion, IsRequestHeader, IsResponseHeader, IsAttributeValue, IsAttribute, IsTemplate, IsCreatePayload}
 use Rattle.create_destroy.specs.Soundness.{IsRequestPayload, IsRequestItem, IsRequest, IsResponseItem, IsResponse}
-use Rattle.create_destroy.specs.declared.header.ProtocolVersion.{ProtocolVersion}
-use Rattle.create_destroy.specs.declared.header.RequestHeader.{RequestHeader}
-use Rattle.create_destroy.specs.declared.header.ResponseHeader.{ResponseHeader}
+use Rattle.create_destroy.specs.declared.header.{ProtocolVersion.ProtocolVersion, RequestHeader.RequestHeader, ResponseHeader.ResponseHeader}
 use Rattle.create_destroy.specs.Operations.{operation_form, operation_value, operation_number, operation_variants}
 use Rattle.create_destroy.specs.declared.operation.Operation.{Operation}
 use Rattle.create_destroy.specs.declared.operation.Operation.TheVariants as operation
 use Rattle.create_destroy.specs.Attributes.{attribute_value_form, written_attribute_value, read_attribute_value, ChoosesAttributeValue, attribute_value_content}
 use Rattle.create_destroy.specs.Attributes.{attribute_form, written_attribute, read_attribute, template_form, written_template, read_template}
-use Rattle.create_destroy.specs.declared.attribute.AttributeValue.{AttributeValue}
+use Rattle.create_destroy.specs.declared.attribute.{AttributeValue.AttributeValue, Attribute.Attribute, Template.Template}
 use Rattle.create_destroy.specs.declared.attribute.AttributeValue.TheVariants as attribute_value
-use Rattle.create_destroy.specs.declared.attribute.Attribute.{Attribute}
-use Rattle.create_destroy.specs.declared.attribute.Template.{Template}
 use Rattle.create_destroy.specs.Requests.{create_payload_form, written_create_payload, read_create_payload, destroy_payload_form, written_destroy_payload}
 use Rattle.create_destroy.specs.Requests.{read_destroy_payload, request_payload_form, written_request_payload, read_request_payload, ChoosesRequestPayload}
 use Rattle.create_destroy.specs.Requests.{request_item_form, written_request_item, read_request_item, request_form, written_request, read_request}
 use Rattle.create_destroy.specs.Requests.{request_header}
-use Rattle.create_destroy.specs.declared.request.CreatePayload.{CreatePayload}
-use Rattle.create_destroy.specs.declared.request.DestroyPayload.{DestroyPayload}
-use Rattle.create_destroy.specs.declared.request.RequestPayload.{RequestPayload}
+use Rattle.create_destroy.specs.declared.request.{CreatePayload.CreatePayload, DestroyPayload.DestroyPayload, RequestPayload.RequestPayload}
+use Rattle.create_destroy.specs.declared.request.{RequestItem.RequestItem, Request.Request}
 use Rattle.create_destroy.specs.declared.request.RequestPayload.TheVariants as request_payload
-use Rattle.create_destroy.specs.declared.request.RequestItem.{RequestItem}
-use Rattle.create_destroy.specs.declared.request.Request.{Request}
 use Rattle.create_destroy.specs.Responses.{created_form, created_value, destroyed_form, destroyed_value, response_payload_form, written_response_payload}
 use Rattle.create_destroy.specs.Responses.{read_response_payload, ChoosesResponsePayload, response_item_form, written_response_item, read_response_item}
 use Rattle.create_destroy.specs.Responses.{response_form, written_response, read_response, response_header}
-use Rattle.create_destroy.specs.declared.response.Created.{Created}
-use Rattle.create_destroy.specs.declared.response.Destroyed.{Destroyed}
-use Rattle.create_destroy.specs.declared.response.ResponsePayload.{ResponsePayload}
+use Rattle.create_destroy.specs.declared.response.{Created.Created, Destroyed.Destroyed, ResponsePayload.ResponsePayload, ResponseItem.ResponseItem}
+use Rattle.create_destroy.specs.declared.response.{Response.Response}
 use Rattle.create_destroy.specs.declared.response.ResponsePayload.TheVariants as response_payload
-use Rattle.create_destroy.specs.declared.response.ResponseItem.{ResponseItem}
-use Rattle.create_destroy.specs.declared.response.Response.{Response}
 
 pub protocol_version_agrees : (x : ProtocolVersion) → IsProtocolVersion x
     → PartAgrees protocol_version_form (protocol_version_value x) (a_structure 0x420069) (protocol_version_value x)
 unfolding take_tag tag_of number transparent_name rule protocol_version_value
 protocol_version_agrees x is =
-    structure refl refl (
-    leaf_then refl refl refl refl (as_int32 is.0) (
-    leaf_then refl refl refl refl (as_int32 is.1) nothing_left))
+    structure refl refl (leaf_then refl refl refl refl (as_int32 is.0) (leaf_then refl refl refl refl (as_int32 is.1) nothing_left))
 
 pub request_header_agrees : (x : RequestHeader) → IsRequestHeader x
     → PartAgrees request_header_form (request_header_value x) (a_structure 0x420077) (request_header_value x)
 unfolding take_tag tag_of number transparent_name rule request_header_value protocol_version_value
 request_header_agrees x is =
-    structure refl refl (
-    part_then refl refl (protocol_version_agrees x.version is.0) (
-    leaf_then refl refl refl refl (as_int32 is.1) nothing_left))
+    structure refl refl (part_then refl refl (protocol_version_agrees x.version is.0) (leaf_then refl refl refl refl (as_int32 is.1) nothing_left))
 
 pub response_header_agrees : (x : ResponseHeader) → IsResponseHeader x
     → PartAgrees response_header_form (response_header_value x) (a_structure 0x42007A) (response_header_value x)
 unfolding take_tag tag_of number transparent_name rule response_header_value protocol_version_value
 response_header_agrees x is =
-    structure refl refl (
-    part_then refl refl (protocol_version_agrees x.version is.0) (
-    leaf_then refl refl refl refl (as_date_time is.1) (
+    structure refl refl (part_then refl refl (protocol_version_agrees x.version is.0) (leaf_then refl refl refl refl (as_date_time is.1) (
     leaf_then refl refl refl refl (as_int32 is.2) nothing_left)))
 
 pub operation_is_unit : (x : Operation) → IsUnit operation_variants (operation_number x)
@@ -80,7 +65,7 @@ unfolding number rule
 operation_is_unit operation.Create = record { n = 0x00000001; numbered = refl; text = refl; units = λ k. record { no_rule = refl; named = refl } }
 operation_is_unit operation.Destroy = record { n = 0x00000014; numbered = refl; text = refl; units = λ k. record { no_rule = refl; named = refl } }
 
-pub operation_agrees : (x : Operation) → PartAgrees operation_form (operation_value x) record { tag = 0x42005C; typ = types.Enumeration } (operation_value x)
+pub operation_agrees : (x : Operation) → PartAgrees operation_form (operation_value x) (an_enumeration 0x42005C) (operation_value x)
 unfolding take_tag tag_of number operation_value
 operation_agrees x = enumeration_part refl (operation_is_unit x)
 
@@ -110,8 +95,7 @@ pub attribute_agrees : {A : Type 0} (x : Attribute A) → IsAttribute x
     → PartAgrees attribute_form (written_attribute x) (a_structure 0x420008) (read_attribute x)
 unfolding take_tag tag_of number transparent_name rule written_attribute read_attribute
 attribute_agrees x is =
-    structure refl refl (
-    stored_then refl refl (text_stored refl refl (text_is_utf8 x.name)) (
+    structure refl refl (stored_then refl refl (text_stored refl refl (text_is_utf8 x.name)) (
     choice_then refl refl (attribute_value_single x.value) (attribute_value_agrees (string_bytes x.name) x.value is.0 is.1) nothing_left))
 
 pub template_agrees : {A : Type 0} (x : Template A) → IsTemplate x → PartAgrees template_form (written_template x) (a_structure 0x420091) (read_template x)
@@ -125,16 +109,14 @@ pub create_payload_agrees : {A : Type 0} (x : CreatePayload A) → IsCreatePaylo
     → PartAgrees create_payload_form (written_create_payload x) (a_structure 0x420079) (read_create_payload x)
 unfolding take_tag tag_of number transparent_name rule written_create_payload read_create_payload read_template
 create_payload_agrees x is =
-    structure refl refl (
-    constant_then {n = 0x00000002} refl refl refl refl (λ k. record { no_rule = refl; named = refl }) (
+    structure refl refl (constant_then {n = 0x00000002} refl refl refl refl (λ k. record { no_rule = refl; named = refl }) (
     part_then refl refl (template_agrees x.template is) nothing_left))
 
 pub destroy_payload_agrees : {A : Type 0} (x : DestroyPayload A)
     → PartAgrees destroy_payload_form (written_destroy_payload x) (a_structure 0x420079) (read_destroy_payload x)
 unfolding take_tag tag_of number transparent_name rule written_destroy_payload read_destroy_payload
 destroy_payload_agrees x =
-    newtype_structure refl refl refl (
-    leaf_then refl refl refl refl (as_text (text_is_utf8 x.unique_identifier)) nothing_left)
+    newtype_structure refl refl refl (leaf_then refl refl refl refl (as_text (text_is_utf8 x.unique_identifier)) nothing_left)
 
 pub request_payload_single : {A : Type 0} (x : RequestPayload A) → is_run (read_request_payload x) ≡ false
 unfolding written_request_payload read_request_payload written_create_payload read_create_payload written_destroy_payload read_destroy_payload written_template
@@ -156,30 +138,26 @@ pub request_item_agrees : {A : Type 0} (x : RequestItem A) → IsRequestItem x
     → PartAgrees request_item_form (written_request_item x) (a_structure 0x42000F) (read_request_item x)
 unfolding take_tag tag_of number transparent_name rule written_request_item read_request_item operation_value
 request_item_agrees x is =
-    structure refl refl (
-    stored_then refl refl (enumeration_stored refl (operation_is_unit x.operation)) (
+    structure refl refl (stored_then refl refl (enumeration_stored refl (operation_is_unit x.operation)) (
     choice_then refl refl (request_payload_single x.payload) (request_payload_agrees (operation_number x.operation) x.payload is.0 is.1) nothing_left))
 
 pub request_agrees : {A : Type 0} (x : Request A) → IsRequest x → MessageAgrees request_form (written_request x) (read_request x)
 unfolding take_tag tag_of number transparent_name rule written_request read_request request_header_value read_request_item
 request_agrees x is =
-    message (structure refl refl (
-    part_then refl refl (request_header_agrees (request_header x) is.0) (
+    message (structure refl refl (part_then refl refl (request_header_agrees (request_header x) is.0) (
     several_then written_request_item read_request_item (a_structure 0x42000F) x.items.items refl refl is.1
     (every_agrees request_item_agrees (λ y. refl) x.items.items is.2) nothing_left)))
 
 pub created_agrees : {A : Type 0} (x : Created A) → PartAgrees created_form (created_value x) (a_structure 0x42007C) (created_value x)
 unfolding take_tag tag_of number transparent_name rule created_value
 created_agrees x =
-    structure refl refl (
-    constant_then {n = 0x00000002} refl refl refl refl (λ k. record { no_rule = refl; named = refl }) (
+    structure refl refl (constant_then {n = 0x00000002} refl refl refl refl (λ k. record { no_rule = refl; named = refl }) (
     leaf_then refl refl refl refl (as_text (text_is_utf8 x.unique_identifier)) nothing_left))
 
 pub destroyed_agrees : {A : Type 0} (x : Destroyed A) → PartAgrees destroyed_form (destroyed_value x) (a_structure 0x42007C) (destroyed_value x)
 unfolding take_tag tag_of number transparent_name rule destroyed_value
 destroyed_agrees x =
-    structure refl refl (
-    leaf_then refl refl refl refl (as_text (text_is_utf8 x.unique_identifier)) nothing_left)
+    structure refl refl (leaf_then refl refl refl refl (as_text (text_is_utf8 x.unique_identifier)) nothing_left)
 
 pub response_payload_single : {A : Type 0} (x : ResponsePayload A) → is_run (read_response_payload x) ≡ false
 unfolding written_response_payload read_response_payload created_value destroyed_value
@@ -199,15 +177,13 @@ pub response_item_agrees : {A : Type 0} (x : ResponseItem A) → IsResponseItem 
     → PartAgrees response_item_form (written_response_item x) (a_structure 0x42000F) (read_response_item x)
 unfolding take_tag tag_of number transparent_name rule written_response_item read_response_item operation_value
 response_item_agrees x is =
-    structure refl refl (
-    stored_then refl refl (enumeration_stored refl (operation_is_unit x.operation)) (
+    structure refl refl (stored_then refl refl (enumeration_stored refl (operation_is_unit x.operation)) (
     constant_then {n = 0x00000000} refl refl refl refl (λ k. record { no_rule = refl; named = refl }) (
     choice_then refl refl (response_payload_single x.payload) (response_payload_agrees (operation_number x.operation) x.payload is) nothing_left)))
 
 pub response_agrees : {A : Type 0} (x : Response A) → IsResponse x → MessageAgrees response_form (written_response x) (read_response x)
 unfolding take_tag tag_of number transparent_name rule written_response read_response response_header_value read_response_item
 response_agrees x is =
-    message (structure refl refl (
-    part_then refl refl (response_header_agrees (response_header x) is.0) (
+    message (structure refl refl (part_then refl refl (response_header_agrees (response_header x) is.0) (
     several_then written_response_item read_response_item (a_structure 0x42000F) x.items.items refl refl is.1
     (every_agrees response_item_agrees (λ y. refl) x.items.items is.2) nothing_left)))

@@ -4,10 +4,8 @@ use Rattle.kmip_ttlv.specs.Forms.{Form, enum, field, int32, newtype, no_fields, 
 use Rattle.kmip_ttlv.specs.MessageParts.{sequence}
 use Rattle.kmip_ttlv.specs.Values.{Value, i32_value, newtype_value, newtype_variant_value, no_values, struct_value, text_value, unit_variant_value, value}
 use Rattle.std.specs.Prelude.{List, codes, false, string_bytes, ℕ, ◌≡◌, ◌⊎◌}
-use Rattle.create_destroy.specs.declared.attribute.AttributeValue.{AttributeValue}
+use Rattle.create_destroy.specs.declared.attribute.{AttributeValue.AttributeValue, Attribute.Attribute, Template.Template}
 use Rattle.create_destroy.specs.declared.attribute.AttributeValue.TheVariants as attribute_value
-use Rattle.create_destroy.specs.declared.attribute.Attribute.{Attribute}
-use Rattle.create_destroy.specs.declared.attribute.Template.{Template}
 
 -- the form of a `AttributeValue`
 abbrev pub attribute_value_form : Form

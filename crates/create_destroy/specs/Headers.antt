@@ -3,9 +3,7 @@
 use Rattle.kmip_ttlv.specs.Forms.{Form, date_time, field, int32, newtype, no_fields, struct}
 use Rattle.kmip_ttlv.specs.Values.{Value, date_time_value, i32_value, newtype_value, no_values, struct_value, value}
 use Rattle.std.specs.Prelude.{codes, false}
-use Rattle.create_destroy.specs.declared.header.ProtocolVersion.{ProtocolVersion}
-use Rattle.create_destroy.specs.declared.header.RequestHeader.{RequestHeader}
-use Rattle.create_destroy.specs.declared.header.ResponseHeader.{ResponseHeader}
+use Rattle.create_destroy.specs.declared.header.{ProtocolVersion.ProtocolVersion, RequestHeader.RequestHeader, ResponseHeader.ResponseHeader}
 
 -- the form of a `ProtocolVersion`
 abbrev pub protocol_version_form : Form

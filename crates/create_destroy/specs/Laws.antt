@@ -4,10 +4,10 @@ use Rattle.std.specs.Prelude.{◌≡◌, ◌↔◌, List, ℕ}
 use Rattle.kmip_ttlv.specs.Values.{Value}
 use Rattle.kmip_ttlv.specs.EncodeResults.{IsWrittenAs}
 use Rattle.kmip_ttlv.specs.Reads.{Begins}
-use Rattle.create_destroy.specs.Requests.{request_form, written_request, read_request, request_header}
+use Rattle.create_destroy.specs.Requests.{request_form, written_request, read_request}
 use Rattle.create_destroy.specs.Soundness.{IsRequest, IsResponse}
 use Rattle.create_destroy.specs.declared.request.Request.{Request}
-use Rattle.create_destroy.specs.Responses.{response_form, written_response, read_response, response_header}
+use Rattle.create_destroy.specs.Responses.{response_form, written_response, read_response}
 use Rattle.create_destroy.specs.declared.response.Response.{Response}
 
 -- the bytes of a `Request`, behind any others, begin by its form with its own value and with no other

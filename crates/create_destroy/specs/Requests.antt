@@ -4,12 +4,9 @@ use Rattle.kmip_ttlv.specs.Forms.{Form, enum, field, newtype, no_fields, no_vari
 use Rattle.kmip_ttlv.specs.MessageParts.{sequence}
 use Rattle.kmip_ttlv.specs.Values.{Value, newtype_value, newtype_variant_value, no_values, struct_value, text_value, unit_variant_value, value}
 use Rattle.std.specs.Prelude.{List, codes, false, string_bytes, ℕ, ◌≡◌}
-use Rattle.create_destroy.specs.declared.request.CreatePayload.{CreatePayload}
-use Rattle.create_destroy.specs.declared.request.DestroyPayload.{DestroyPayload}
-use Rattle.create_destroy.specs.declared.request.RequestPayload.{RequestPayload}
+use Rattle.create_destroy.specs.declared.request.{CreatePayload.CreatePayload, DestroyPayload.DestroyPayload, RequestPayload.RequestPayload}
+use Rattle.create_destroy.specs.declared.request.{RequestItem.RequestItem, Request.Request}
 use Rattle.create_destroy.specs.declared.request.RequestPayload.TheVariants as request_payload
-use Rattle.create_destroy.specs.declared.request.RequestItem.{RequestItem}
-use Rattle.create_destroy.specs.declared.request.Request.{Request}
 use Rattle.create_destroy.specs.declared.header.RequestHeader.{RequestHeader}
 use Rattle.create_destroy.specs.Headers.{request_header_form, request_header_value}
 use Rattle.create_destroy.specs.Operations.{operation_form, operation_value}

@@ -4,12 +4,9 @@ use Rattle.kmip_ttlv.specs.Forms.{Form, enum, field, newtype, no_fields, no_vari
 use Rattle.kmip_ttlv.specs.MessageParts.{sequence}
 use Rattle.kmip_ttlv.specs.Values.{Value, newtype_value, newtype_variant_value, no_values, struct_value, text_value, unit_variant_value, value}
 use Rattle.std.specs.Prelude.{List, codes, false, string_bytes, ℕ, ◌≡◌}
-use Rattle.create_destroy.specs.declared.response.Created.{Created}
-use Rattle.create_destroy.specs.declared.response.Destroyed.{Destroyed}
-use Rattle.create_destroy.specs.declared.response.ResponsePayload.{ResponsePayload}
+use Rattle.create_destroy.specs.declared.response.{Created.Created, Destroyed.Destroyed, ResponsePayload.ResponsePayload, ResponseItem.ResponseItem}
+use Rattle.create_destroy.specs.declared.response.{Response.Response}
 use Rattle.create_destroy.specs.declared.response.ResponsePayload.TheVariants as response_payload
-use Rattle.create_destroy.specs.declared.response.ResponseItem.{ResponseItem}
-use Rattle.create_destroy.specs.declared.response.Response.{Response}
 use Rattle.create_destroy.specs.declared.header.ResponseHeader.{ResponseHeader}
 use Rattle.create_destroy.specs.Headers.{response_header_form, response_header_value}
 use Rattle.create_destroy.specs.Operations.{operation_form, operation_value}

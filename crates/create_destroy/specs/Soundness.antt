@@ -2,20 +2,12 @@
 -- Which values of each type are sound: what was encoded of them is decoded again.
 use Rattle.std.specs.Int.{w32, w64}
 use Rattle.std.specs.Prelude.{All, FitsSigned, length, string_bytes, ◌<◌}
-use Rattle.create_destroy.specs.declared.header.ProtocolVersion.{ProtocolVersion}
-use Rattle.create_destroy.specs.declared.header.RequestHeader.{RequestHeader}
-use Rattle.create_destroy.specs.declared.header.ResponseHeader.{ResponseHeader}
-use Rattle.create_destroy.specs.declared.attribute.AttributeValue.{AttributeValue}
+use Rattle.create_destroy.specs.declared.header.{ProtocolVersion.ProtocolVersion, RequestHeader.RequestHeader, ResponseHeader.ResponseHeader}
+use Rattle.create_destroy.specs.declared.attribute.{AttributeValue.AttributeValue, Attribute.Attribute, Template.Template}
 use Rattle.create_destroy.specs.declared.attribute.AttributeValue.TheVariants as attribute_value
-use Rattle.create_destroy.specs.declared.attribute.Attribute.{Attribute}
-use Rattle.create_destroy.specs.declared.attribute.Template.{Template}
-use Rattle.create_destroy.specs.declared.request.CreatePayload.{CreatePayload}
-use Rattle.create_destroy.specs.declared.request.RequestPayload.{RequestPayload}
+use Rattle.create_destroy.specs.declared.request.{CreatePayload.CreatePayload, RequestPayload.RequestPayload, RequestItem.RequestItem, Request.Request}
 use Rattle.create_destroy.specs.declared.request.RequestPayload.TheVariants as request_payload
-use Rattle.create_destroy.specs.declared.request.RequestItem.{RequestItem}
-use Rattle.create_destroy.specs.declared.request.Request.{Request}
-use Rattle.create_destroy.specs.declared.response.ResponseItem.{ResponseItem}
-use Rattle.create_destroy.specs.declared.response.Response.{Response}
+use Rattle.create_destroy.specs.declared.response.{ResponseItem.ResponseItem, Response.Response}
 use Rattle.create_destroy.specs.Attributes.{ChoosesAttributeValue}
 use Rattle.create_destroy.specs.Requests.{ChoosesRequestPayload, request_header}
 use Rattle.create_destroy.specs.Operations.{operation_number}

@@ -9,22 +9,13 @@ use Rattle.kmip_ttlv.specs.Values.{newtype_variant_value, no_values, struct_valu
 use Rattle.kmip_ttlv.specs.Visits.{joined}
 use Rattle.std.specs.Prelude.{List, [], codes, option_map, string_bytes, true, ℕ, ◌∷◌, ◌≡◌}
 use Rattle.kmip_ttlv.specs.Visits as visits
-use Rattle.kmip_attributes.specs.declared.attribute.AttributeName.{AttributeName}
-use Rattle.kmip_attributes.specs.declared.attribute.AttributeIndex.{AttributeIndex}
-use Rattle.kmip_attributes.specs.declared.attribute.IntegerValue.{IntegerValue}
-use Rattle.kmip_attributes.specs.declared.attribute.LongIntegerValue.{LongIntegerValue}
-use Rattle.kmip_attributes.specs.declared.attribute.BigIntegerValue.{BigIntegerValue}
-use Rattle.kmip_attributes.specs.declared.attribute.EnumerationValue.{EnumerationValue}
-use Rattle.kmip_attributes.specs.declared.attribute.BooleanValue.{BooleanValue}
-use Rattle.kmip_attributes.specs.declared.attribute.TextStringValue.{TextStringValue}
-use Rattle.kmip_attributes.specs.declared.attribute.ByteStringValue.{ByteStringValue}
-use Rattle.kmip_attributes.specs.declared.attribute.DateTimeValue.{DateTimeValue}
-use Rattle.kmip_attributes.specs.declared.attribute.IntervalValue.{IntervalValue}
-use Rattle.kmip_attributes.specs.declared.attribute.AttributeStructure.{AttributeStructure}
+use Rattle.kmip_attributes.specs.declared.attribute.{AttributeName.AttributeName, AttributeIndex.AttributeIndex, IntegerValue.IntegerValue}
+use Rattle.kmip_attributes.specs.declared.attribute.{LongIntegerValue.LongIntegerValue, BigIntegerValue.BigIntegerValue, EnumerationValue.EnumerationValue}
+use Rattle.kmip_attributes.specs.declared.attribute.{BooleanValue.BooleanValue, TextStringValue.TextStringValue, ByteStringValue.ByteStringValue}
+use Rattle.kmip_attributes.specs.declared.attribute.{DateTimeValue.DateTimeValue, IntervalValue.IntervalValue, AttributeStructure.AttributeStructure}
+use Rattle.kmip_attributes.specs.declared.attribute.{AttributeValue.AttributeValue, Attribute.Attribute}
 use Rattle.kmip_attributes.specs.declared.attribute.AttributeStructure.TheVariants as attribute_structure
-use Rattle.kmip_attributes.specs.declared.attribute.AttributeValue.{AttributeValue}
 use Rattle.kmip_attributes.specs.declared.attribute.AttributeValue.TheVariants as attribute_value
-use Rattle.kmip_attributes.specs.declared.attribute.Attribute.{Attribute}
 use Rattle.kmip_attributes.specs.Values.{object_type_form, written_object_type, read_object_type, cryptographic_algorithm_form, written_cryptographic_algorithm}
 use Rattle.kmip_attributes.specs.Values.{read_cryptographic_algorithm, certificate_type_form, written_certificate_type, read_certificate_type, state_form}
 use Rattle.kmip_attributes.specs.Values.{written_state, read_state}

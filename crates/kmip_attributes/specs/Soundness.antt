@@ -2,41 +2,20 @@
 -- Which values of each type are sound: what was encoded of them is decoded again.
 use Rattle.std.specs.Int.{w32, w64}
 use Rattle.std.specs.Prelude.{FitsSigned, IfSome, length, string_bytes, ◌%◌, ◌<◌, ◌^◌, ◌≡◌}
-use Rattle.kmip_attributes.specs.declared.values.ObjectType.{ObjectType}
-use Rattle.kmip_attributes.specs.declared.values.CryptographicAlgorithm.{CryptographicAlgorithm}
-use Rattle.kmip_attributes.specs.declared.values.CertificateType.{CertificateType}
-use Rattle.kmip_attributes.specs.declared.values.State.{State}
-use Rattle.kmip_attributes.specs.declared.values.NameType.{NameType}
-use Rattle.kmip_attributes.specs.declared.values.BlockCipherMode.{BlockCipherMode}
-use Rattle.kmip_attributes.specs.declared.values.PaddingMethod.{PaddingMethod}
-use Rattle.kmip_attributes.specs.declared.values.HashingAlgorithm.{HashingAlgorithm}
-use Rattle.kmip_attributes.specs.declared.values.KeyRoleType.{KeyRoleType}
-use Rattle.kmip_attributes.specs.declared.values.RecommendedCurve.{RecommendedCurve}
-use Rattle.kmip_attributes.specs.declared.values.KeyFormatType.{KeyFormatType}
-use Rattle.kmip_attributes.specs.declared.values.UsageLimitsUnit.{UsageLimitsUnit}
-use Rattle.kmip_attributes.specs.declared.values.RevocationReasonCode.{RevocationReasonCode}
-use Rattle.kmip_attributes.specs.declared.values.LinkType.{LinkType}
-use Rattle.kmip_attributes.specs.declared.structures.Name.{Name}
-use Rattle.kmip_attributes.specs.declared.structures.CryptographicParameters.{CryptographicParameters}
-use Rattle.kmip_attributes.specs.declared.structures.Qlength.{Qlength}
-use Rattle.kmip_attributes.specs.declared.structures.CryptographicDomainParameters.{CryptographicDomainParameters}
-use Rattle.kmip_attributes.specs.declared.structures.Digest.{Digest}
-use Rattle.kmip_attributes.specs.declared.structures.UsageLimitsCount.{UsageLimitsCount}
-use Rattle.kmip_attributes.specs.declared.structures.UsageLimits.{UsageLimits}
-use Rattle.kmip_attributes.specs.declared.structures.RevocationReason.{RevocationReason}
-use Rattle.kmip_attributes.specs.declared.structures.Link.{Link}
-use Rattle.kmip_attributes.specs.declared.attribute.AttributeIndex.{AttributeIndex}
-use Rattle.kmip_attributes.specs.declared.attribute.IntegerValue.{IntegerValue}
-use Rattle.kmip_attributes.specs.declared.attribute.LongIntegerValue.{LongIntegerValue}
-use Rattle.kmip_attributes.specs.declared.attribute.BigIntegerValue.{BigIntegerValue}
-use Rattle.kmip_attributes.specs.declared.attribute.EnumerationValue.{EnumerationValue}
-use Rattle.kmip_attributes.specs.declared.attribute.DateTimeValue.{DateTimeValue}
-use Rattle.kmip_attributes.specs.declared.attribute.IntervalValue.{IntervalValue}
-use Rattle.kmip_attributes.specs.declared.attribute.AttributeStructure.{AttributeStructure}
+use Rattle.kmip_attributes.specs.declared.values.{ObjectType.ObjectType, CryptographicAlgorithm.CryptographicAlgorithm, CertificateType.CertificateType}
+use Rattle.kmip_attributes.specs.declared.values.{State.State, NameType.NameType, BlockCipherMode.BlockCipherMode, PaddingMethod.PaddingMethod}
+use Rattle.kmip_attributes.specs.declared.values.{HashingAlgorithm.HashingAlgorithm, KeyRoleType.KeyRoleType, RecommendedCurve.RecommendedCurve}
+use Rattle.kmip_attributes.specs.declared.values.{KeyFormatType.KeyFormatType, UsageLimitsUnit.UsageLimitsUnit, RevocationReasonCode.RevocationReasonCode}
+use Rattle.kmip_attributes.specs.declared.values.{LinkType.LinkType}
+use Rattle.kmip_attributes.specs.declared.structures.{Name.Name, CryptographicParameters.CryptographicParameters, Qlength.Qlength}
+use Rattle.kmip_attributes.specs.declared.structures.{CryptographicDomainParameters.CryptographicDomainParameters, Digest.Digest}
+use Rattle.kmip_attributes.specs.declared.structures.{UsageLimitsCount.UsageLimitsCount, UsageLimits.UsageLimits, RevocationReason.RevocationReason, Link.Link}
+use Rattle.kmip_attributes.specs.declared.attribute.{AttributeIndex.AttributeIndex, IntegerValue.IntegerValue, LongIntegerValue.LongIntegerValue}
+use Rattle.kmip_attributes.specs.declared.attribute.{BigIntegerValue.BigIntegerValue, EnumerationValue.EnumerationValue, DateTimeValue.DateTimeValue}
+use Rattle.kmip_attributes.specs.declared.attribute.{IntervalValue.IntervalValue, AttributeStructure.AttributeStructure, AttributeValue.AttributeValue}
+use Rattle.kmip_attributes.specs.declared.attribute.{Attribute.Attribute}
 use Rattle.kmip_attributes.specs.declared.attribute.AttributeStructure.TheVariants as attribute_structure
-use Rattle.kmip_attributes.specs.declared.attribute.AttributeValue.{AttributeValue}
 use Rattle.kmip_attributes.specs.declared.attribute.AttributeValue.TheVariants as attribute_value
-use Rattle.kmip_attributes.specs.declared.attribute.Attribute.{Attribute}
 use Rattle.kmip_attributes.specs.Values.{object_type_number, cryptographic_algorithm_number, certificate_type_number, state_number, name_type_number}
 use Rattle.kmip_attributes.specs.Values.{block_cipher_mode_number, padding_method_number, hashing_algorithm_number, key_role_type_number}
 use Rattle.kmip_attributes.specs.Values.{recommended_curve_number, key_format_type_number, usage_limits_unit_number, revocation_reason_code_number}

@@ -6,21 +6,13 @@ use Rattle.kmip_ttlv.specs.Values.{Value, bytes_value, i32_value, i64_value, new
 use Rattle.kmip_ttlv.specs.Visits.{joined}
 use Rattle.std.specs.Prelude.{codes, option_map, string_bytes, true}
 use Rattle.kmip_ttlv.specs.Visits as visits
-use Rattle.kmip_attributes.specs.declared.structures.Name.{Name}
-use Rattle.kmip_attributes.specs.declared.structures.CryptographicParameters.{CryptographicParameters}
-use Rattle.kmip_attributes.specs.declared.structures.Qlength.{Qlength}
-use Rattle.kmip_attributes.specs.declared.structures.CryptographicDomainParameters.{CryptographicDomainParameters}
-use Rattle.kmip_attributes.specs.declared.structures.CertificateIdentifier.{CertificateIdentifier}
-use Rattle.kmip_attributes.specs.declared.structures.CertificateSubjectAlternativeName.{CertificateSubjectAlternativeName}
-use Rattle.kmip_attributes.specs.declared.structures.CertificateSubject.{CertificateSubject}
-use Rattle.kmip_attributes.specs.declared.structures.CertificateIssuerAlternativeName.{CertificateIssuerAlternativeName}
-use Rattle.kmip_attributes.specs.declared.structures.CertificateIssuer.{CertificateIssuer}
-use Rattle.kmip_attributes.specs.declared.structures.Digest.{Digest}
-use Rattle.kmip_attributes.specs.declared.structures.UsageLimitsCount.{UsageLimitsCount}
-use Rattle.kmip_attributes.specs.declared.structures.UsageLimits.{UsageLimits}
-use Rattle.kmip_attributes.specs.declared.structures.RevocationReason.{RevocationReason}
-use Rattle.kmip_attributes.specs.declared.structures.Link.{Link}
-use Rattle.kmip_attributes.specs.declared.structures.ApplicationSpecificInformation.{ApplicationSpecificInformation}
+use Rattle.kmip_attributes.specs.declared.structures.{Name.Name, CryptographicParameters.CryptographicParameters, Qlength.Qlength}
+use Rattle.kmip_attributes.specs.declared.structures.{CryptographicDomainParameters.CryptographicDomainParameters, CertificateIdentifier.CertificateIdentifier}
+use Rattle.kmip_attributes.specs.declared.structures.{CertificateSubjectAlternativeName.CertificateSubjectAlternativeName}
+use Rattle.kmip_attributes.specs.declared.structures.{CertificateSubject.CertificateSubject, CertificateIssuerAlternativeName.CertificateIssuerAlternativeName}
+use Rattle.kmip_attributes.specs.declared.structures.{CertificateIssuer.CertificateIssuer, Digest.Digest, UsageLimitsCount.UsageLimitsCount}
+use Rattle.kmip_attributes.specs.declared.structures.{UsageLimits.UsageLimits, RevocationReason.RevocationReason, Link.Link}
+use Rattle.kmip_attributes.specs.declared.structures.{ApplicationSpecificInformation.ApplicationSpecificInformation}
 use Rattle.kmip_attributes.specs.Values.{name_type_form, written_name_type, read_name_type, block_cipher_mode_form, written_block_cipher_mode}
 use Rattle.kmip_attributes.specs.Values.{read_block_cipher_mode, padding_method_form, written_padding_method, read_padding_method, hashing_algorithm_form}
 use Rattle.kmip_attributes.specs.Values.{written_hashing_algorithm, read_hashing_algorithm, key_role_type_form, written_key_role_type, read_key_role_type}

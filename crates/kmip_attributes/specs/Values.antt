@@ -4,33 +4,24 @@ use Rattle.kmip_ttlv.specs.Forms.{Form, any_number, newtype}
 use Rattle.kmip_ttlv.specs.MessageParts.{numbered_value, other_number}
 use Rattle.kmip_ttlv.specs.Values.{Value, newtype_value, u32_value}
 use Rattle.std.specs.Prelude.{List, Option, Some, [], codes, ℕ, ◌∷◌}
-use Rattle.kmip_attributes.specs.declared.values.ObjectType.{ObjectType}
+use Rattle.kmip_attributes.specs.declared.values.{ObjectType.ObjectType, CryptographicAlgorithm.CryptographicAlgorithm, CertificateType.CertificateType}
+use Rattle.kmip_attributes.specs.declared.values.{State.State, NameType.NameType, BlockCipherMode.BlockCipherMode, PaddingMethod.PaddingMethod}
+use Rattle.kmip_attributes.specs.declared.values.{HashingAlgorithm.HashingAlgorithm, KeyRoleType.KeyRoleType, RecommendedCurve.RecommendedCurve}
+use Rattle.kmip_attributes.specs.declared.values.{KeyFormatType.KeyFormatType, UsageLimitsUnit.UsageLimitsUnit, RevocationReasonCode.RevocationReasonCode}
+use Rattle.kmip_attributes.specs.declared.values.{LinkType.LinkType}
 use Rattle.kmip_attributes.specs.declared.values.ObjectType.TheVariants as object_type
-use Rattle.kmip_attributes.specs.declared.values.CryptographicAlgorithm.{CryptographicAlgorithm}
 use Rattle.kmip_attributes.specs.declared.values.CryptographicAlgorithm.TheVariants as cryptographic_algorithm
-use Rattle.kmip_attributes.specs.declared.values.CertificateType.{CertificateType}
 use Rattle.kmip_attributes.specs.declared.values.CertificateType.TheVariants as certificate_type
-use Rattle.kmip_attributes.specs.declared.values.State.{State}
 use Rattle.kmip_attributes.specs.declared.values.State.TheVariants as state
-use Rattle.kmip_attributes.specs.declared.values.NameType.{NameType}
 use Rattle.kmip_attributes.specs.declared.values.NameType.TheVariants as name_type
-use Rattle.kmip_attributes.specs.declared.values.BlockCipherMode.{BlockCipherMode}
 use Rattle.kmip_attributes.specs.declared.values.BlockCipherMode.TheVariants as block_cipher_mode
-use Rattle.kmip_attributes.specs.declared.values.PaddingMethod.{PaddingMethod}
 use Rattle.kmip_attributes.specs.declared.values.PaddingMethod.TheVariants as padding_method
-use Rattle.kmip_attributes.specs.declared.values.HashingAlgorithm.{HashingAlgorithm}
 use Rattle.kmip_attributes.specs.declared.values.HashingAlgorithm.TheVariants as hashing_algorithm
-use Rattle.kmip_attributes.specs.declared.values.KeyRoleType.{KeyRoleType}
 use Rattle.kmip_attributes.specs.declared.values.KeyRoleType.TheVariants as key_role_type
-use Rattle.kmip_attributes.specs.declared.values.RecommendedCurve.{RecommendedCurve}
 use Rattle.kmip_attributes.specs.declared.values.RecommendedCurve.TheVariants as recommended_curve
-use Rattle.kmip_attributes.specs.declared.values.KeyFormatType.{KeyFormatType}
 use Rattle.kmip_attributes.specs.declared.values.KeyFormatType.TheVariants as key_format_type
-use Rattle.kmip_attributes.specs.declared.values.UsageLimitsUnit.{UsageLimitsUnit}
 use Rattle.kmip_attributes.specs.declared.values.UsageLimitsUnit.TheVariants as usage_limits_unit
-use Rattle.kmip_attributes.specs.declared.values.RevocationReasonCode.{RevocationReasonCode}
 use Rattle.kmip_attributes.specs.declared.values.RevocationReasonCode.TheVariants as revocation_reason_code
-use Rattle.kmip_attributes.specs.declared.values.LinkType.{LinkType}
 use Rattle.kmip_attributes.specs.declared.values.LinkType.TheVariants as link_type
 
 -- the form of a `ObjectType`: any number

@@ -8,25 +8,15 @@ use Rattle.kmip_ttlv.specs.Values.{u32_value, value}
 use Rattle.kmip_ttlv.specs.Visits.{joined}
 use Rattle.std.specs.Prelude.{List, Option, Some, [], codes, false, option_map, string_bytes, true, ℕ, ◌∷◌, ◌≡◌}
 use Rattle.kmip_ttlv.specs.Visits as visits
-use Rattle.kmip_headers.specs.declared.header.ProtocolVersion.{ProtocolVersion}
-use Rattle.kmip_headers.specs.declared.header.CredentialType.{CredentialType}
+use Rattle.kmip_headers.specs.declared.header.{ProtocolVersion.ProtocolVersion, CredentialType.CredentialType, UsernameAndPassword.UsernameAndPassword}
+use Rattle.kmip_headers.specs.declared.header.{Device.Device, CredentialValue.CredentialValue, Credential.Credential, Authentication.Authentication}
+use Rattle.kmip_headers.specs.declared.header.{BatchErrorContinuationOption.BatchErrorContinuationOption, MaximumResponseSize.MaximumResponseSize}
+use Rattle.kmip_headers.specs.declared.header.{TimeStamp.TimeStamp, BatchCount.BatchCount, RequestHeader.RequestHeader, ResponseHeader.ResponseHeader}
+use Rattle.kmip_headers.specs.declared.header.{Operation.Operation, MessageExtension.MessageExtension}
 use Rattle.kmip_headers.specs.declared.header.CredentialType.TheVariants as credential_type
-use Rattle.kmip_headers.specs.declared.header.UsernameAndPassword.{UsernameAndPassword}
-use Rattle.kmip_headers.specs.declared.header.Device.{Device}
-use Rattle.kmip_headers.specs.declared.header.CredentialValue.{CredentialValue}
 use Rattle.kmip_headers.specs.declared.header.CredentialValue.TheVariants as credential_value
-use Rattle.kmip_headers.specs.declared.header.Credential.{Credential}
-use Rattle.kmip_headers.specs.declared.header.Authentication.{Authentication}
-use Rattle.kmip_headers.specs.declared.header.BatchErrorContinuationOption.{BatchErrorContinuationOption}
 use Rattle.kmip_headers.specs.declared.header.BatchErrorContinuationOption.TheVariants as batch_error_continuation_option
-use Rattle.kmip_headers.specs.declared.header.MaximumResponseSize.{MaximumResponseSize}
-use Rattle.kmip_headers.specs.declared.header.TimeStamp.{TimeStamp}
-use Rattle.kmip_headers.specs.declared.header.BatchCount.{BatchCount}
-use Rattle.kmip_headers.specs.declared.header.RequestHeader.{RequestHeader}
-use Rattle.kmip_headers.specs.declared.header.ResponseHeader.{ResponseHeader}
-use Rattle.kmip_headers.specs.declared.header.Operation.{Operation}
 use Rattle.kmip_headers.specs.declared.header.Operation.TheVariants as operation
-use Rattle.kmip_headers.specs.declared.header.MessageExtension.{MessageExtension}
 
 -- the form of a `ProtocolVersion`
 abbrev pub protocol_version_form : Form

@@ -2,17 +2,10 @@
 -- Which values of each type are sound: what was encoded of them is decoded again.
 use Rattle.std.specs.Int.{w32, w64}
 use Rattle.std.specs.Prelude.{All, FitsSigned, IfSome, length, ◌<◌, ◌^◌}
-use Rattle.kmip_headers.specs.declared.header.ProtocolVersion.{ProtocolVersion}
-use Rattle.kmip_headers.specs.declared.header.CredentialType.{CredentialType}
-use Rattle.kmip_headers.specs.declared.header.Credential.{Credential}
-use Rattle.kmip_headers.specs.declared.header.Authentication.{Authentication}
-use Rattle.kmip_headers.specs.declared.header.BatchErrorContinuationOption.{BatchErrorContinuationOption}
-use Rattle.kmip_headers.specs.declared.header.MaximumResponseSize.{MaximumResponseSize}
-use Rattle.kmip_headers.specs.declared.header.TimeStamp.{TimeStamp}
-use Rattle.kmip_headers.specs.declared.header.BatchCount.{BatchCount}
-use Rattle.kmip_headers.specs.declared.header.RequestHeader.{RequestHeader}
-use Rattle.kmip_headers.specs.declared.header.ResponseHeader.{ResponseHeader}
-use Rattle.kmip_headers.specs.declared.header.Operation.{Operation}
+use Rattle.kmip_headers.specs.declared.header.{ProtocolVersion.ProtocolVersion, CredentialType.CredentialType, Credential.Credential}
+use Rattle.kmip_headers.specs.declared.header.{Authentication.Authentication, BatchErrorContinuationOption.BatchErrorContinuationOption}
+use Rattle.kmip_headers.specs.declared.header.{MaximumResponseSize.MaximumResponseSize, TimeStamp.TimeStamp, BatchCount.BatchCount, RequestHeader.RequestHeader}
+use Rattle.kmip_headers.specs.declared.header.{ResponseHeader.ResponseHeader, Operation.Operation}
 use Rattle.kmip_headers.specs.Headers.{credential_type_number, ChoosesCredentialValueNumber, batch_error_continuation_option_number, operation_number}
 
 -- which values of `ProtocolVersion` are sound

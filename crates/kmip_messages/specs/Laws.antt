@@ -4,10 +4,10 @@ use Rattle.std.specs.Prelude.{◌≡◌, ◌↔◌, List, ℕ}
 use Rattle.kmip_ttlv.specs.Values.{Value}
 use Rattle.kmip_ttlv.specs.EncodeResults.{IsWrittenAs}
 use Rattle.kmip_ttlv.specs.Reads.{Begins}
-use Rattle.kmip_messages.specs.Requests.{request_form, written_request, read_request, returned_request}
+use Rattle.kmip_messages.specs.Requests.{request_form, written_request, returned_request}
 use Rattle.kmip_messages.specs.Soundness.{IsRequest, IsResponse}
 use Rattle.kmip_messages.specs.declared.request.Request.{Request}
-use Rattle.kmip_messages.specs.Responses.{response_form, written_response, read_response, returned_response}
+use Rattle.kmip_messages.specs.Responses.{response_form, written_response, returned_response}
 use Rattle.kmip_messages.specs.declared.response.Response.{Response}
 
 -- the bytes of a `Request`, behind any others, begin by its form with its own value and with no other

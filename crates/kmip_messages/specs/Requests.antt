@@ -6,8 +6,7 @@ use Rattle.kmip_ttlv.specs.Values.{Value, bytes_value, newtype_value, no_values,
 use Rattle.kmip_ttlv.specs.Visits.{joined}
 use Rattle.std.specs.Prelude.{codes, option_map, true}
 use Rattle.kmip_ttlv.specs.Visits as visits
-use Rattle.kmip_messages.specs.declared.request.RequestItem.{RequestItem}
-use Rattle.kmip_messages.specs.declared.request.Request.{Request}
+use Rattle.kmip_messages.specs.declared.request.{RequestItem.RequestItem, Request.Request}
 use Rattle.kmip_headers.specs.Headers.{request_header_form, written_request_header, read_request_header, returned_request_header, operation_form}
 use Rattle.kmip_headers.specs.Headers.{written_operation, read_operation, message_extension_form, message_extension_value}
 use Rattle.kmip_requests.specs.RequestPayloads.{request_payload_form, written_request_payload, read_request_payload, returned_request_payload}

@@ -6,12 +6,9 @@ use Rattle.kmip_ttlv.specs.Values.{Value, bytes_value, newtype_value, no_values,
 use Rattle.kmip_ttlv.specs.Visits.{joined}
 use Rattle.std.specs.Prelude.{List, Option, Some, [], codes, option_map, string_bytes, true, ℕ, ◌∷◌}
 use Rattle.kmip_ttlv.specs.Visits as visits
-use Rattle.kmip_messages.specs.declared.response.ResultStatus.{ResultStatus}
+use Rattle.kmip_messages.specs.declared.response.{ResultStatus.ResultStatus, ResultReason.ResultReason, ResponseItem.ResponseItem, Response.Response}
 use Rattle.kmip_messages.specs.declared.response.ResultStatus.TheVariants as result_status
-use Rattle.kmip_messages.specs.declared.response.ResultReason.{ResultReason}
 use Rattle.kmip_messages.specs.declared.response.ResultReason.TheVariants as result_reason
-use Rattle.kmip_messages.specs.declared.response.ResponseItem.{ResponseItem}
-use Rattle.kmip_messages.specs.declared.response.Response.{Response}
 use Rattle.kmip_headers.specs.Headers.{response_header_form, response_header_value, operation_form, written_operation, read_operation, message_extension_form}
 use Rattle.kmip_headers.specs.Headers.{message_extension_value}
 use Rattle.kmip_responses.specs.ResponsePayloads.{response_payload_form, written_response_payload, read_response_payload, returned_response_payload}

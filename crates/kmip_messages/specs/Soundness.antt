@@ -2,12 +2,8 @@
 -- Which values of each type are sound: what was encoded of them is decoded again.
 use Rattle.std.specs.Option.{IsSomeAnd}
 use Rattle.std.specs.Prelude.{All, IfSome, length, ◌<◌, ◌^◌}
-use Rattle.kmip_messages.specs.declared.request.RequestItem.{RequestItem}
-use Rattle.kmip_messages.specs.declared.request.Request.{Request}
-use Rattle.kmip_messages.specs.declared.response.ResultStatus.{ResultStatus}
-use Rattle.kmip_messages.specs.declared.response.ResultReason.{ResultReason}
-use Rattle.kmip_messages.specs.declared.response.ResponseItem.{ResponseItem}
-use Rattle.kmip_messages.specs.declared.response.Response.{Response}
+use Rattle.kmip_messages.specs.declared.request.{RequestItem.RequestItem, Request.Request}
+use Rattle.kmip_messages.specs.declared.response.{ResultStatus.ResultStatus, ResultReason.ResultReason, ResponseItem.ResponseItem, Response.Response}
 use Rattle.kmip_requests.specs.RequestPayloads.{ChoosesRequestPayloadNumber}
 use Rattle.kmip_headers.specs.Headers.{operation_number}
 use Rattle.kmip_headers.specs.Soundness.{IsOperation, IsRequestHeader, IsResponseHeader}

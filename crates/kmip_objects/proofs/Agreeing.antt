@@ -6,9 +6,9 @@ use Rattle.kmip_ttlv.specs.Returns.{as_int32, as_number, as_octets, as_text}
 use Rattle.kmip_ttlv.specs.Rules.{at_least, equal, in_brackets, member, rule, sides}
 use Rattle.kmip_ttlv.specs.Values.{big_integer_value, bytes_value, newtype_value}
 use Rattle.kmip_ttlv.specs.WrittenItems.{is_wrapper, pending_after, take_tag}
-use Rattle.kmip_ttlv_laws.proofs.MessageParts.{PartAgrees, a_structure, any_then, as_whole, every_agrees, first_of, if_present, leaf_part, leaf_then}
-use Rattle.kmip_ttlv_laws.proofs.MessageParts.{nothing_behind, nothing_left, option_behind, optional_same_then, optional_then, part_then, present, several_then}
-use Rattle.kmip_ttlv_laws.proofs.MessageParts.{structure, text_is_utf8}
+use Rattle.kmip_ttlv_laws.proofs.MessageParts.{PartAgrees, a_big_integer, a_byte_string, a_structure, a_text_string, an_enumeration, an_integer, any_then}
+use Rattle.kmip_ttlv_laws.proofs.MessageParts.{as_whole, every_agrees, first_of, if_present, leaf_part, leaf_then, nothing_behind, nothing_left, option_behind}
+use Rattle.kmip_ttlv_laws.proofs.MessageParts.{optional_same_then, optional_then, part_then, present, several_then, structure, text_is_utf8}
 use Rattle.kmip_ttlv_laws.proofs.MessageRules.{chosen_by_type, overridden_leaf, overridden_structure}
 use Rattle.std.proofs.Common.{refl}
 use Rattle.std.specs.Prelude.{codes, false, ◌≡◌}
@@ -16,107 +16,72 @@ use Rattle.std.specs.Str.{chars, trim_end, trim_start}
 use lib.Utf8.{encode}
 use Rattle.kmip_ttlv.specs.declared.types.TtlvType.{TtlvType}
 use Rattle.kmip_ttlv.specs.declared.types.TtlvType.TheVariants as types
-use Rattle.kmip_attributes.specs.Values.{cryptographic_algorithm_form, written_cryptographic_algorithm, read_cryptographic_algorithm}
-use Rattle.kmip_attributes.specs.Values.{cryptographic_algorithm_number, certificate_type_form, written_certificate_type, read_certificate_type}
-use Rattle.kmip_attributes.specs.Values.{certificate_type_number, name_type_form, written_name_type, read_name_type, name_type_number, block_cipher_mode_form}
-use Rattle.kmip_attributes.specs.Values.{written_block_cipher_mode, read_block_cipher_mode, block_cipher_mode_number, padding_method_form}
-use Rattle.kmip_attributes.specs.Values.{written_padding_method, read_padding_method, padding_method_number, hashing_algorithm_form, written_hashing_algorithm}
-use Rattle.kmip_attributes.specs.Values.{read_hashing_algorithm, hashing_algorithm_number, key_role_type_form, written_key_role_type, read_key_role_type}
-use Rattle.kmip_attributes.specs.Values.{key_role_type_number, key_format_type_form, written_key_format_type, read_key_format_type, key_format_type_number}
+use Rattle.kmip_attributes.specs.Values.{written_cryptographic_algorithm, written_certificate_type, written_name_type, written_block_cipher_mode}
+use Rattle.kmip_attributes.specs.Values.{written_padding_method, written_hashing_algorithm, written_key_role_type, written_key_format_type}
 use Rattle.kmip_attributes.proofs.Agreeing.{cryptographic_algorithm_agrees, certificate_type_agrees, name_type_agrees, block_cipher_mode_agrees}
 use Rattle.kmip_attributes.proofs.Agreeing.{padding_method_agrees, hashing_algorithm_agrees, key_role_type_agrees, key_format_type_agrees, attribute_agrees}
-use Rattle.kmip_attributes.specs.Attributes.{attribute_form, written_attribute, read_attribute, returned_attribute}
+use Rattle.kmip_attributes.specs.Attributes.{written_attribute, returned_attribute}
 use Rattle.kmip_objects.specs.Keys.{unique_identifier_form, unique_identifier_value, key_compression_type_form, written_key_compression_type}
-use Rattle.kmip_objects.specs.Keys.{read_key_compression_type, key_compression_type_number, wrapping_method_form, written_wrapping_method, read_wrapping_method}
-use Rattle.kmip_objects.specs.Keys.{wrapping_method_number, encoding_option_form, written_encoding_option, read_encoding_option, encoding_option_number}
-use Rattle.kmip_objects.specs.Keys.{wrapping_parameters_form, written_wrapping_parameters, read_wrapping_parameters, returned_wrapping_parameters}
-use Rattle.kmip_objects.specs.Keys.{encryption_key_information_form, written_encryption_key_information, read_encryption_key_information}
-use Rattle.kmip_objects.specs.Keys.{returned_encryption_key_information, mac_signature_key_information_form, written_mac_signature_key_information}
-use Rattle.kmip_objects.specs.Keys.{read_mac_signature_key_information, returned_mac_signature_key_information, key_wrapping_data_form}
-use Rattle.kmip_objects.specs.Keys.{written_key_wrapping_data, read_key_wrapping_data, returned_key_wrapping_data, key_bytes_form, key_bytes_value}
-use Rattle.kmip_objects.specs.Keys.{transparent_symmetric_key_form, transparent_symmetric_key_value, key_material_form, written_key_material, read_key_material}
-use Rattle.kmip_objects.specs.Keys.{key_material_content, plain_key_value_form, written_plain_key_value, read_plain_key_value, returned_plain_key_value}
-use Rattle.kmip_objects.specs.Keys.{wrapped_key_value_form, wrapped_key_value_value, key_value_form, written_key_value, read_key_value, returned_key_value}
-use Rattle.kmip_objects.specs.Keys.{key_value_content, cryptographic_length_form, cryptographic_length_value, key_block_form, written_key_block, read_key_block}
-use Rattle.kmip_objects.specs.Keys.{returned_key_block}
-use Rattle.kmip_objects.specs.declared.key.UniqueIdentifier.{UniqueIdentifier}
+use Rattle.kmip_objects.specs.Keys.{wrapping_method_form, written_wrapping_method, encoding_option_form, written_encoding_option, wrapping_parameters_form}
+use Rattle.kmip_objects.specs.Keys.{written_wrapping_parameters, returned_wrapping_parameters, encryption_key_information_form}
+use Rattle.kmip_objects.specs.Keys.{written_encryption_key_information, returned_encryption_key_information, mac_signature_key_information_form}
+use Rattle.kmip_objects.specs.Keys.{written_mac_signature_key_information, returned_mac_signature_key_information, key_wrapping_data_form}
+use Rattle.kmip_objects.specs.Keys.{written_key_wrapping_data, returned_key_wrapping_data, key_bytes_form, key_bytes_value, transparent_symmetric_key_form}
+use Rattle.kmip_objects.specs.Keys.{transparent_symmetric_key_value, key_material_form, written_key_material, read_key_material, key_material_content}
+use Rattle.kmip_objects.specs.Keys.{plain_key_value_form, written_plain_key_value, returned_plain_key_value, wrapped_key_value_form, wrapped_key_value_value}
+use Rattle.kmip_objects.specs.Keys.{key_value_form, written_key_value, returned_key_value, key_value_content, cryptographic_length_form}
+use Rattle.kmip_objects.specs.Keys.{cryptographic_length_value, key_block_form, written_key_block, returned_key_block}
+use Rattle.kmip_objects.specs.declared.key.{UniqueIdentifier.UniqueIdentifier, KeyCompressionType.KeyCompressionType, WrappingMethod.WrappingMethod}
+use Rattle.kmip_objects.specs.declared.key.{EncodingOption.EncodingOption, WrappingParameters.WrappingParameters}
+use Rattle.kmip_objects.specs.declared.key.{EncryptionKeyInformation.EncryptionKeyInformation, MacSignatureKeyInformation.MacSignatureKeyInformation}
+use Rattle.kmip_objects.specs.declared.key.{KeyWrappingData.KeyWrappingData, KeyBytes.KeyBytes, TransparentSymmetricKey.TransparentSymmetricKey}
+use Rattle.kmip_objects.specs.declared.key.{KeyMaterial.KeyMaterial, PlainKeyValue.PlainKeyValue, WrappedKeyValue.WrappedKeyValue, KeyValue.KeyValue}
+use Rattle.kmip_objects.specs.declared.key.{CryptographicLength.CryptographicLength, KeyBlock.KeyBlock}
 use Rattle.kmip_objects.specs.Soundness.{IsKeyCompressionType, IsWrappingMethod, IsEncodingOption, IsWrappingParameters, IsEncryptionKeyInformation}
 use Rattle.kmip_objects.specs.Soundness.{IsMacSignatureKeyInformation, IsKeyWrappingData, IsPlainKeyValue, IsKeyValue, IsCryptographicLength, IsKeyBlock}
 use Rattle.kmip_objects.specs.Soundness.{IsCertificate, IsSymmetricKey, IsPublicKey, IsPrivateKey, IsSplitKeyMethod, IsSplitKeyParts, IsKeyPartIdentifier}
 use Rattle.kmip_objects.specs.Soundness.{IsSplitKeyThreshold, IsSplitKey, IsTemplate, IsSecretDataType, IsSecretData, IsOpaqueDataType, IsOpaqueObject}
 use Rattle.kmip_objects.specs.Soundness.{IsTemplateName, IsTemplateAttribute, IsCommonTemplateAttribute, IsPrivateKeyTemplateAttribute}
 use Rattle.kmip_objects.specs.Soundness.{IsPublicKeyTemplateAttribute}
-use Rattle.kmip_objects.specs.declared.key.KeyCompressionType.{KeyCompressionType}
-use Rattle.kmip_objects.specs.declared.key.WrappingMethod.{WrappingMethod}
-use Rattle.kmip_objects.specs.declared.key.EncodingOption.{EncodingOption}
-use Rattle.kmip_objects.specs.declared.key.WrappingParameters.{WrappingParameters}
-use Rattle.kmip_objects.specs.declared.key.EncryptionKeyInformation.{EncryptionKeyInformation}
-use Rattle.kmip_objects.specs.declared.key.MacSignatureKeyInformation.{MacSignatureKeyInformation}
-use Rattle.kmip_objects.specs.declared.key.KeyWrappingData.{KeyWrappingData}
-use Rattle.kmip_objects.specs.declared.key.KeyBytes.{KeyBytes}
-use Rattle.kmip_objects.specs.declared.key.TransparentSymmetricKey.{TransparentSymmetricKey}
-use Rattle.kmip_objects.specs.declared.key.KeyMaterial.{KeyMaterial}
 use Rattle.kmip_objects.specs.declared.key.KeyMaterial.TheVariants as key_material
-use Rattle.kmip_objects.specs.declared.key.PlainKeyValue.{PlainKeyValue}
-use Rattle.kmip_objects.specs.declared.key.WrappedKeyValue.{WrappedKeyValue}
-use Rattle.kmip_objects.specs.declared.key.KeyValue.{KeyValue}
 use Rattle.kmip_objects.specs.declared.key.KeyValue.TheVariants as key_value
-use Rattle.kmip_objects.specs.declared.key.CryptographicLength.{CryptographicLength}
-use Rattle.kmip_objects.specs.declared.key.KeyBlock.{KeyBlock}
-use Rattle.kmip_objects.specs.Objects.{certificate_form, written_certificate, read_certificate, returned_certificate, symmetric_key_form, written_symmetric_key}
-use Rattle.kmip_objects.specs.Objects.{read_symmetric_key, returned_symmetric_key, public_key_form, written_public_key, read_public_key, returned_public_key}
-use Rattle.kmip_objects.specs.Objects.{private_key_form, written_private_key, read_private_key, returned_private_key, split_key_method_form}
-use Rattle.kmip_objects.specs.Objects.{written_split_key_method, read_split_key_method, split_key_method_number, split_key_parts_form, split_key_parts_value}
+use Rattle.kmip_objects.specs.Objects.{certificate_form, written_certificate, returned_certificate, symmetric_key_form, written_symmetric_key}
+use Rattle.kmip_objects.specs.Objects.{returned_symmetric_key, public_key_form, written_public_key, returned_public_key, private_key_form, written_private_key}
+use Rattle.kmip_objects.specs.Objects.{returned_private_key, split_key_method_form, written_split_key_method, split_key_parts_form, split_key_parts_value}
 use Rattle.kmip_objects.specs.Objects.{key_part_identifier_form, key_part_identifier_value, split_key_threshold_form, split_key_threshold_value, split_key_form}
-use Rattle.kmip_objects.specs.Objects.{written_split_key, read_split_key, returned_split_key, template_form, written_template, read_template, returned_template}
-use Rattle.kmip_objects.specs.Objects.{secret_data_type_form, written_secret_data_type, read_secret_data_type, secret_data_type_number, secret_data_form}
-use Rattle.kmip_objects.specs.Objects.{written_secret_data, read_secret_data, returned_secret_data, opaque_data_type_form, written_opaque_data_type}
-use Rattle.kmip_objects.specs.Objects.{read_opaque_data_type, opaque_data_type_number, opaque_object_form, written_opaque_object, read_opaque_object}
-use Rattle.kmip_objects.specs.Objects.{returned_opaque_object}
-use Rattle.kmip_objects.specs.declared.object.Certificate.{Certificate}
-use Rattle.kmip_objects.specs.declared.object.SymmetricKey.{SymmetricKey}
-use Rattle.kmip_objects.specs.declared.object.PublicKey.{PublicKey}
-use Rattle.kmip_objects.specs.declared.object.PrivateKey.{PrivateKey}
-use Rattle.kmip_objects.specs.declared.object.SplitKeyMethod.{SplitKeyMethod}
-use Rattle.kmip_objects.specs.declared.object.SplitKeyParts.{SplitKeyParts}
-use Rattle.kmip_objects.specs.declared.object.KeyPartIdentifier.{KeyPartIdentifier}
-use Rattle.kmip_objects.specs.declared.object.SplitKeyThreshold.{SplitKeyThreshold}
-use Rattle.kmip_objects.specs.declared.object.SplitKey.{SplitKey}
-use Rattle.kmip_objects.specs.declared.object.Template.{Template}
-use Rattle.kmip_objects.specs.declared.object.SecretDataType.{SecretDataType}
-use Rattle.kmip_objects.specs.declared.object.SecretData.{SecretData}
-use Rattle.kmip_objects.specs.declared.object.OpaqueDataType.{OpaqueDataType}
-use Rattle.kmip_objects.specs.declared.object.OpaqueObject.{OpaqueObject}
-use Rattle.kmip_objects.specs.Templates.{template_name_form, written_template_name, read_template_name, returned_template_name, template_attribute_form}
-use Rattle.kmip_objects.specs.Templates.{written_template_attribute, read_template_attribute, returned_template_attribute, common_template_attribute_form}
-use Rattle.kmip_objects.specs.Templates.{written_common_template_attribute, read_common_template_attribute, returned_common_template_attribute}
-use Rattle.kmip_objects.specs.Templates.{private_key_template_attribute_form, written_private_key_template_attribute, read_private_key_template_attribute}
+use Rattle.kmip_objects.specs.Objects.{written_split_key, returned_split_key, template_form, written_template, returned_template, secret_data_type_form}
+use Rattle.kmip_objects.specs.Objects.{written_secret_data_type, secret_data_form, written_secret_data, returned_secret_data, opaque_data_type_form}
+use Rattle.kmip_objects.specs.Objects.{written_opaque_data_type, opaque_object_form, written_opaque_object, returned_opaque_object}
+use Rattle.kmip_objects.specs.declared.object.{Certificate.Certificate, SymmetricKey.SymmetricKey, PublicKey.PublicKey, PrivateKey.PrivateKey}
+use Rattle.kmip_objects.specs.declared.object.{SplitKeyMethod.SplitKeyMethod, SplitKeyParts.SplitKeyParts, KeyPartIdentifier.KeyPartIdentifier}
+use Rattle.kmip_objects.specs.declared.object.{SplitKeyThreshold.SplitKeyThreshold, SplitKey.SplitKey, Template.Template, SecretDataType.SecretDataType}
+use Rattle.kmip_objects.specs.declared.object.{SecretData.SecretData, OpaqueDataType.OpaqueDataType, OpaqueObject.OpaqueObject}
+use Rattle.kmip_objects.specs.Templates.{template_name_form, written_template_name, returned_template_name, template_attribute_form, written_template_attribute}
+use Rattle.kmip_objects.specs.Templates.{returned_template_attribute, common_template_attribute_form, written_common_template_attribute}
+use Rattle.kmip_objects.specs.Templates.{returned_common_template_attribute, private_key_template_attribute_form, written_private_key_template_attribute}
 use Rattle.kmip_objects.specs.Templates.{returned_private_key_template_attribute, public_key_template_attribute_form, written_public_key_template_attribute}
-use Rattle.kmip_objects.specs.Templates.{read_public_key_template_attribute, returned_public_key_template_attribute}
-use Rattle.kmip_objects.specs.declared.template.TemplateName.{TemplateName}
-use Rattle.kmip_objects.specs.declared.template.TemplateAttribute.{TemplateAttribute}
-use Rattle.kmip_objects.specs.declared.template.CommonTemplateAttribute.{CommonTemplateAttribute}
-use Rattle.kmip_objects.specs.declared.template.PrivateKeyTemplateAttribute.{PrivateKeyTemplateAttribute}
-use Rattle.kmip_objects.specs.declared.template.PublicKeyTemplateAttribute.{PublicKeyTemplateAttribute}
+use Rattle.kmip_objects.specs.Templates.{returned_public_key_template_attribute}
+use Rattle.kmip_objects.specs.declared.template.{TemplateName.TemplateName, TemplateAttribute.TemplateAttribute}
+use Rattle.kmip_objects.specs.declared.template.{CommonTemplateAttribute.CommonTemplateAttribute, PrivateKeyTemplateAttribute.PrivateKeyTemplateAttribute}
+use Rattle.kmip_objects.specs.declared.template.{PublicKeyTemplateAttribute.PublicKeyTemplateAttribute}
 
 pub unique_identifier_agrees : {A : Type 0} (x : UniqueIdentifier A)
-    → PartAgrees unique_identifier_form (unique_identifier_value x) record { tag = 0x420094; typ = types.TextString } (unique_identifier_value x)
+    → PartAgrees unique_identifier_form (unique_identifier_value x) (a_text_string 0x420094) (unique_identifier_value x)
 unfolding take_tag tag_of number transparent_name
-unique_identifier_agrees x =
-    leaf_part refl refl (as_text (text_is_utf8 x.text))
+unique_identifier_agrees x = leaf_part refl refl (as_text (text_is_utf8 x.text))
 
 pub key_compression_type_agrees : (x : KeyCompressionType) → IsKeyCompressionType x
-    → PartAgrees key_compression_type_form (written_key_compression_type x) record { tag = 0x420041; typ = types.Enumeration } (written_key_compression_type x)
+    → PartAgrees key_compression_type_form (written_key_compression_type x) (an_enumeration 0x420041) (written_key_compression_type x)
 unfolding take_tag tag_of number transparent_name written_key_compression_type
 key_compression_type_agrees x is = leaf_part refl refl (as_number is)
 
 pub wrapping_method_agrees : (x : WrappingMethod) → IsWrappingMethod x
-    → PartAgrees wrapping_method_form (written_wrapping_method x) record { tag = 0x42009E; typ = types.Enumeration } (written_wrapping_method x)
+    → PartAgrees wrapping_method_form (written_wrapping_method x) (an_enumeration 0x42009E) (written_wrapping_method x)
 unfolding take_tag tag_of number transparent_name written_wrapping_method
 wrapping_method_agrees x is = leaf_part refl refl (as_number is)
 
 pub encoding_option_agrees : (x : EncodingOption) → IsEncodingOption x
-    → PartAgrees encoding_option_form (written_encoding_option x) record { tag = 0x4200A3; typ = types.Enumeration } (written_encoding_option x)
+    → PartAgrees encoding_option_form (written_encoding_option x) (an_enumeration 0x4200A3) (written_encoding_option x)
 unfolding take_tag tag_of number transparent_name written_encoding_option
 encoding_option_agrees x is = leaf_part refl refl (as_number is)
 
@@ -125,25 +90,24 @@ pub wrapping_parameters_agrees : (x : WrappingParameters) → IsWrappingParamete
 unfolding take_tag tag_of number transparent_name rule written_wrapping_parameters returned_wrapping_parameters written_block_cipher_mode written_padding_method
     written_hashing_algorithm written_key_role_type
 wrapping_parameters_agrees x is =
-    let b1 = option_behind x.key_role_type record { tag = 0x420083; typ = types.Enumeration } nothing_behind in
-    let b2 = option_behind x.hashing_algorithm record { tag = 0x420038; typ = types.Enumeration } b1 in
-    let b3 = option_behind x.padding_method record { tag = 0x42005F; typ = types.Enumeration } b2 in
+    let b1 = option_behind x.key_role_type (an_enumeration 0x420083) nothing_behind in
+    let b2 = option_behind x.hashing_algorithm (an_enumeration 0x420038) b1 in
+    let b3 = option_behind x.padding_method (an_enumeration 0x42005F) b2 in
     structure refl refl (
-    optional_same_then written_block_cipher_mode record { tag = 0x420011; typ = types.Enumeration } x.block_cipher_mode refl (b3.other (codes "0x420011") refl)
+    optional_same_then written_block_cipher_mode (an_enumeration 0x420011) x.block_cipher_mode refl (b3.other (codes "0x420011") refl)
     (if_present block_cipher_mode_agrees (λ y. refl) x.block_cipher_mode is.0) (
-    optional_same_then written_padding_method record { tag = 0x42005F; typ = types.Enumeration } x.padding_method refl (b2.other (codes "0x42005F") refl)
+    optional_same_then written_padding_method (an_enumeration 0x42005F) x.padding_method refl (b2.other (codes "0x42005F") refl)
     (if_present padding_method_agrees (λ y. refl) x.padding_method is.1) (
-    optional_same_then written_hashing_algorithm record { tag = 0x420038; typ = types.Enumeration } x.hashing_algorithm refl (b1.other (codes "0x420038") refl)
+    optional_same_then written_hashing_algorithm (an_enumeration 0x420038) x.hashing_algorithm refl (b1.other (codes "0x420038") refl)
     (if_present hashing_algorithm_agrees (λ y. refl) x.hashing_algorithm is.2) (
-    optional_same_then written_key_role_type record { tag = 0x420083; typ = types.Enumeration } x.key_role_type refl refl
+    optional_same_then written_key_role_type (an_enumeration 0x420083) x.key_role_type refl refl
     (if_present key_role_type_agrees (λ y. refl) x.key_role_type is.3) nothing_left))))
 
 pub encryption_key_information_agrees : {A : Type 0} (x : EncryptionKeyInformation A) → IsEncryptionKeyInformation x
     → PartAgrees encryption_key_information_form (written_encryption_key_information x) (a_structure 0x420036) (returned_encryption_key_information x)
 unfolding take_tag tag_of number transparent_name rule written_encryption_key_information returned_encryption_key_information returned_wrapping_parameters
 encryption_key_information_agrees x is =
-    structure refl refl (
-    leaf_then refl refl refl refl (as_text (text_is_utf8 x.unique_identifier)) (
+    structure refl refl (leaf_then refl refl refl refl (as_text (text_is_utf8 x.unique_identifier)) (
     optional_then written_wrapping_parameters returned_wrapping_parameters (a_structure 0x42002B) x.cryptographic_parameters refl refl
     (if_present wrapping_parameters_agrees (λ y. refl) x.cryptographic_parameters is) nothing_left))
 
@@ -151,8 +115,7 @@ pub mac_signature_key_information_agrees : {A : Type 0} (x : MacSignatureKeyInfo
     → PartAgrees mac_signature_key_information_form (written_mac_signature_key_information x) (a_structure 0x42004E) (returned_mac_signature_key_information x)
 unfolding take_tag tag_of number transparent_name rule written_mac_signature_key_information returned_mac_signature_key_information returned_wrapping_parameters
 mac_signature_key_information_agrees x is =
-    structure refl refl (
-    leaf_then refl refl refl refl (as_text (text_is_utf8 x.unique_identifier)) (
+    structure refl refl (leaf_then refl refl refl refl (as_text (text_is_utf8 x.unique_identifier)) (
     optional_then written_wrapping_parameters returned_wrapping_parameters (a_structure 0x42002B) x.cryptographic_parameters refl refl
     (if_present wrapping_parameters_agrees (λ y. refl) x.cryptographic_parameters is) nothing_left))
 
@@ -161,35 +124,31 @@ pub key_wrapping_data_agrees : {A : Type 0} (x : KeyWrappingData A) → IsKeyWra
 unfolding take_tag tag_of number transparent_name rule written_key_wrapping_data returned_key_wrapping_data written_wrapping_method
     returned_encryption_key_information returned_mac_signature_key_information written_encoding_option
 key_wrapping_data_agrees x is =
-    let b1 = option_behind x.encoding_option record { tag = 0x4200A3; typ = types.Enumeration } nothing_behind in
-    let b2 = option_behind x.iv_counter_nonce record { tag = 0x42003D; typ = types.ByteString } b1 in
-    let b3 = option_behind x.mac_signature record { tag = 0x42004D; typ = types.ByteString } b2 in
+    let b1 = option_behind x.encoding_option (an_enumeration 0x4200A3) nothing_behind in
+    let b2 = option_behind x.iv_counter_nonce (a_byte_string 0x42003D) b1 in
+    let b3 = option_behind x.mac_signature (a_byte_string 0x42004D) b2 in
     let b4 = option_behind x.mac_signature_key_information (a_structure 0x42004E) b3 in
-    structure refl refl (
-    part_then refl refl (wrapping_method_agrees x.wrapping_method is.0) (
+    structure refl refl (part_then refl refl (wrapping_method_agrees x.wrapping_method is.0) (
     optional_then written_encryption_key_information returned_encryption_key_information (a_structure 0x420036) x.encryption_key_information refl
     (b4.other (codes "0x420036") refl) (if_present encryption_key_information_agrees (λ y. refl) x.encryption_key_information is.1) (
     optional_then written_mac_signature_key_information returned_mac_signature_key_information (a_structure 0x42004E) x.mac_signature_key_information refl
     (b3.other (codes "0x42004E") refl) (if_present mac_signature_key_information_agrees (λ y. refl) x.mac_signature_key_information is.2) (
-    optional_same_then (λ y. newtype_value (codes "Transparent:0x42004D") (bytes_value y.items)) record { tag = 0x42004D; typ = types.ByteString }
-    x.mac_signature refl (b2.other (codes "0x42004D") refl) (present (λ y. leaf_part refl refl (as_octets)) (λ y. refl) x.mac_signature) (
-    optional_same_then (λ y. newtype_value (codes "Transparent:0x42003D") (bytes_value y.items)) record { tag = 0x42003D; typ = types.ByteString }
-    x.iv_counter_nonce refl (b1.other (codes "0x42003D") refl) (present (λ y. leaf_part refl refl (as_octets)) (λ y. refl) x.iv_counter_nonce) (
-    optional_same_then written_encoding_option record { tag = 0x4200A3; typ = types.Enumeration } x.encoding_option refl refl
+    optional_same_then (λ y. newtype_value (codes "Transparent:0x42004D") (bytes_value y.items)) (a_byte_string 0x42004D) x.mac_signature refl
+    (b2.other (codes "0x42004D") refl) (present (λ y. leaf_part refl refl (as_octets)) (λ y. refl) x.mac_signature) (
+    optional_same_then (λ y. newtype_value (codes "Transparent:0x42003D") (bytes_value y.items)) (a_byte_string 0x42003D) x.iv_counter_nonce refl
+    (b1.other (codes "0x42003D") refl) (present (λ y. leaf_part refl refl (as_octets)) (λ y. refl) x.iv_counter_nonce) (
+    optional_same_then written_encoding_option (an_enumeration 0x4200A3) x.encoding_option refl refl
     (if_present encoding_option_agrees (λ y. refl) x.encoding_option is.3) nothing_left))))))
 
-pub key_bytes_agrees : {A : Type 0} (x : KeyBytes A)
-    → PartAgrees key_bytes_form (key_bytes_value x) record { tag = 0x420043; typ = types.ByteString } (key_bytes_value x)
+pub key_bytes_agrees : {A : Type 0} (x : KeyBytes A) → PartAgrees key_bytes_form (key_bytes_value x) (a_byte_string 0x420043) (key_bytes_value x)
 unfolding take_tag tag_of number transparent_name
-key_bytes_agrees x =
-    leaf_part refl refl (as_octets)
+key_bytes_agrees x = leaf_part refl refl (as_octets)
 
 pub transparent_symmetric_key_agrees : {A : Type 0} (x : TransparentSymmetricKey A)
     → PartAgrees transparent_symmetric_key_form (transparent_symmetric_key_value x) (a_structure 0x420043) (transparent_symmetric_key_value x)
 unfolding take_tag tag_of number transparent_name rule transparent_symmetric_key_value
 transparent_symmetric_key_agrees x =
-    structure refl refl (
-    leaf_then refl refl refl refl (as_octets) nothing_left)
+    structure refl refl (leaf_then refl refl refl refl (as_octets) nothing_left)
 
 -- the type of the item of a `KeyMaterial`
 abbrev pub key_material_typ : {A : Type 0} → KeyMaterial A → TtlvType
@@ -214,16 +173,14 @@ pub plain_key_value_agrees : {A : Type 0} (x : PlainKeyValue A) → IsPlainKeyVa
     → PartAgrees plain_key_value_form (written_plain_key_value x) (a_structure 0x420045) (returned_plain_key_value x)
 unfolding take_tag tag_of number transparent_name rule written_plain_key_value returned_plain_key_value returned_attribute
 plain_key_value_agrees x is =
-    structure refl refl (
-    part_then refl (key_material_single x.key_material) (key_material_agrees x.key_material) (
+    structure refl refl (part_then refl (key_material_single x.key_material) (key_material_agrees x.key_material) (
     any_then written_attribute returned_attribute (a_structure 0x420008) x.attributes.items refl refl
     (every_agrees attribute_agrees (λ y. refl) x.attributes.items is) nothing_left))
 
 pub wrapped_key_value_agrees : {A : Type 0} (x : WrappedKeyValue A)
-    → PartAgrees wrapped_key_value_form (wrapped_key_value_value x) record { tag = 0x420045; typ = types.ByteString } (wrapped_key_value_value x)
+    → PartAgrees wrapped_key_value_form (wrapped_key_value_value x) (a_byte_string 0x420045) (wrapped_key_value_value x)
 unfolding take_tag tag_of number transparent_name
-wrapped_key_value_agrees x =
-    leaf_part refl refl (as_octets)
+wrapped_key_value_agrees x = leaf_part refl refl (as_octets)
 
 -- the type of the item of a `KeyValue`
 abbrev pub key_value_typ : {A : Type 0} → KeyValue A → TtlvType
@@ -245,10 +202,9 @@ key_value_agrees (key_value.Wrapped x) is =
     chosen_by_type (later_variant first_variant) (λ k. refl) (overridden_leaf (variant_wraps refl refl) refl refl (as_octets))
 
 pub cryptographic_length_agrees : (x : CryptographicLength) → IsCryptographicLength x
-    → PartAgrees cryptographic_length_form (cryptographic_length_value x) record { tag = 0x42002A; typ = types.Integer } (cryptographic_length_value x)
+    → PartAgrees cryptographic_length_form (cryptographic_length_value x) (an_integer 0x42002A) (cryptographic_length_value x)
 unfolding take_tag tag_of number transparent_name
-cryptographic_length_agrees x is =
-    leaf_part refl refl (as_int32 is)
+cryptographic_length_agrees x is = leaf_part refl refl (as_int32 is)
 
 pub key_block_agrees : {A : Type 0} (x : KeyBlock A) → IsKeyBlock x
     → PartAgrees key_block_form (written_key_block x) (a_structure 0x420040) (returned_key_block x)
@@ -256,15 +212,14 @@ unfolding take_tag tag_of number transparent_name rule written_key_block returne
     written_cryptographic_algorithm returned_key_wrapping_data
 key_block_agrees x is =
     let b1 = option_behind x.key_wrapping_data (a_structure 0x420046) nothing_behind in
-    let b2 = option_behind x.cryptographic_length record { tag = 0x42002A; typ = types.Integer } b1 in
-    structure refl refl (
-    part_then refl refl (key_format_type_agrees x.key_format_type is.0) (
-    optional_same_then written_key_compression_type record { tag = 0x420041; typ = types.Enumeration } x.key_compression_type refl refl
+    let b2 = option_behind x.cryptographic_length (an_integer 0x42002A) b1 in
+    structure refl refl (part_then refl refl (key_format_type_agrees x.key_format_type is.0) (
+    optional_same_then written_key_compression_type (an_enumeration 0x420041) x.key_compression_type refl refl
     (if_present key_compression_type_agrees (λ y. refl) x.key_compression_type is.1) (
     part_then refl (key_value_single x.key_value) (key_value_agrees x.key_value is.2) (
-    optional_same_then written_cryptographic_algorithm record { tag = 0x420028; typ = types.Enumeration } x.cryptographic_algorithm refl
-    (b2.other (codes "0x420028") refl) (if_present cryptographic_algorithm_agrees (λ y. refl) x.cryptographic_algorithm is.3) (
-    optional_same_then cryptographic_length_value record { tag = 0x42002A; typ = types.Integer } x.cryptographic_length refl (b1.other (codes "0x42002A") refl)
+    optional_same_then written_cryptographic_algorithm (an_enumeration 0x420028) x.cryptographic_algorithm refl (b2.other (codes "0x420028") refl)
+    (if_present cryptographic_algorithm_agrees (λ y. refl) x.cryptographic_algorithm is.3) (
+    optional_same_then cryptographic_length_value (an_integer 0x42002A) x.cryptographic_length refl (b1.other (codes "0x42002A") refl)
     (if_present cryptographic_length_agrees (λ y. refl) x.cryptographic_length is.4) (
     optional_then written_key_wrapping_data returned_key_wrapping_data (a_structure 0x420046) x.key_wrapping_data refl refl
     (if_present key_wrapping_data_agrees (λ y. refl) x.key_wrapping_data is.5) nothing_left))))))
@@ -273,65 +228,54 @@ pub certificate_agrees : {A : Type 0} (x : Certificate A) → IsCertificate x
     → PartAgrees certificate_form (written_certificate x) (a_structure 0x420013) (returned_certificate x)
 unfolding take_tag tag_of number transparent_name rule written_certificate returned_certificate written_certificate_type
 certificate_agrees x is =
-    structure refl refl (
-    part_then refl refl (certificate_type_agrees x.certificate_type is) (
-    leaf_then refl refl refl refl (as_octets) nothing_left))
+    structure refl refl (part_then refl refl (certificate_type_agrees x.certificate_type is) (leaf_then refl refl refl refl (as_octets) nothing_left))
 
 pub symmetric_key_agrees : {A : Type 0} (x : SymmetricKey A) → IsSymmetricKey x
     → PartAgrees symmetric_key_form (written_symmetric_key x) (a_structure 0x42008F) (returned_symmetric_key x)
 unfolding take_tag tag_of number transparent_name rule written_symmetric_key returned_symmetric_key returned_key_block
 symmetric_key_agrees x is =
-    structure refl refl (
-    part_then refl refl (key_block_agrees x.key_block is) nothing_left)
+    structure refl refl (part_then refl refl (key_block_agrees x.key_block is) nothing_left)
 
 pub public_key_agrees : {A : Type 0} (x : PublicKey A) → IsPublicKey x
     → PartAgrees public_key_form (written_public_key x) (a_structure 0x42006D) (returned_public_key x)
 unfolding take_tag tag_of number transparent_name rule written_public_key returned_public_key returned_key_block
 public_key_agrees x is =
-    structure refl refl (
-    part_then refl refl (key_block_agrees x.key_block is) nothing_left)
+    structure refl refl (part_then refl refl (key_block_agrees x.key_block is) nothing_left)
 
 pub private_key_agrees : {A : Type 0} (x : PrivateKey A) → IsPrivateKey x
     → PartAgrees private_key_form (written_private_key x) (a_structure 0x420064) (returned_private_key x)
 unfolding take_tag tag_of number transparent_name rule written_private_key returned_private_key returned_key_block
 private_key_agrees x is =
-    structure refl refl (
-    part_then refl refl (key_block_agrees x.key_block is) nothing_left)
+    structure refl refl (part_then refl refl (key_block_agrees x.key_block is) nothing_left)
 
 pub split_key_method_agrees : (x : SplitKeyMethod) → IsSplitKeyMethod x
-    → PartAgrees split_key_method_form (written_split_key_method x) record { tag = 0x42008A; typ = types.Enumeration } (written_split_key_method x)
+    → PartAgrees split_key_method_form (written_split_key_method x) (an_enumeration 0x42008A) (written_split_key_method x)
 unfolding take_tag tag_of number transparent_name written_split_key_method
 split_key_method_agrees x is = leaf_part refl refl (as_number is)
 
 pub split_key_parts_agrees : (x : SplitKeyParts) → IsSplitKeyParts x
-    → PartAgrees split_key_parts_form (split_key_parts_value x) record { tag = 0x42008B; typ = types.Integer } (split_key_parts_value x)
+    → PartAgrees split_key_parts_form (split_key_parts_value x) (an_integer 0x42008B) (split_key_parts_value x)
 unfolding take_tag tag_of number transparent_name
-split_key_parts_agrees x is =
-    leaf_part refl refl (as_int32 is)
+split_key_parts_agrees x is = leaf_part refl refl (as_int32 is)
 
 pub key_part_identifier_agrees : (x : KeyPartIdentifier) → IsKeyPartIdentifier x
-    → PartAgrees key_part_identifier_form (key_part_identifier_value x) record { tag = 0x420044; typ = types.Integer } (key_part_identifier_value x)
+    → PartAgrees key_part_identifier_form (key_part_identifier_value x) (an_integer 0x420044) (key_part_identifier_value x)
 unfolding take_tag tag_of number transparent_name
-key_part_identifier_agrees x is =
-    leaf_part refl refl (as_int32 is)
+key_part_identifier_agrees x is = leaf_part refl refl (as_int32 is)
 
 pub split_key_threshold_agrees : (x : SplitKeyThreshold) → IsSplitKeyThreshold x
-    → PartAgrees split_key_threshold_form (split_key_threshold_value x) record { tag = 0x42008C; typ = types.Integer } (split_key_threshold_value x)
+    → PartAgrees split_key_threshold_form (split_key_threshold_value x) (an_integer 0x42008C) (split_key_threshold_value x)
 unfolding take_tag tag_of number transparent_name
-split_key_threshold_agrees x is =
-    leaf_part refl refl (as_int32 is)
+split_key_threshold_agrees x is = leaf_part refl refl (as_int32 is)
 
 pub split_key_agrees : {A : Type 0} (x : SplitKey A) → IsSplitKey x
     → PartAgrees split_key_form (written_split_key x) (a_structure 0x420089) (returned_split_key x)
 unfolding take_tag tag_of number transparent_name rule written_split_key returned_split_key written_split_key_method returned_key_block
 split_key_agrees x is =
-    structure refl refl (
-    leaf_then refl refl refl refl (as_int32 is.0) (
-    leaf_then refl refl refl refl (as_int32 is.1) (
-    leaf_then refl refl refl refl (as_int32 is.2) (
-    part_then refl refl (split_key_method_agrees x.split_key_method is.3) (
-    optional_same_then (λ y. newtype_value (codes "Transparent:0x420062") (big_integer_value y.items)) record { tag = 0x420062; typ = types.BigInteger }
-    x.prime_field_size refl refl (if_present (λ y is. leaf_part refl refl (as_whole y.items is)) (λ y. refl) x.prime_field_size is.4) (
+    structure refl refl (leaf_then refl refl refl refl (as_int32 is.0) (leaf_then refl refl refl refl (as_int32 is.1) (
+    leaf_then refl refl refl refl (as_int32 is.2) (part_then refl refl (split_key_method_agrees x.split_key_method is.3) (
+    optional_same_then (λ y. newtype_value (codes "Transparent:0x420062") (big_integer_value y.items)) (a_big_integer 0x420062) x.prime_field_size refl refl
+    (if_present (λ y is. leaf_part refl refl (as_whole y.items is)) (λ y. refl) x.prime_field_size is.4) (
     part_then refl refl (key_block_agrees x.key_block is.5) nothing_left))))))
 
 pub template_agrees : {A : Type 0} (x : Template A) → IsTemplate x → PartAgrees template_form (written_template x) (a_structure 0x420090) (returned_template x)
@@ -342,7 +286,7 @@ template_agrees x is =
     (every_agrees attribute_agrees (λ y. refl) x.attributes.items is.1) nothing_left)
 
 pub secret_data_type_agrees : (x : SecretDataType) → IsSecretDataType x
-    → PartAgrees secret_data_type_form (written_secret_data_type x) record { tag = 0x420086; typ = types.Enumeration } (written_secret_data_type x)
+    → PartAgrees secret_data_type_form (written_secret_data_type x) (an_enumeration 0x420086) (written_secret_data_type x)
 unfolding take_tag tag_of number transparent_name written_secret_data_type
 secret_data_type_agrees x is = leaf_part refl refl (as_number is)
 
@@ -350,12 +294,11 @@ pub secret_data_agrees : {A : Type 0} (x : SecretData A) → IsSecretData x
     → PartAgrees secret_data_form (written_secret_data x) (a_structure 0x420085) (returned_secret_data x)
 unfolding take_tag tag_of number transparent_name rule written_secret_data returned_secret_data written_secret_data_type returned_key_block
 secret_data_agrees x is =
-    structure refl refl (
-    part_then refl refl (secret_data_type_agrees x.secret_data_type is.0) (
+    structure refl refl (part_then refl refl (secret_data_type_agrees x.secret_data_type is.0) (
     part_then refl refl (key_block_agrees x.key_block is.1) nothing_left))
 
 pub opaque_data_type_agrees : (x : OpaqueDataType) → IsOpaqueDataType x
-    → PartAgrees opaque_data_type_form (written_opaque_data_type x) record { tag = 0x420059; typ = types.Enumeration } (written_opaque_data_type x)
+    → PartAgrees opaque_data_type_form (written_opaque_data_type x) (an_enumeration 0x420059) (written_opaque_data_type x)
 unfolding take_tag tag_of number transparent_name written_opaque_data_type
 opaque_data_type_agrees x is = leaf_part refl refl (as_number is)
 
@@ -363,17 +306,13 @@ pub opaque_object_agrees : {A : Type 0} (x : OpaqueObject A) → IsOpaqueObject 
     → PartAgrees opaque_object_form (written_opaque_object x) (a_structure 0x42005B) (returned_opaque_object x)
 unfolding take_tag tag_of number transparent_name rule written_opaque_object returned_opaque_object written_opaque_data_type
 opaque_object_agrees x is =
-    structure refl refl (
-    part_then refl refl (opaque_data_type_agrees x.opaque_data_type is) (
-    leaf_then refl refl refl refl (as_octets) nothing_left))
+    structure refl refl (part_then refl refl (opaque_data_type_agrees x.opaque_data_type is) (leaf_then refl refl refl refl (as_octets) nothing_left))
 
 pub template_name_agrees : {A : Type 0} (x : TemplateName A) → IsTemplateName x
     → PartAgrees template_name_form (written_template_name x) (a_structure 0x420053) (returned_template_name x)
 unfolding take_tag tag_of number transparent_name rule written_template_name returned_template_name written_name_type
 template_name_agrees x is =
-    structure refl refl (
-    leaf_then refl refl refl refl (as_text (text_is_utf8 x.value)) (
-    part_then refl refl (name_type_agrees x.name_type is) nothing_left))
+    structure refl refl (leaf_then refl refl refl refl (as_text (text_is_utf8 x.value)) (part_then refl refl (name_type_agrees x.name_type is) nothing_left))
 
 pub template_attribute_agrees : {A : Type 0} (x : TemplateAttribute A) → IsTemplateAttribute x
     → PartAgrees template_attribute_form (written_template_attribute x) (a_structure 0x420091) (returned_template_attribute x)

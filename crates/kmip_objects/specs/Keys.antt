@@ -6,27 +6,17 @@ use Rattle.kmip_ttlv.specs.Values.{Value, bytes_value, i32_value, newtype_value,
 use Rattle.kmip_ttlv.specs.Visits.{joined}
 use Rattle.std.specs.Prelude.{List, Option, Some, [], codes, option_map, string_bytes, true, ℕ, ◌∷◌}
 use Rattle.kmip_ttlv.specs.Visits as visits
-use Rattle.kmip_objects.specs.declared.key.UniqueIdentifier.{UniqueIdentifier}
-use Rattle.kmip_objects.specs.declared.key.KeyCompressionType.{KeyCompressionType}
+use Rattle.kmip_objects.specs.declared.key.{UniqueIdentifier.UniqueIdentifier, KeyCompressionType.KeyCompressionType, WrappingMethod.WrappingMethod}
+use Rattle.kmip_objects.specs.declared.key.{EncodingOption.EncodingOption, WrappingParameters.WrappingParameters}
+use Rattle.kmip_objects.specs.declared.key.{EncryptionKeyInformation.EncryptionKeyInformation, MacSignatureKeyInformation.MacSignatureKeyInformation}
+use Rattle.kmip_objects.specs.declared.key.{KeyWrappingData.KeyWrappingData, KeyBytes.KeyBytes, TransparentSymmetricKey.TransparentSymmetricKey}
+use Rattle.kmip_objects.specs.declared.key.{KeyMaterial.KeyMaterial, PlainKeyValue.PlainKeyValue, WrappedKeyValue.WrappedKeyValue, KeyValue.KeyValue}
+use Rattle.kmip_objects.specs.declared.key.{CryptographicLength.CryptographicLength, KeyBlock.KeyBlock}
 use Rattle.kmip_objects.specs.declared.key.KeyCompressionType.TheVariants as key_compression_type
-use Rattle.kmip_objects.specs.declared.key.WrappingMethod.{WrappingMethod}
 use Rattle.kmip_objects.specs.declared.key.WrappingMethod.TheVariants as wrapping_method
-use Rattle.kmip_objects.specs.declared.key.EncodingOption.{EncodingOption}
 use Rattle.kmip_objects.specs.declared.key.EncodingOption.TheVariants as encoding_option
-use Rattle.kmip_objects.specs.declared.key.WrappingParameters.{WrappingParameters}
-use Rattle.kmip_objects.specs.declared.key.EncryptionKeyInformation.{EncryptionKeyInformation}
-use Rattle.kmip_objects.specs.declared.key.MacSignatureKeyInformation.{MacSignatureKeyInformation}
-use Rattle.kmip_objects.specs.declared.key.KeyWrappingData.{KeyWrappingData}
-use Rattle.kmip_objects.specs.declared.key.KeyBytes.{KeyBytes}
-use Rattle.kmip_objects.specs.declared.key.TransparentSymmetricKey.{TransparentSymmetricKey}
-use Rattle.kmip_objects.specs.declared.key.KeyMaterial.{KeyMaterial}
 use Rattle.kmip_objects.specs.declared.key.KeyMaterial.TheVariants as key_material
-use Rattle.kmip_objects.specs.declared.key.PlainKeyValue.{PlainKeyValue}
-use Rattle.kmip_objects.specs.declared.key.WrappedKeyValue.{WrappedKeyValue}
-use Rattle.kmip_objects.specs.declared.key.KeyValue.{KeyValue}
 use Rattle.kmip_objects.specs.declared.key.KeyValue.TheVariants as key_value
-use Rattle.kmip_objects.specs.declared.key.CryptographicLength.{CryptographicLength}
-use Rattle.kmip_objects.specs.declared.key.KeyBlock.{KeyBlock}
 use Rattle.kmip_attributes.specs.Values.{cryptographic_algorithm_form, written_cryptographic_algorithm, read_cryptographic_algorithm, block_cipher_mode_form}
 use Rattle.kmip_attributes.specs.Values.{written_block_cipher_mode, read_block_cipher_mode, padding_method_form, written_padding_method, read_padding_method}
 use Rattle.kmip_attributes.specs.Values.{hashing_algorithm_form, written_hashing_algorithm, read_hashing_algorithm, key_role_type_form, written_key_role_type}

@@ -6,23 +6,13 @@ use Rattle.kmip_ttlv.specs.Values.{Value, big_integer_value, bytes_value, i32_va
 use Rattle.kmip_ttlv.specs.Visits.{joined}
 use Rattle.std.specs.Prelude.{List, Option, Some, [], codes, option_map, true, ℕ, ◌∷◌}
 use Rattle.kmip_ttlv.specs.Visits as visits
-use Rattle.kmip_objects.specs.declared.object.Certificate.{Certificate}
-use Rattle.kmip_objects.specs.declared.object.SymmetricKey.{SymmetricKey}
-use Rattle.kmip_objects.specs.declared.object.PublicKey.{PublicKey}
-use Rattle.kmip_objects.specs.declared.object.PrivateKey.{PrivateKey}
-use Rattle.kmip_objects.specs.declared.object.SplitKeyMethod.{SplitKeyMethod}
+use Rattle.kmip_objects.specs.declared.object.{Certificate.Certificate, SymmetricKey.SymmetricKey, PublicKey.PublicKey, PrivateKey.PrivateKey}
+use Rattle.kmip_objects.specs.declared.object.{SplitKeyMethod.SplitKeyMethod, SplitKeyParts.SplitKeyParts, KeyPartIdentifier.KeyPartIdentifier}
+use Rattle.kmip_objects.specs.declared.object.{SplitKeyThreshold.SplitKeyThreshold, SplitKey.SplitKey, Template.Template, SecretDataType.SecretDataType}
+use Rattle.kmip_objects.specs.declared.object.{SecretData.SecretData, OpaqueDataType.OpaqueDataType, OpaqueObject.OpaqueObject}
 use Rattle.kmip_objects.specs.declared.object.SplitKeyMethod.TheVariants as split_key_method
-use Rattle.kmip_objects.specs.declared.object.SplitKeyParts.{SplitKeyParts}
-use Rattle.kmip_objects.specs.declared.object.KeyPartIdentifier.{KeyPartIdentifier}
-use Rattle.kmip_objects.specs.declared.object.SplitKeyThreshold.{SplitKeyThreshold}
-use Rattle.kmip_objects.specs.declared.object.SplitKey.{SplitKey}
-use Rattle.kmip_objects.specs.declared.object.Template.{Template}
-use Rattle.kmip_objects.specs.declared.object.SecretDataType.{SecretDataType}
 use Rattle.kmip_objects.specs.declared.object.SecretDataType.TheVariants as secret_data_type
-use Rattle.kmip_objects.specs.declared.object.SecretData.{SecretData}
-use Rattle.kmip_objects.specs.declared.object.OpaqueDataType.{OpaqueDataType}
 use Rattle.kmip_objects.specs.declared.object.OpaqueDataType.TheVariants as opaque_data_type
-use Rattle.kmip_objects.specs.declared.object.OpaqueObject.{OpaqueObject}
 use Rattle.kmip_attributes.specs.Values.{certificate_type_form, written_certificate_type, read_certificate_type}
 use Rattle.kmip_attributes.specs.Attributes.{attribute_form, written_attribute, read_attribute, returned_attribute}
 use Rattle.kmip_objects.specs.Keys.{key_block_form, written_key_block, read_key_block, returned_key_block}

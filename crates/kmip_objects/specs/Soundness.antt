@@ -2,37 +2,18 @@
 -- Which values of each type are sound: what was encoded of them is decoded again.
 use Rattle.std.specs.Int.{w32}
 use Rattle.std.specs.Prelude.{All, FitsSigned, IfSome, length, ◌%◌, ◌<◌, ◌^◌, ◌≡◌}
-use Rattle.kmip_objects.specs.declared.key.KeyCompressionType.{KeyCompressionType}
-use Rattle.kmip_objects.specs.declared.key.WrappingMethod.{WrappingMethod}
-use Rattle.kmip_objects.specs.declared.key.EncodingOption.{EncodingOption}
-use Rattle.kmip_objects.specs.declared.key.WrappingParameters.{WrappingParameters}
-use Rattle.kmip_objects.specs.declared.key.EncryptionKeyInformation.{EncryptionKeyInformation}
-use Rattle.kmip_objects.specs.declared.key.MacSignatureKeyInformation.{MacSignatureKeyInformation}
-use Rattle.kmip_objects.specs.declared.key.KeyWrappingData.{KeyWrappingData}
-use Rattle.kmip_objects.specs.declared.key.PlainKeyValue.{PlainKeyValue}
-use Rattle.kmip_objects.specs.declared.key.KeyValue.{KeyValue}
+use Rattle.kmip_objects.specs.declared.key.{KeyCompressionType.KeyCompressionType, WrappingMethod.WrappingMethod, EncodingOption.EncodingOption}
+use Rattle.kmip_objects.specs.declared.key.{WrappingParameters.WrappingParameters, EncryptionKeyInformation.EncryptionKeyInformation}
+use Rattle.kmip_objects.specs.declared.key.{MacSignatureKeyInformation.MacSignatureKeyInformation, KeyWrappingData.KeyWrappingData, PlainKeyValue.PlainKeyValue}
+use Rattle.kmip_objects.specs.declared.key.{KeyValue.KeyValue, CryptographicLength.CryptographicLength, KeyBlock.KeyBlock}
 use Rattle.kmip_objects.specs.declared.key.KeyValue.TheVariants as key_value
-use Rattle.kmip_objects.specs.declared.key.CryptographicLength.{CryptographicLength}
-use Rattle.kmip_objects.specs.declared.key.KeyBlock.{KeyBlock}
-use Rattle.kmip_objects.specs.declared.object.Certificate.{Certificate}
-use Rattle.kmip_objects.specs.declared.object.SymmetricKey.{SymmetricKey}
-use Rattle.kmip_objects.specs.declared.object.PublicKey.{PublicKey}
-use Rattle.kmip_objects.specs.declared.object.PrivateKey.{PrivateKey}
-use Rattle.kmip_objects.specs.declared.object.SplitKeyMethod.{SplitKeyMethod}
-use Rattle.kmip_objects.specs.declared.object.SplitKeyParts.{SplitKeyParts}
-use Rattle.kmip_objects.specs.declared.object.KeyPartIdentifier.{KeyPartIdentifier}
-use Rattle.kmip_objects.specs.declared.object.SplitKeyThreshold.{SplitKeyThreshold}
-use Rattle.kmip_objects.specs.declared.object.SplitKey.{SplitKey}
-use Rattle.kmip_objects.specs.declared.object.Template.{Template}
-use Rattle.kmip_objects.specs.declared.object.SecretDataType.{SecretDataType}
-use Rattle.kmip_objects.specs.declared.object.SecretData.{SecretData}
-use Rattle.kmip_objects.specs.declared.object.OpaqueDataType.{OpaqueDataType}
-use Rattle.kmip_objects.specs.declared.object.OpaqueObject.{OpaqueObject}
-use Rattle.kmip_objects.specs.declared.template.TemplateName.{TemplateName}
-use Rattle.kmip_objects.specs.declared.template.TemplateAttribute.{TemplateAttribute}
-use Rattle.kmip_objects.specs.declared.template.CommonTemplateAttribute.{CommonTemplateAttribute}
-use Rattle.kmip_objects.specs.declared.template.PrivateKeyTemplateAttribute.{PrivateKeyTemplateAttribute}
-use Rattle.kmip_objects.specs.declared.template.PublicKeyTemplateAttribute.{PublicKeyTemplateAttribute}
+use Rattle.kmip_objects.specs.declared.object.{Certificate.Certificate, SymmetricKey.SymmetricKey, PublicKey.PublicKey, PrivateKey.PrivateKey}
+use Rattle.kmip_objects.specs.declared.object.{SplitKeyMethod.SplitKeyMethod, SplitKeyParts.SplitKeyParts, KeyPartIdentifier.KeyPartIdentifier}
+use Rattle.kmip_objects.specs.declared.object.{SplitKeyThreshold.SplitKeyThreshold, SplitKey.SplitKey, Template.Template, SecretDataType.SecretDataType}
+use Rattle.kmip_objects.specs.declared.object.{SecretData.SecretData, OpaqueDataType.OpaqueDataType, OpaqueObject.OpaqueObject}
+use Rattle.kmip_objects.specs.declared.template.{TemplateName.TemplateName, TemplateAttribute.TemplateAttribute}
+use Rattle.kmip_objects.specs.declared.template.{CommonTemplateAttribute.CommonTemplateAttribute, PrivateKeyTemplateAttribute.PrivateKeyTemplateAttribute}
+use Rattle.kmip_objects.specs.declared.template.{PublicKeyTemplateAttribute.PublicKeyTemplateAttribute}
 use Rattle.kmip_objects.specs.Keys.{key_compression_type_number, wrapping_method_number, encoding_option_number}
 use Rattle.kmip_attributes.specs.Soundness.{IsBlockCipherMode, IsPaddingMethod, IsHashingAlgorithm, IsKeyRoleType, IsAttribute, IsKeyFormatType}
 use Rattle.kmip_attributes.specs.Soundness.{IsCryptographicAlgorithm, IsCertificateType, IsNameType}

@@ -4,11 +4,9 @@ use Rattle.kmip_ttlv.specs.Forms.{Form, field, newtype, no_fields, option, seq, 
 use Rattle.kmip_ttlv.specs.MessageParts.{optional_sequence, sequence}
 use Rattle.kmip_ttlv.specs.Values.{Value, newtype_value, no_values, struct_value, text_value, value}
 use Rattle.std.specs.Prelude.{codes, string_bytes, true}
-use Rattle.kmip_objects.specs.declared.template.TemplateName.{TemplateName}
-use Rattle.kmip_objects.specs.declared.template.TemplateAttribute.{TemplateAttribute}
-use Rattle.kmip_objects.specs.declared.template.CommonTemplateAttribute.{CommonTemplateAttribute}
-use Rattle.kmip_objects.specs.declared.template.PrivateKeyTemplateAttribute.{PrivateKeyTemplateAttribute}
-use Rattle.kmip_objects.specs.declared.template.PublicKeyTemplateAttribute.{PublicKeyTemplateAttribute}
+use Rattle.kmip_objects.specs.declared.template.{TemplateName.TemplateName, TemplateAttribute.TemplateAttribute}
+use Rattle.kmip_objects.specs.declared.template.{CommonTemplateAttribute.CommonTemplateAttribute, PrivateKeyTemplateAttribute.PrivateKeyTemplateAttribute}
+use Rattle.kmip_objects.specs.declared.template.{PublicKeyTemplateAttribute.PublicKeyTemplateAttribute}
 use Rattle.kmip_attributes.specs.Values.{name_type_form, written_name_type, read_name_type}
 use Rattle.kmip_attributes.specs.Attributes.{attribute_form, written_attribute, read_attribute, returned_attribute}
 

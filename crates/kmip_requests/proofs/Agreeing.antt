@@ -6,97 +6,68 @@ use Rattle.kmip_ttlv.specs.Returns.{as_date_time, as_int32, as_number, as_text, 
 use Rattle.kmip_ttlv.specs.Rules.{at_least, equal, in_brackets, member, rule, sides}
 use Rattle.kmip_ttlv.specs.Values.{newtype_value, text_value}
 use Rattle.kmip_ttlv.specs.WrittenItems.{is_wrapper, pending_after, take_tag}
-use Rattle.kmip_ttlv_laws.proofs.MessageParts.{PartAgrees, a_structure, all_agree, any_then, every_agrees, first_of, if_present, leaf_part, leaf_then}
-use Rattle.kmip_ttlv_laws.proofs.MessageParts.{nothing_behind, nothing_left, option_behind, optional_same_then, optional_then, part_then, present, several_then}
-use Rattle.kmip_ttlv_laws.proofs.MessageParts.{structure, text_is_utf8}
+use Rattle.kmip_ttlv_laws.proofs.MessageParts.{PartAgrees, a_date_time, a_structure, a_text_string, all_agree, an_enumeration, an_integer, any_then}
+use Rattle.kmip_ttlv_laws.proofs.MessageParts.{every_agrees, first_of, if_present, leaf_part, leaf_then, nothing_behind, nothing_left, option_behind}
+use Rattle.kmip_ttlv_laws.proofs.MessageParts.{optional_same_then, optional_then, part_then, present, several_then, structure, text_is_utf8}
 use Rattle.kmip_ttlv_laws.proofs.MessageRules.{PartAfter, chosen_after}
 use Rattle.std.proofs.Common.{ap, refl, ◌∙◌}
 use Rattle.std.specs.Prelude.{List, Some, codes, false, string_bytes, ℕ, ◌≡◌}
 use Rattle.std.specs.Str.{chars, trim_end, trim_start}
 use lib.Utf8.{encode}
-use Rattle.kmip_ttlv.specs.declared.types.TtlvType.{TtlvType}
 use Rattle.kmip_ttlv.specs.declared.types.TtlvType.TheVariants as types
-use Rattle.kmip_attributes.specs.Values.{object_type_form, written_object_type, read_object_type, object_type_number, key_format_type_form}
-use Rattle.kmip_attributes.specs.Values.{written_key_format_type, read_key_format_type, key_format_type_number, revocation_reason_code_form}
-use Rattle.kmip_attributes.specs.Values.{written_revocation_reason_code, read_revocation_reason_code, revocation_reason_code_number}
+use Rattle.kmip_attributes.specs.Values.{written_object_type, written_key_format_type, written_revocation_reason_code}
 use Rattle.kmip_attributes.proofs.Agreeing.{object_type_agrees, key_format_type_agrees, revocation_reason_code_agrees, attribute_name_agrees}
 use Rattle.kmip_attributes.proofs.Agreeing.{attribute_index_agrees, attribute_agrees}
-use Rattle.kmip_attributes.specs.Attributes.{attribute_name_form, attribute_name_value, attribute_index_form, attribute_index_value, attribute_form}
-use Rattle.kmip_attributes.specs.Attributes.{written_attribute, read_attribute, returned_attribute}
-use Rattle.kmip_attributes.specs.declared.attribute.AttributeName.{AttributeName}
-use Rattle.kmip_attributes.specs.declared.attribute.AttributeIndex.{AttributeIndex}
-use Rattle.kmip_objects.specs.Keys.{key_compression_type_form, written_key_compression_type, read_key_compression_type, key_compression_type_number}
-use Rattle.kmip_objects.specs.Keys.{wrapping_method_form, written_wrapping_method, read_wrapping_method, wrapping_method_number, encoding_option_form}
-use Rattle.kmip_objects.specs.Keys.{written_encoding_option, read_encoding_option, encoding_option_number, encryption_key_information_form}
-use Rattle.kmip_objects.specs.Keys.{written_encryption_key_information, read_encryption_key_information, returned_encryption_key_information}
-use Rattle.kmip_objects.specs.Keys.{mac_signature_key_information_form, written_mac_signature_key_information, read_mac_signature_key_information}
-use Rattle.kmip_objects.specs.Keys.{returned_mac_signature_key_information}
+use Rattle.kmip_attributes.specs.Attributes.{attribute_name_value, attribute_index_value, written_attribute, returned_attribute}
+use Rattle.kmip_objects.specs.Keys.{written_key_compression_type, written_wrapping_method, written_encoding_option, written_encryption_key_information}
+use Rattle.kmip_objects.specs.Keys.{returned_encryption_key_information, written_mac_signature_key_information, returned_mac_signature_key_information}
 use Rattle.kmip_objects.proofs.Agreeing.{key_compression_type_agrees, wrapping_method_agrees, encoding_option_agrees, encryption_key_information_agrees}
 use Rattle.kmip_objects.proofs.Agreeing.{mac_signature_key_information_agrees, certificate_agrees, symmetric_key_agrees, public_key_agrees, private_key_agrees}
 use Rattle.kmip_objects.proofs.Agreeing.{split_key_agrees, template_agrees, secret_data_agrees, opaque_object_agrees, template_attribute_agrees}
 use Rattle.kmip_objects.proofs.Agreeing.{common_template_attribute_agrees, private_key_template_attribute_agrees, public_key_template_attribute_agrees}
-use Rattle.kmip_objects.specs.Objects.{certificate_form, written_certificate, read_certificate, returned_certificate, symmetric_key_form, written_symmetric_key}
-use Rattle.kmip_objects.specs.Objects.{read_symmetric_key, returned_symmetric_key, public_key_form, written_public_key, read_public_key, returned_public_key}
-use Rattle.kmip_objects.specs.Objects.{private_key_form, written_private_key, read_private_key, returned_private_key, split_key_form, written_split_key}
-use Rattle.kmip_objects.specs.Objects.{read_split_key, returned_split_key, template_form, written_template, read_template, returned_template, secret_data_form}
-use Rattle.kmip_objects.specs.Objects.{written_secret_data, read_secret_data, returned_secret_data, opaque_object_form, written_opaque_object}
-use Rattle.kmip_objects.specs.Objects.{read_opaque_object, returned_opaque_object}
-use Rattle.kmip_objects.specs.Templates.{template_attribute_form, written_template_attribute, read_template_attribute, returned_template_attribute}
-use Rattle.kmip_objects.specs.Templates.{common_template_attribute_form, written_common_template_attribute, read_common_template_attribute}
-use Rattle.kmip_objects.specs.Templates.{returned_common_template_attribute, private_key_template_attribute_form, written_private_key_template_attribute}
-use Rattle.kmip_objects.specs.Templates.{read_private_key_template_attribute, returned_private_key_template_attribute, public_key_template_attribute_form}
-use Rattle.kmip_objects.specs.Templates.{written_public_key_template_attribute, read_public_key_template_attribute, returned_public_key_template_attribute}
-use Rattle.kmip_headers.specs.Headers.{protocol_version_form, protocol_version_value}
+use Rattle.kmip_objects.specs.Objects.{written_certificate, returned_certificate, written_symmetric_key, returned_symmetric_key, written_public_key}
+use Rattle.kmip_objects.specs.Objects.{returned_public_key, written_private_key, returned_private_key, written_split_key, returned_split_key, written_template}
+use Rattle.kmip_objects.specs.Objects.{returned_template, written_secret_data, returned_secret_data, written_opaque_object, returned_opaque_object}
+use Rattle.kmip_objects.specs.Templates.{returned_template_attribute, written_common_template_attribute, returned_common_template_attribute}
+use Rattle.kmip_objects.specs.Templates.{written_private_key_template_attribute, returned_private_key_template_attribute, written_public_key_template_attribute}
+use Rattle.kmip_objects.specs.Templates.{returned_public_key_template_attribute}
+use Rattle.kmip_headers.specs.Headers.{protocol_version_value}
 use Rattle.kmip_headers.proofs.Agreeing.{protocol_version_agrees}
-use Rattle.kmip_requests.specs.RequestPayloads.{create_request_form, written_create_request, read_create_request, returned_create_request}
-use Rattle.kmip_requests.specs.RequestPayloads.{create_key_pair_request_form, written_create_key_pair_request, read_create_key_pair_request}
-use Rattle.kmip_requests.specs.RequestPayloads.{returned_create_key_pair_request, register_request_form, written_register_request, read_register_request}
-use Rattle.kmip_requests.specs.RequestPayloads.{returned_register_request, maximum_items_form, maximum_items_value, storage_status_mask_form}
-use Rattle.kmip_requests.specs.RequestPayloads.{storage_status_mask_value, locate_request_form, written_locate_request, read_locate_request}
+use Rattle.kmip_requests.specs.RequestPayloads.{create_request_form, written_create_request, returned_create_request, create_key_pair_request_form}
+use Rattle.kmip_requests.specs.RequestPayloads.{written_create_key_pair_request, returned_create_key_pair_request, register_request_form}
+use Rattle.kmip_requests.specs.RequestPayloads.{written_register_request, returned_register_request, maximum_items_form, maximum_items_value}
+use Rattle.kmip_requests.specs.RequestPayloads.{storage_status_mask_form, storage_status_mask_value, locate_request_form, written_locate_request}
 use Rattle.kmip_requests.specs.RequestPayloads.{returned_locate_request, key_wrapping_specification_form, written_key_wrapping_specification}
-use Rattle.kmip_requests.specs.RequestPayloads.{read_key_wrapping_specification, returned_key_wrapping_specification, get_request_form, written_get_request}
-use Rattle.kmip_requests.specs.RequestPayloads.{read_get_request, returned_get_request, get_attributes_request_form, written_get_attributes_request}
-use Rattle.kmip_requests.specs.RequestPayloads.{read_get_attributes_request, attribute_request_form, written_attribute_request, read_attribute_request}
-use Rattle.kmip_requests.specs.RequestPayloads.{returned_attribute_request, delete_attribute_request_form, written_delete_attribute_request}
-use Rattle.kmip_requests.specs.RequestPayloads.{read_delete_attribute_request, object_request_form, written_object_request, read_object_request}
-use Rattle.kmip_requests.specs.RequestPayloads.{revocation_reason_given_form, written_revocation_reason_given, read_revocation_reason_given}
+use Rattle.kmip_requests.specs.RequestPayloads.{returned_key_wrapping_specification, get_request_form, written_get_request, returned_get_request}
+use Rattle.kmip_requests.specs.RequestPayloads.{get_attributes_request_form, written_get_attributes_request, read_get_attributes_request}
+use Rattle.kmip_requests.specs.RequestPayloads.{attribute_request_form, written_attribute_request, returned_attribute_request, delete_attribute_request_form}
+use Rattle.kmip_requests.specs.RequestPayloads.{written_delete_attribute_request, read_delete_attribute_request, object_request_form, written_object_request}
+use Rattle.kmip_requests.specs.RequestPayloads.{read_object_request, revocation_reason_given_form, written_revocation_reason_given}
 use Rattle.kmip_requests.specs.RequestPayloads.{returned_revocation_reason_given, compromise_occurrence_date_form, compromise_occurrence_date_value}
-use Rattle.kmip_requests.specs.RequestPayloads.{revoke_request_form, written_revoke_request, read_revoke_request, returned_revoke_request, query_function_form}
-use Rattle.kmip_requests.specs.RequestPayloads.{written_query_function, read_query_function, query_function_number, query_request_form, written_query_request}
-use Rattle.kmip_requests.specs.RequestPayloads.{read_query_request, returned_query_request, discover_versions_request_form, written_discover_versions_request}
-use Rattle.kmip_requests.specs.RequestPayloads.{read_discover_versions_request, request_payload_form, written_request_payload, read_request_payload}
-use Rattle.kmip_requests.specs.RequestPayloads.{returned_request_payload, ChoosesRequestPayload, ChoosesRequestPayloadNumber}
+use Rattle.kmip_requests.specs.RequestPayloads.{revoke_request_form, written_revoke_request, returned_revoke_request, query_function_form}
+use Rattle.kmip_requests.specs.RequestPayloads.{written_query_function, query_request_form, written_query_request, returned_query_request}
+use Rattle.kmip_requests.specs.RequestPayloads.{discover_versions_request_form, written_discover_versions_request, read_discover_versions_request}
+use Rattle.kmip_requests.specs.RequestPayloads.{request_payload_form, written_request_payload, returned_request_payload, ChoosesRequestPayload}
+use Rattle.kmip_requests.specs.RequestPayloads.{ChoosesRequestPayloadNumber}
 use Rattle.kmip_requests.specs.Soundness.{IsCreateRequest, IsCreateKeyPairRequest, IsRegisterRequest, IsMaximumItems, IsStorageStatusMask, IsLocateRequest}
 use Rattle.kmip_requests.specs.Soundness.{IsKeyWrappingSpecification, IsGetRequest, IsAttributeRequest, IsDeleteAttributeRequest, IsRevocationReasonGiven}
 use Rattle.kmip_requests.specs.Soundness.{IsCompromiseOccurrenceDate, IsRevokeRequest, IsQueryFunction, IsQueryRequest, IsDiscoverVersionsRequest}
 use Rattle.kmip_requests.specs.Soundness.{IsRequestPayload}
-use Rattle.kmip_requests.specs.declared.request_payload.CreateRequest.{CreateRequest}
-use Rattle.kmip_requests.specs.declared.request_payload.CreateKeyPairRequest.{CreateKeyPairRequest}
-use Rattle.kmip_requests.specs.declared.request_payload.RegisterRequest.{RegisterRequest}
-use Rattle.kmip_requests.specs.declared.request_payload.MaximumItems.{MaximumItems}
-use Rattle.kmip_requests.specs.declared.request_payload.StorageStatusMask.{StorageStatusMask}
-use Rattle.kmip_requests.specs.declared.request_payload.LocateRequest.{LocateRequest}
-use Rattle.kmip_requests.specs.declared.request_payload.KeyWrappingSpecification.{KeyWrappingSpecification}
-use Rattle.kmip_requests.specs.declared.request_payload.GetRequest.{GetRequest}
-use Rattle.kmip_requests.specs.declared.request_payload.GetAttributesRequest.{GetAttributesRequest}
-use Rattle.kmip_requests.specs.declared.request_payload.AttributeRequest.{AttributeRequest}
-use Rattle.kmip_requests.specs.declared.request_payload.DeleteAttributeRequest.{DeleteAttributeRequest}
-use Rattle.kmip_requests.specs.declared.request_payload.ObjectRequest.{ObjectRequest}
-use Rattle.kmip_requests.specs.declared.request_payload.RevocationReasonGiven.{RevocationReasonGiven}
-use Rattle.kmip_requests.specs.declared.request_payload.CompromiseOccurrenceDate.{CompromiseOccurrenceDate}
-use Rattle.kmip_requests.specs.declared.request_payload.RevokeRequest.{RevokeRequest}
-use Rattle.kmip_requests.specs.declared.request_payload.QueryFunction.{QueryFunction}
-use Rattle.kmip_requests.specs.declared.request_payload.QueryRequest.{QueryRequest}
-use Rattle.kmip_requests.specs.declared.request_payload.DiscoverVersionsRequest.{DiscoverVersionsRequest}
-use Rattle.kmip_requests.specs.declared.request_payload.RequestPayload.{RequestPayload}
+use Rattle.kmip_requests.specs.declared.request_payload.{CreateRequest.CreateRequest, CreateKeyPairRequest.CreateKeyPairRequest}
+use Rattle.kmip_requests.specs.declared.request_payload.{RegisterRequest.RegisterRequest, MaximumItems.MaximumItems, StorageStatusMask.StorageStatusMask}
+use Rattle.kmip_requests.specs.declared.request_payload.{LocateRequest.LocateRequest, KeyWrappingSpecification.KeyWrappingSpecification, GetRequest.GetRequest}
+use Rattle.kmip_requests.specs.declared.request_payload.{GetAttributesRequest.GetAttributesRequest, AttributeRequest.AttributeRequest}
+use Rattle.kmip_requests.specs.declared.request_payload.{DeleteAttributeRequest.DeleteAttributeRequest, ObjectRequest.ObjectRequest}
+use Rattle.kmip_requests.specs.declared.request_payload.{RevocationReasonGiven.RevocationReasonGiven, CompromiseOccurrenceDate.CompromiseOccurrenceDate}
+use Rattle.kmip_requests.specs.declared.request_payload.{RevokeRequest.RevokeRequest, QueryFunction.QueryFunction, QueryRequest.QueryRequest}
+use Rattle.kmip_requests.specs.declared.request_payload.{DiscoverVersionsRequest.DiscoverVersionsRequest, RequestPayload.RequestPayload}
 use Rattle.kmip_requests.specs.declared.request_payload.RequestPayload.TheVariants as request_payload
 
 pub create_request_agrees : {A : Type 0} (x : CreateRequest A) → IsCreateRequest x
     → PartAgrees create_request_form (written_create_request x) (a_structure 0x420079) (returned_create_request x)
 unfolding take_tag tag_of number transparent_name rule written_create_request returned_create_request written_object_type returned_template_attribute
 create_request_agrees x is =
-    structure refl refl (
-    part_then refl refl (object_type_agrees x.object_type is.0) (
+    structure refl refl (part_then refl refl (object_type_agrees x.object_type is.0) (
     part_then refl refl (template_attribute_agrees x.template_attribute is.1) nothing_left))
 
 pub create_key_pair_request_agrees : {A : Type 0} (x : CreateKeyPairRequest A) → IsCreateKeyPairRequest x
@@ -127,8 +98,7 @@ register_request_agrees x is =
     let b5 = option_behind x.private_key (a_structure 0x420064) b4 in
     let b6 = option_behind x.public_key (a_structure 0x42006D) b5 in
     let b7 = option_behind x.symmetric_key (a_structure 0x42008F) b6 in
-    structure refl refl (
-    part_then refl refl (object_type_agrees x.object_type is.0) (
+    structure refl refl (part_then refl refl (object_type_agrees x.object_type is.0) (
     part_then refl refl (template_attribute_agrees x.template_attribute is.1) (
     optional_then written_certificate returned_certificate (a_structure 0x420013) x.certificate refl (b7.other (codes "0x420013") refl)
     (if_present certificate_agrees (λ y. refl) x.certificate is.2) (
@@ -148,27 +118,25 @@ register_request_agrees x is =
     (if_present opaque_object_agrees (λ y. refl) x.opaque_object is.9) nothing_left))))))))))
 
 pub maximum_items_agrees : (x : MaximumItems) → IsMaximumItems x
-    → PartAgrees maximum_items_form (maximum_items_value x) record { tag = 0x42004F; typ = types.Integer } (maximum_items_value x)
+    → PartAgrees maximum_items_form (maximum_items_value x) (an_integer 0x42004F) (maximum_items_value x)
 unfolding take_tag tag_of number transparent_name
-maximum_items_agrees x is =
-    leaf_part refl refl (as_int32 is)
+maximum_items_agrees x is = leaf_part refl refl (as_int32 is)
 
 pub storage_status_mask_agrees : (x : StorageStatusMask) → IsStorageStatusMask x
-    → PartAgrees storage_status_mask_form (storage_status_mask_value x) record { tag = 0x42008E; typ = types.Integer } (storage_status_mask_value x)
+    → PartAgrees storage_status_mask_form (storage_status_mask_value x) (an_integer 0x42008E) (storage_status_mask_value x)
 unfolding take_tag tag_of number transparent_name
-storage_status_mask_agrees x is =
-    leaf_part refl refl (as_int32 is)
+storage_status_mask_agrees x is = leaf_part refl refl (as_int32 is)
 
 pub locate_request_agrees : {A : Type 0} (x : LocateRequest A) → IsLocateRequest x
     → PartAgrees locate_request_form (written_locate_request x) (a_structure 0x420079) (returned_locate_request x)
 unfolding take_tag tag_of number transparent_name rule written_locate_request returned_locate_request returned_attribute
 locate_request_agrees x is =
     let b1 = option_behind (first_of x.attributes.items) (a_structure 0x420008) nothing_behind in
-    let b2 = option_behind x.storage_status_mask record { tag = 0x42008E; typ = types.Integer } b1 in
+    let b2 = option_behind x.storage_status_mask (an_integer 0x42008E) b1 in
     structure refl refl (
-    optional_same_then maximum_items_value record { tag = 0x42004F; typ = types.Integer } x.maximum_items refl (b2.other (codes "0x42004F") refl)
+    optional_same_then maximum_items_value (an_integer 0x42004F) x.maximum_items refl (b2.other (codes "0x42004F") refl)
     (if_present maximum_items_agrees (λ y. refl) x.maximum_items is.0) (
-    optional_same_then storage_status_mask_value record { tag = 0x42008E; typ = types.Integer } x.storage_status_mask refl (b1.other (codes "0x42008E") refl)
+    optional_same_then storage_status_mask_value (an_integer 0x42008E) x.storage_status_mask refl (b1.other (codes "0x42008E") refl)
     (if_present storage_status_mask_agrees (λ y. refl) x.storage_status_mask is.1) (
     any_then written_attribute returned_attribute (a_structure 0x420008) x.attributes.items refl refl
     (every_agrees attribute_agrees (λ y. refl) x.attributes.items is.2) nothing_left)))
@@ -178,18 +146,17 @@ pub key_wrapping_specification_agrees : {A : Type 0} (x : KeyWrappingSpecificati
 unfolding take_tag tag_of number transparent_name rule written_key_wrapping_specification returned_key_wrapping_specification written_wrapping_method
     returned_encryption_key_information returned_mac_signature_key_information written_encoding_option
 key_wrapping_specification_agrees x is =
-    let b1 = option_behind x.encoding_option record { tag = 0x4200A3; typ = types.Enumeration } nothing_behind in
-    let b2 = option_behind (first_of x.attribute_names.items) record { tag = 0x42000A; typ = types.TextString } b1 in
+    let b1 = option_behind x.encoding_option (an_enumeration 0x4200A3) nothing_behind in
+    let b2 = option_behind (first_of x.attribute_names.items) (a_text_string 0x42000A) b1 in
     let b3 = option_behind x.mac_signature_key_information (a_structure 0x42004E) b2 in
-    structure refl refl (
-    part_then refl refl (wrapping_method_agrees x.wrapping_method is.0) (
+    structure refl refl (part_then refl refl (wrapping_method_agrees x.wrapping_method is.0) (
     optional_then written_encryption_key_information returned_encryption_key_information (a_structure 0x420036) x.encryption_key_information refl
     (b3.other (codes "0x420036") refl) (if_present encryption_key_information_agrees (λ y. refl) x.encryption_key_information is.1) (
     optional_then written_mac_signature_key_information returned_mac_signature_key_information (a_structure 0x42004E) x.mac_signature_key_information refl
     (b2.other (codes "0x42004E") refl) (if_present mac_signature_key_information_agrees (λ y. refl) x.mac_signature_key_information is.2) (
-    any_then attribute_name_value attribute_name_value record { tag = 0x42000A; typ = types.TextString } x.attribute_names.items refl
-    (b1.other (codes "0x42000A") refl) (all_agree attribute_name_agrees (λ y. refl) x.attribute_names.items) (
-    optional_same_then written_encoding_option record { tag = 0x4200A3; typ = types.Enumeration } x.encoding_option refl refl
+    any_then attribute_name_value attribute_name_value (a_text_string 0x42000A) x.attribute_names.items refl (b1.other (codes "0x42000A") refl)
+    (all_agree attribute_name_agrees (λ y. refl) x.attribute_names.items) (
+    optional_same_then written_encoding_option (an_enumeration 0x4200A3) x.encoding_option refl refl
     (if_present encoding_option_agrees (λ y. refl) x.encoding_option is.3) nothing_left)))))
 
 pub get_request_agrees : {A : Type 0} (x : GetRequest A) → IsGetRequest x
@@ -198,16 +165,15 @@ unfolding take_tag tag_of number transparent_name rule written_get_request retur
     returned_key_wrapping_specification
 get_request_agrees x is =
     let b1 = option_behind x.key_wrapping_specification (a_structure 0x420047) nothing_behind in
-    let b2 = option_behind x.key_compression_type record { tag = 0x420041; typ = types.Enumeration } b1 in
-    let b3 = option_behind x.key_format_type record { tag = 0x420042; typ = types.Enumeration } b2 in
+    let b2 = option_behind x.key_compression_type (an_enumeration 0x420041) b1 in
+    let b3 = option_behind x.key_format_type (an_enumeration 0x420042) b2 in
     structure refl refl (
-    optional_same_then (λ y. newtype_value (codes "Transparent:0x420094") (text_value (string_bytes y))) record { tag = 0x420094; typ = types.TextString }
-    x.unique_identifier refl (b3.other (codes "0x420094") refl)
-    (present (λ y. leaf_part refl refl (as_text (text_is_utf8 y))) (λ y. refl) x.unique_identifier) (
-    optional_same_then written_key_format_type record { tag = 0x420042; typ = types.Enumeration } x.key_format_type refl (b2.other (codes "0x420042") refl)
+    optional_same_then (λ y. newtype_value (codes "Transparent:0x420094") (text_value (string_bytes y))) (a_text_string 0x420094) x.unique_identifier refl
+    (b3.other (codes "0x420094") refl) (present (λ y. leaf_part refl refl (as_text (text_is_utf8 y))) (λ y. refl) x.unique_identifier) (
+    optional_same_then written_key_format_type (an_enumeration 0x420042) x.key_format_type refl (b2.other (codes "0x420042") refl)
     (if_present key_format_type_agrees (λ y. refl) x.key_format_type is.0) (
-    optional_same_then written_key_compression_type record { tag = 0x420041; typ = types.Enumeration } x.key_compression_type refl
-    (b1.other (codes "0x420041") refl) (if_present key_compression_type_agrees (λ y. refl) x.key_compression_type is.1) (
+    optional_same_then written_key_compression_type (an_enumeration 0x420041) x.key_compression_type refl (b1.other (codes "0x420041") refl)
+    (if_present key_compression_type_agrees (λ y. refl) x.key_compression_type is.1) (
     optional_then written_key_wrapping_specification returned_key_wrapping_specification (a_structure 0x420047) x.key_wrapping_specification refl refl
     (if_present key_wrapping_specification_agrees (λ y. refl) x.key_wrapping_specification is.2) nothing_left))))
 
@@ -215,12 +181,11 @@ pub get_attributes_request_agrees : {A : Type 0} (x : GetAttributesRequest A)
     → PartAgrees get_attributes_request_form (written_get_attributes_request x) (a_structure 0x420079) (read_get_attributes_request x)
 unfolding take_tag tag_of number transparent_name rule written_get_attributes_request read_get_attributes_request
 get_attributes_request_agrees x =
-    let b1 = option_behind (first_of x.attribute_names.items) record { tag = 0x42000A; typ = types.TextString } nothing_behind in
+    let b1 = option_behind (first_of x.attribute_names.items) (a_text_string 0x42000A) nothing_behind in
     structure refl refl (
-    optional_same_then (λ y. newtype_value (codes "Transparent:0x420094") (text_value (string_bytes y))) record { tag = 0x420094; typ = types.TextString }
-    x.unique_identifier refl (b1.other (codes "0x420094") refl)
-    (present (λ y. leaf_part refl refl (as_text (text_is_utf8 y))) (λ y. refl) x.unique_identifier) (
-    any_then attribute_name_value attribute_name_value record { tag = 0x42000A; typ = types.TextString } x.attribute_names.items refl refl
+    optional_same_then (λ y. newtype_value (codes "Transparent:0x420094") (text_value (string_bytes y))) (a_text_string 0x420094) x.unique_identifier refl
+    (b1.other (codes "0x420094") refl) (present (λ y. leaf_part refl refl (as_text (text_is_utf8 y))) (λ y. refl) x.unique_identifier) (
+    any_then attribute_name_value attribute_name_value (a_text_string 0x42000A) x.attribute_names.items refl refl
     (all_agree attribute_name_agrees (λ y. refl) x.attribute_names.items) nothing_left))
 
 pub attribute_request_agrees : {A : Type 0} (x : AttributeRequest A) → IsAttributeRequest x
@@ -228,8 +193,8 @@ pub attribute_request_agrees : {A : Type 0} (x : AttributeRequest A) → IsAttri
 unfolding take_tag tag_of number transparent_name rule written_attribute_request returned_attribute_request returned_attribute
 attribute_request_agrees x is =
     structure refl refl (
-    optional_same_then (λ y. newtype_value (codes "Transparent:0x420094") (text_value (string_bytes y))) record { tag = 0x420094; typ = types.TextString }
-    x.unique_identifier refl refl (present (λ y. leaf_part refl refl (as_text (text_is_utf8 y))) (λ y. refl) x.unique_identifier) (
+    optional_same_then (λ y. newtype_value (codes "Transparent:0x420094") (text_value (string_bytes y))) (a_text_string 0x420094) x.unique_identifier refl refl
+    (present (λ y. leaf_part refl refl (as_text (text_is_utf8 y))) (λ y. refl) x.unique_identifier) (
     part_then refl refl (attribute_agrees x.attribute is) nothing_left))
 
 pub delete_attribute_request_agrees : {A : Type 0} (x : DeleteAttributeRequest A) → IsDeleteAttributeRequest x
@@ -237,10 +202,10 @@ pub delete_attribute_request_agrees : {A : Type 0} (x : DeleteAttributeRequest A
 unfolding take_tag tag_of number transparent_name rule written_delete_attribute_request read_delete_attribute_request
 delete_attribute_request_agrees x is =
     structure refl refl (
-    optional_same_then (λ y. newtype_value (codes "Transparent:0x420094") (text_value (string_bytes y))) record { tag = 0x420094; typ = types.TextString }
-    x.unique_identifier refl refl (present (λ y. leaf_part refl refl (as_text (text_is_utf8 y))) (λ y. refl) x.unique_identifier) (
+    optional_same_then (λ y. newtype_value (codes "Transparent:0x420094") (text_value (string_bytes y))) (a_text_string 0x420094) x.unique_identifier refl refl
+    (present (λ y. leaf_part refl refl (as_text (text_is_utf8 y))) (λ y. refl) x.unique_identifier) (
     leaf_then refl refl refl refl (as_text (text_is_utf8 x.attribute_name)) (
-    optional_same_then attribute_index_value record { tag = 0x420009; typ = types.Integer } x.attribute_index refl refl
+    optional_same_then attribute_index_value (an_integer 0x420009) x.attribute_index refl refl
     (if_present attribute_index_agrees (λ y. refl) x.attribute_index is) nothing_left)))
 
 pub object_request_agrees : {A : Type 0} (x : ObjectRequest A)
@@ -248,38 +213,35 @@ pub object_request_agrees : {A : Type 0} (x : ObjectRequest A)
 unfolding take_tag tag_of number transparent_name rule written_object_request read_object_request
 object_request_agrees x =
     structure refl refl (
-    optional_same_then (λ y. newtype_value (codes "Transparent:0x420094") (text_value (string_bytes y))) record { tag = 0x420094; typ = types.TextString }
-    x.unique_identifier refl refl (present (λ y. leaf_part refl refl (as_text (text_is_utf8 y))) (λ y. refl) x.unique_identifier) nothing_left)
+    optional_same_then (λ y. newtype_value (codes "Transparent:0x420094") (text_value (string_bytes y))) (a_text_string 0x420094) x.unique_identifier refl refl
+    (present (λ y. leaf_part refl refl (as_text (text_is_utf8 y))) (λ y. refl) x.unique_identifier) nothing_left)
 
 pub revocation_reason_given_agrees : {A : Type 0} (x : RevocationReasonGiven A) → IsRevocationReasonGiven x
     → PartAgrees revocation_reason_given_form (written_revocation_reason_given x) (a_structure 0x420081) (returned_revocation_reason_given x)
 unfolding take_tag tag_of number transparent_name rule written_revocation_reason_given returned_revocation_reason_given written_revocation_reason_code
 revocation_reason_given_agrees x is =
-    structure refl refl (
-    part_then refl refl (revocation_reason_code_agrees x.code is) (
-    optional_same_then (λ y. newtype_value (codes "Transparent:0x420080") (text_value (string_bytes y))) record { tag = 0x420080; typ = types.TextString }
-    x.message refl refl (present (λ y. leaf_part refl refl (as_text (text_is_utf8 y))) (λ y. refl) x.message) nothing_left))
+    structure refl refl (part_then refl refl (revocation_reason_code_agrees x.code is) (
+    optional_same_then (λ y. newtype_value (codes "Transparent:0x420080") (text_value (string_bytes y))) (a_text_string 0x420080) x.message refl refl
+    (present (λ y. leaf_part refl refl (as_text (text_is_utf8 y))) (λ y. refl) x.message) nothing_left))
 
 pub compromise_occurrence_date_agrees : (x : CompromiseOccurrenceDate) → IsCompromiseOccurrenceDate x
-    → PartAgrees compromise_occurrence_date_form (compromise_occurrence_date_value x) record { tag = 0x420021; typ = types.DateTime }
-    (compromise_occurrence_date_value x)
+    → PartAgrees compromise_occurrence_date_form (compromise_occurrence_date_value x) (a_date_time 0x420021) (compromise_occurrence_date_value x)
 unfolding take_tag tag_of number transparent_name
-compromise_occurrence_date_agrees x is =
-    leaf_part refl refl (as_date_time is)
+compromise_occurrence_date_agrees x is = leaf_part refl refl (as_date_time is)
 
 pub revoke_request_agrees : {A : Type 0} (x : RevokeRequest A) → IsRevokeRequest x
     → PartAgrees revoke_request_form (written_revoke_request x) (a_structure 0x420079) (returned_revoke_request x)
 unfolding take_tag tag_of number transparent_name rule written_revoke_request returned_revoke_request returned_revocation_reason_given
 revoke_request_agrees x is =
     structure refl refl (
-    optional_same_then (λ y. newtype_value (codes "Transparent:0x420094") (text_value (string_bytes y))) record { tag = 0x420094; typ = types.TextString }
-    x.unique_identifier refl refl (present (λ y. leaf_part refl refl (as_text (text_is_utf8 y))) (λ y. refl) x.unique_identifier) (
+    optional_same_then (λ y. newtype_value (codes "Transparent:0x420094") (text_value (string_bytes y))) (a_text_string 0x420094) x.unique_identifier refl refl
+    (present (λ y. leaf_part refl refl (as_text (text_is_utf8 y))) (λ y. refl) x.unique_identifier) (
     part_then refl refl (revocation_reason_given_agrees x.revocation_reason is.0) (
-    optional_same_then compromise_occurrence_date_value record { tag = 0x420021; typ = types.DateTime } x.compromise_occurrence_date refl refl
+    optional_same_then compromise_occurrence_date_value (a_date_time 0x420021) x.compromise_occurrence_date refl refl
     (if_present compromise_occurrence_date_agrees (λ y. refl) x.compromise_occurrence_date is.1) nothing_left)))
 
 pub query_function_agrees : (x : QueryFunction) → IsQueryFunction x
-    → PartAgrees query_function_form (written_query_function x) record { tag = 0x420074; typ = types.Enumeration } (written_query_function x)
+    → PartAgrees query_function_form (written_query_function x) (an_enumeration 0x420074) (written_query_function x)
 unfolding take_tag tag_of number transparent_name written_query_function
 query_function_agrees x is = leaf_part refl refl (as_number is)
 
@@ -288,7 +250,7 @@ pub query_request_agrees : {A : Type 0} (x : QueryRequest A) → IsQueryRequest 
 unfolding take_tag tag_of number transparent_name rule written_query_request returned_query_request written_query_function
 query_request_agrees x is =
     structure refl refl (
-    several_then written_query_function written_query_function record { tag = 0x420074; typ = types.Enumeration } x.functions.items refl refl is.0
+    several_then written_query_function written_query_function (an_enumeration 0x420074) x.functions.items refl refl is.0
     (every_agrees query_function_agrees (λ y. refl) x.functions.items is.1) nothing_left)
 
 pub discover_versions_request_agrees : {A : Type 0} (x : DiscoverVersionsRequest A) → IsDiscoverVersionsRequest x

@@ -8,26 +8,15 @@ use Rattle.kmip_ttlv.specs.Values.{value}
 use Rattle.kmip_ttlv.specs.Visits.{joined}
 use Rattle.std.specs.Prelude.{List, None, Option, Some, [], codes, option_map, string_bytes, true, ℕ, ◌+◌, ◌∷◌, ◌≡◌}
 use Rattle.kmip_ttlv.specs.Visits as visits
-use Rattle.kmip_requests.specs.declared.request_payload.CreateRequest.{CreateRequest}
-use Rattle.kmip_requests.specs.declared.request_payload.CreateKeyPairRequest.{CreateKeyPairRequest}
-use Rattle.kmip_requests.specs.declared.request_payload.RegisterRequest.{RegisterRequest}
-use Rattle.kmip_requests.specs.declared.request_payload.MaximumItems.{MaximumItems}
-use Rattle.kmip_requests.specs.declared.request_payload.StorageStatusMask.{StorageStatusMask}
-use Rattle.kmip_requests.specs.declared.request_payload.LocateRequest.{LocateRequest}
-use Rattle.kmip_requests.specs.declared.request_payload.KeyWrappingSpecification.{KeyWrappingSpecification}
-use Rattle.kmip_requests.specs.declared.request_payload.GetRequest.{GetRequest}
-use Rattle.kmip_requests.specs.declared.request_payload.GetAttributesRequest.{GetAttributesRequest}
-use Rattle.kmip_requests.specs.declared.request_payload.AttributeRequest.{AttributeRequest}
-use Rattle.kmip_requests.specs.declared.request_payload.DeleteAttributeRequest.{DeleteAttributeRequest}
-use Rattle.kmip_requests.specs.declared.request_payload.ObjectRequest.{ObjectRequest}
-use Rattle.kmip_requests.specs.declared.request_payload.RevocationReasonGiven.{RevocationReasonGiven}
-use Rattle.kmip_requests.specs.declared.request_payload.CompromiseOccurrenceDate.{CompromiseOccurrenceDate}
-use Rattle.kmip_requests.specs.declared.request_payload.RevokeRequest.{RevokeRequest}
-use Rattle.kmip_requests.specs.declared.request_payload.QueryFunction.{QueryFunction}
+use Rattle.kmip_requests.specs.declared.request_payload.{CreateRequest.CreateRequest, CreateKeyPairRequest.CreateKeyPairRequest}
+use Rattle.kmip_requests.specs.declared.request_payload.{RegisterRequest.RegisterRequest, MaximumItems.MaximumItems, StorageStatusMask.StorageStatusMask}
+use Rattle.kmip_requests.specs.declared.request_payload.{LocateRequest.LocateRequest, KeyWrappingSpecification.KeyWrappingSpecification, GetRequest.GetRequest}
+use Rattle.kmip_requests.specs.declared.request_payload.{GetAttributesRequest.GetAttributesRequest, AttributeRequest.AttributeRequest}
+use Rattle.kmip_requests.specs.declared.request_payload.{DeleteAttributeRequest.DeleteAttributeRequest, ObjectRequest.ObjectRequest}
+use Rattle.kmip_requests.specs.declared.request_payload.{RevocationReasonGiven.RevocationReasonGiven, CompromiseOccurrenceDate.CompromiseOccurrenceDate}
+use Rattle.kmip_requests.specs.declared.request_payload.{RevokeRequest.RevokeRequest, QueryFunction.QueryFunction, QueryRequest.QueryRequest}
+use Rattle.kmip_requests.specs.declared.request_payload.{DiscoverVersionsRequest.DiscoverVersionsRequest, RequestPayload.RequestPayload}
 use Rattle.kmip_requests.specs.declared.request_payload.QueryFunction.TheVariants as query_function
-use Rattle.kmip_requests.specs.declared.request_payload.QueryRequest.{QueryRequest}
-use Rattle.kmip_requests.specs.declared.request_payload.DiscoverVersionsRequest.{DiscoverVersionsRequest}
-use Rattle.kmip_requests.specs.declared.request_payload.RequestPayload.{RequestPayload}
 use Rattle.kmip_requests.specs.declared.request_payload.RequestPayload.TheVariants as request_payload
 use Rattle.kmip_objects.specs.declared.object.ManagedObject.{ManagedObject}
 use Rattle.kmip_objects.specs.declared.object.ManagedObject.TheVariants as managed_object

@@ -3,23 +3,13 @@
 use Rattle.kmip_ttlv.specs.MessageParts.{there}
 use Rattle.std.specs.Int.{w32, w64}
 use Rattle.std.specs.Prelude.{All, FitsSigned, IfSome, length, ◌+◌, ◌<◌, ◌^◌, ◌≡◌}
-use Rattle.kmip_requests.specs.declared.request_payload.CreateRequest.{CreateRequest}
-use Rattle.kmip_requests.specs.declared.request_payload.CreateKeyPairRequest.{CreateKeyPairRequest}
-use Rattle.kmip_requests.specs.declared.request_payload.RegisterRequest.{RegisterRequest}
-use Rattle.kmip_requests.specs.declared.request_payload.MaximumItems.{MaximumItems}
-use Rattle.kmip_requests.specs.declared.request_payload.StorageStatusMask.{StorageStatusMask}
-use Rattle.kmip_requests.specs.declared.request_payload.LocateRequest.{LocateRequest}
-use Rattle.kmip_requests.specs.declared.request_payload.KeyWrappingSpecification.{KeyWrappingSpecification}
-use Rattle.kmip_requests.specs.declared.request_payload.GetRequest.{GetRequest}
-use Rattle.kmip_requests.specs.declared.request_payload.AttributeRequest.{AttributeRequest}
-use Rattle.kmip_requests.specs.declared.request_payload.DeleteAttributeRequest.{DeleteAttributeRequest}
-use Rattle.kmip_requests.specs.declared.request_payload.RevocationReasonGiven.{RevocationReasonGiven}
-use Rattle.kmip_requests.specs.declared.request_payload.CompromiseOccurrenceDate.{CompromiseOccurrenceDate}
-use Rattle.kmip_requests.specs.declared.request_payload.RevokeRequest.{RevokeRequest}
-use Rattle.kmip_requests.specs.declared.request_payload.QueryFunction.{QueryFunction}
-use Rattle.kmip_requests.specs.declared.request_payload.QueryRequest.{QueryRequest}
-use Rattle.kmip_requests.specs.declared.request_payload.DiscoverVersionsRequest.{DiscoverVersionsRequest}
-use Rattle.kmip_requests.specs.declared.request_payload.RequestPayload.{RequestPayload}
+use Rattle.kmip_requests.specs.declared.request_payload.{CreateRequest.CreateRequest, CreateKeyPairRequest.CreateKeyPairRequest}
+use Rattle.kmip_requests.specs.declared.request_payload.{RegisterRequest.RegisterRequest, MaximumItems.MaximumItems, StorageStatusMask.StorageStatusMask}
+use Rattle.kmip_requests.specs.declared.request_payload.{LocateRequest.LocateRequest, KeyWrappingSpecification.KeyWrappingSpecification, GetRequest.GetRequest}
+use Rattle.kmip_requests.specs.declared.request_payload.{AttributeRequest.AttributeRequest, DeleteAttributeRequest.DeleteAttributeRequest}
+use Rattle.kmip_requests.specs.declared.request_payload.{RevocationReasonGiven.RevocationReasonGiven, CompromiseOccurrenceDate.CompromiseOccurrenceDate}
+use Rattle.kmip_requests.specs.declared.request_payload.{RevokeRequest.RevokeRequest, QueryFunction.QueryFunction, QueryRequest.QueryRequest}
+use Rattle.kmip_requests.specs.declared.request_payload.{DiscoverVersionsRequest.DiscoverVersionsRequest, RequestPayload.RequestPayload}
 use Rattle.kmip_requests.specs.declared.request_payload.RequestPayload.TheVariants as request_payload
 use Rattle.kmip_requests.specs.RequestPayloads.{query_function_number}
 use Rattle.kmip_attributes.specs.Soundness.{IsObjectType, IsAttribute, IsKeyFormatType, IsAttributeIndex, IsRevocationReasonCode}

@@ -6,74 +6,55 @@ use Rattle.kmip_ttlv.specs.Returns.{as_text, text_of_number}
 use Rattle.kmip_ttlv.specs.Rules.{at_least, equal, in_brackets, member, rule, sides}
 use Rattle.kmip_ttlv.specs.Values.{newtype_value, text_value}
 use Rattle.kmip_ttlv.specs.WrittenItems.{is_wrapper, pending_after, take_tag}
-use Rattle.kmip_ttlv_laws.proofs.MessageParts.{PartAgrees, a_structure, all_agree, any_then, every_agrees, first_of, if_present, leaf_part, leaf_then}
-use Rattle.kmip_ttlv_laws.proofs.MessageParts.{nothing_behind, nothing_left, option_behind, optional_same_then, optional_then, part_then, present, structure}
-use Rattle.kmip_ttlv_laws.proofs.MessageParts.{text_is_utf8}
+use Rattle.kmip_ttlv_laws.proofs.MessageParts.{PartAgrees, a_structure, a_text_string, all_agree, an_enumeration, any_then, every_agrees, first_of, if_present}
+use Rattle.kmip_ttlv_laws.proofs.MessageParts.{leaf_part, leaf_then, nothing_behind, nothing_left, option_behind, optional_same_then, optional_then, part_then}
+use Rattle.kmip_ttlv_laws.proofs.MessageParts.{present, structure, text_is_utf8}
 use Rattle.kmip_ttlv_laws.proofs.MessageRules.{PartAfter, chosen_after}
 use Rattle.std.proofs.Common.{ap, refl, ◌∙◌}
 use Rattle.std.specs.Prelude.{List, Some, codes, false, string_bytes, ℕ, ◌≡◌}
 use Rattle.std.specs.Str.{chars, trim_end, trim_start}
 use lib.Utf8.{encode}
-use Rattle.kmip_ttlv.specs.declared.types.TtlvType.{TtlvType}
 use Rattle.kmip_ttlv.specs.declared.types.TtlvType.TheVariants as types
-use Rattle.kmip_attributes.specs.Values.{object_type_form, written_object_type, read_object_type, object_type_number}
+use Rattle.kmip_attributes.specs.Values.{written_object_type}
 use Rattle.kmip_attributes.proofs.Agreeing.{object_type_agrees, attribute_name_agrees, attribute_agrees}
-use Rattle.kmip_attributes.specs.Attributes.{attribute_name_form, attribute_name_value, attribute_form, written_attribute, read_attribute, returned_attribute}
-use Rattle.kmip_attributes.specs.declared.attribute.AttributeName.{AttributeName}
-use Rattle.kmip_objects.specs.Keys.{unique_identifier_form, unique_identifier_value}
+use Rattle.kmip_attributes.specs.Attributes.{attribute_name_value, written_attribute, returned_attribute}
+use Rattle.kmip_objects.specs.Keys.{unique_identifier_value}
 use Rattle.kmip_objects.proofs.Agreeing.{unique_identifier_agrees, certificate_agrees, symmetric_key_agrees, public_key_agrees, private_key_agrees}
 use Rattle.kmip_objects.proofs.Agreeing.{split_key_agrees, template_agrees, secret_data_agrees, opaque_object_agrees, template_attribute_agrees}
 use Rattle.kmip_objects.proofs.Agreeing.{private_key_template_attribute_agrees, public_key_template_attribute_agrees}
-use Rattle.kmip_objects.specs.declared.key.UniqueIdentifier.{UniqueIdentifier}
-use Rattle.kmip_objects.specs.Objects.{certificate_form, written_certificate, read_certificate, returned_certificate, symmetric_key_form, written_symmetric_key}
-use Rattle.kmip_objects.specs.Objects.{read_symmetric_key, returned_symmetric_key, public_key_form, written_public_key, read_public_key, returned_public_key}
-use Rattle.kmip_objects.specs.Objects.{private_key_form, written_private_key, read_private_key, returned_private_key, split_key_form, written_split_key}
-use Rattle.kmip_objects.specs.Objects.{read_split_key, returned_split_key, template_form, written_template, read_template, returned_template, secret_data_form}
-use Rattle.kmip_objects.specs.Objects.{written_secret_data, read_secret_data, returned_secret_data, opaque_object_form, written_opaque_object}
-use Rattle.kmip_objects.specs.Objects.{read_opaque_object, returned_opaque_object}
-use Rattle.kmip_objects.specs.Templates.{template_attribute_form, written_template_attribute, read_template_attribute, returned_template_attribute}
-use Rattle.kmip_objects.specs.Templates.{private_key_template_attribute_form, written_private_key_template_attribute, read_private_key_template_attribute}
-use Rattle.kmip_objects.specs.Templates.{returned_private_key_template_attribute, public_key_template_attribute_form, written_public_key_template_attribute}
-use Rattle.kmip_objects.specs.Templates.{read_public_key_template_attribute, returned_public_key_template_attribute}
-use Rattle.kmip_headers.specs.Headers.{protocol_version_form, protocol_version_value, operation_form, written_operation, read_operation, operation_number}
+use Rattle.kmip_objects.specs.Objects.{written_certificate, returned_certificate, written_symmetric_key, returned_symmetric_key, written_public_key}
+use Rattle.kmip_objects.specs.Objects.{returned_public_key, written_private_key, returned_private_key, written_split_key, returned_split_key, written_template}
+use Rattle.kmip_objects.specs.Objects.{returned_template, written_secret_data, returned_secret_data, written_opaque_object, returned_opaque_object}
+use Rattle.kmip_objects.specs.Templates.{written_template_attribute, returned_template_attribute, written_private_key_template_attribute}
+use Rattle.kmip_objects.specs.Templates.{returned_private_key_template_attribute, written_public_key_template_attribute, returned_public_key_template_attribute}
+use Rattle.kmip_headers.specs.Headers.{protocol_version_value, written_operation}
 use Rattle.kmip_headers.proofs.Agreeing.{protocol_version_agrees, operation_agrees}
-use Rattle.kmip_responses.specs.ResponsePayloads.{create_response_form, written_create_response, read_create_response, returned_create_response}
-use Rattle.kmip_responses.specs.ResponsePayloads.{create_key_pair_response_form, written_create_key_pair_response, read_create_key_pair_response}
-use Rattle.kmip_responses.specs.ResponsePayloads.{returned_create_key_pair_response, register_response_form, written_register_response, read_register_response}
-use Rattle.kmip_responses.specs.ResponsePayloads.{returned_register_response, locate_response_form, written_locate_response, read_locate_response}
-use Rattle.kmip_responses.specs.ResponsePayloads.{get_response_form, written_get_response, read_get_response, returned_get_response}
-use Rattle.kmip_responses.specs.ResponsePayloads.{get_attributes_response_form, written_get_attributes_response, read_get_attributes_response}
-use Rattle.kmip_responses.specs.ResponsePayloads.{returned_get_attributes_response, get_attribute_list_response_form, written_get_attribute_list_response}
-use Rattle.kmip_responses.specs.ResponsePayloads.{read_get_attribute_list_response, attribute_response_form, written_attribute_response}
-use Rattle.kmip_responses.specs.ResponsePayloads.{read_attribute_response, returned_attribute_response, object_response_form, object_response_value}
-use Rattle.kmip_responses.specs.ResponsePayloads.{application_namespace_form, application_namespace_value, query_response_form, written_query_response}
-use Rattle.kmip_responses.specs.ResponsePayloads.{read_query_response, returned_query_response, discover_versions_response_form}
+use Rattle.kmip_responses.specs.ResponsePayloads.{create_response_form, written_create_response, returned_create_response, create_key_pair_response_form}
+use Rattle.kmip_responses.specs.ResponsePayloads.{written_create_key_pair_response, returned_create_key_pair_response, register_response_form}
+use Rattle.kmip_responses.specs.ResponsePayloads.{written_register_response, returned_register_response, locate_response_form, written_locate_response}
+use Rattle.kmip_responses.specs.ResponsePayloads.{read_locate_response, get_response_form, written_get_response, returned_get_response}
+use Rattle.kmip_responses.specs.ResponsePayloads.{get_attributes_response_form, written_get_attributes_response, returned_get_attributes_response}
+use Rattle.kmip_responses.specs.ResponsePayloads.{get_attribute_list_response_form, written_get_attribute_list_response, read_get_attribute_list_response}
+use Rattle.kmip_responses.specs.ResponsePayloads.{attribute_response_form, written_attribute_response, returned_attribute_response, object_response_form}
+use Rattle.kmip_responses.specs.ResponsePayloads.{object_response_value, application_namespace_form, application_namespace_value, query_response_form}
+use Rattle.kmip_responses.specs.ResponsePayloads.{written_query_response, returned_query_response, discover_versions_response_form}
 use Rattle.kmip_responses.specs.ResponsePayloads.{written_discover_versions_response, read_discover_versions_response, response_payload_form}
-use Rattle.kmip_responses.specs.ResponsePayloads.{written_response_payload, read_response_payload, returned_response_payload, ChoosesResponsePayload}
-use Rattle.kmip_responses.specs.ResponsePayloads.{ChoosesResponsePayloadNumber}
+use Rattle.kmip_responses.specs.ResponsePayloads.{written_response_payload, returned_response_payload, ChoosesResponsePayload, ChoosesResponsePayloadNumber}
 use Rattle.kmip_responses.specs.Soundness.{IsCreateResponse, IsCreateKeyPairResponse, IsRegisterResponse, IsGetResponse, IsGetAttributesResponse}
 use Rattle.kmip_responses.specs.Soundness.{IsAttributeResponse, IsQueryResponse, IsDiscoverVersionsResponse, IsResponsePayload}
-use Rattle.kmip_responses.specs.declared.response_payload.CreateResponse.{CreateResponse}
-use Rattle.kmip_responses.specs.declared.response_payload.CreateKeyPairResponse.{CreateKeyPairResponse}
-use Rattle.kmip_responses.specs.declared.response_payload.RegisterResponse.{RegisterResponse}
-use Rattle.kmip_responses.specs.declared.response_payload.LocateResponse.{LocateResponse}
-use Rattle.kmip_responses.specs.declared.response_payload.GetResponse.{GetResponse}
-use Rattle.kmip_responses.specs.declared.response_payload.GetAttributesResponse.{GetAttributesResponse}
-use Rattle.kmip_responses.specs.declared.response_payload.GetAttributeListResponse.{GetAttributeListResponse}
-use Rattle.kmip_responses.specs.declared.response_payload.AttributeResponse.{AttributeResponse}
-use Rattle.kmip_responses.specs.declared.response_payload.ObjectResponse.{ObjectResponse}
-use Rattle.kmip_responses.specs.declared.response_payload.ApplicationNamespace.{ApplicationNamespace}
-use Rattle.kmip_responses.specs.declared.response_payload.QueryResponse.{QueryResponse}
-use Rattle.kmip_responses.specs.declared.response_payload.DiscoverVersionsResponse.{DiscoverVersionsResponse}
-use Rattle.kmip_responses.specs.declared.response_payload.ResponsePayload.{ResponsePayload}
+use Rattle.kmip_responses.specs.declared.response_payload.{CreateResponse.CreateResponse, CreateKeyPairResponse.CreateKeyPairResponse}
+use Rattle.kmip_responses.specs.declared.response_payload.{RegisterResponse.RegisterResponse, LocateResponse.LocateResponse, GetResponse.GetResponse}
+use Rattle.kmip_responses.specs.declared.response_payload.{GetAttributesResponse.GetAttributesResponse, GetAttributeListResponse.GetAttributeListResponse}
+use Rattle.kmip_responses.specs.declared.response_payload.{AttributeResponse.AttributeResponse, ObjectResponse.ObjectResponse}
+use Rattle.kmip_responses.specs.declared.response_payload.{ApplicationNamespace.ApplicationNamespace, QueryResponse.QueryResponse}
+use Rattle.kmip_responses.specs.declared.response_payload.{DiscoverVersionsResponse.DiscoverVersionsResponse, ResponsePayload.ResponsePayload}
 use Rattle.kmip_responses.specs.declared.response_payload.ResponsePayload.TheVariants as response_payload
 
 pub create_response_agrees : {A : Type 0} (x : CreateResponse A) → IsCreateResponse x
     → PartAgrees create_response_form (written_create_response x) (a_structure 0x42007C) (returned_create_response x)
 unfolding take_tag tag_of number transparent_name rule written_create_response returned_create_response written_object_type returned_template_attribute
 create_response_agrees x is =
-    structure refl refl (
-    part_then refl refl (object_type_agrees x.object_type is.0) (
+    structure refl refl (part_then refl refl (object_type_agrees x.object_type is.0) (
     leaf_then refl refl refl refl (as_text (text_is_utf8 x.unique_identifier)) (
     optional_then written_template_attribute returned_template_attribute (a_structure 0x420091) x.template_attribute refl refl
     (if_present template_attribute_agrees (λ y. refl) x.template_attribute is.1) nothing_left)))
@@ -84,8 +65,7 @@ unfolding take_tag tag_of number transparent_name rule written_create_key_pair_r
     returned_private_key_template_attribute returned_public_key_template_attribute
 create_key_pair_response_agrees x is =
     let b1 = option_behind x.public_key (a_structure 0x42006E) nothing_behind in
-    structure refl refl (
-    leaf_then refl refl refl refl (as_text (text_is_utf8 x.private_key_unique_identifier)) (
+    structure refl refl (leaf_then refl refl refl refl (as_text (text_is_utf8 x.private_key_unique_identifier)) (
     leaf_then refl refl refl refl (as_text (text_is_utf8 x.public_key_unique_identifier)) (
     optional_then written_private_key_template_attribute returned_private_key_template_attribute (a_structure 0x420065) x.private_key refl
     (b1.other (codes "0x420065") refl) (if_present private_key_template_attribute_agrees (λ y. refl) x.private_key is.0) (
@@ -96,8 +76,7 @@ pub register_response_agrees : {A : Type 0} (x : RegisterResponse A) → IsRegis
     → PartAgrees register_response_form (written_register_response x) (a_structure 0x42007C) (returned_register_response x)
 unfolding take_tag tag_of number transparent_name rule written_register_response returned_register_response returned_template_attribute
 register_response_agrees x is =
-    structure refl refl (
-    leaf_then refl refl refl refl (as_text (text_is_utf8 x.unique_identifier)) (
+    structure refl refl (leaf_then refl refl refl refl (as_text (text_is_utf8 x.unique_identifier)) (
     optional_then written_template_attribute returned_template_attribute (a_structure 0x420091) x.template_attribute refl refl
     (if_present template_attribute_agrees (λ y. refl) x.template_attribute is) nothing_left))
 
@@ -106,7 +85,7 @@ pub locate_response_agrees : {A : Type 0} (x : LocateResponse A)
 unfolding take_tag tag_of number transparent_name rule written_locate_response read_locate_response
 locate_response_agrees x =
     structure refl refl (
-    any_then unique_identifier_value unique_identifier_value record { tag = 0x420094; typ = types.TextString } x.unique_identifiers.items refl refl
+    any_then unique_identifier_value unique_identifier_value (a_text_string 0x420094) x.unique_identifiers.items refl refl
     (all_agree unique_identifier_agrees (λ y. refl) x.unique_identifiers.items) nothing_left)
 
 pub get_response_agrees : {A : Type 0} (x : GetResponse A) → IsGetResponse x
@@ -121,8 +100,7 @@ get_response_agrees x is =
     let b5 = option_behind x.private_key (a_structure 0x420064) b4 in
     let b6 = option_behind x.public_key (a_structure 0x42006D) b5 in
     let b7 = option_behind x.symmetric_key (a_structure 0x42008F) b6 in
-    structure refl refl (
-    part_then refl refl (object_type_agrees x.object_type is.0) (
+    structure refl refl (part_then refl refl (object_type_agrees x.object_type is.0) (
     leaf_then refl refl refl refl (as_text (text_is_utf8 x.unique_identifier)) (
     optional_then written_certificate returned_certificate (a_structure 0x420013) x.certificate refl (b7.other (codes "0x420013") refl)
     (if_present certificate_agrees (λ y. refl) x.certificate is.1) (
@@ -145,8 +123,7 @@ pub get_attributes_response_agrees : {A : Type 0} (x : GetAttributesResponse A) 
     → PartAgrees get_attributes_response_form (written_get_attributes_response x) (a_structure 0x42007C) (returned_get_attributes_response x)
 unfolding take_tag tag_of number transparent_name rule written_get_attributes_response returned_get_attributes_response returned_attribute
 get_attributes_response_agrees x is =
-    structure refl refl (
-    leaf_then refl refl refl refl (as_text (text_is_utf8 x.unique_identifier)) (
+    structure refl refl (leaf_then refl refl refl refl (as_text (text_is_utf8 x.unique_identifier)) (
     any_then written_attribute returned_attribute (a_structure 0x420008) x.attributes.items refl refl
     (every_agrees attribute_agrees (λ y. refl) x.attributes.items is) nothing_left))
 
@@ -154,48 +131,43 @@ pub get_attribute_list_response_agrees : {A : Type 0} (x : GetAttributeListRespo
     → PartAgrees get_attribute_list_response_form (written_get_attribute_list_response x) (a_structure 0x42007C) (read_get_attribute_list_response x)
 unfolding take_tag tag_of number transparent_name rule written_get_attribute_list_response read_get_attribute_list_response
 get_attribute_list_response_agrees x =
-    structure refl refl (
-    leaf_then refl refl refl refl (as_text (text_is_utf8 x.unique_identifier)) (
-    any_then attribute_name_value attribute_name_value record { tag = 0x42000A; typ = types.TextString } x.attribute_names.items refl refl
+    structure refl refl (leaf_then refl refl refl refl (as_text (text_is_utf8 x.unique_identifier)) (
+    any_then attribute_name_value attribute_name_value (a_text_string 0x42000A) x.attribute_names.items refl refl
     (all_agree attribute_name_agrees (λ y. refl) x.attribute_names.items) nothing_left))
 
 pub attribute_response_agrees : {A : Type 0} (x : AttributeResponse A) → IsAttributeResponse x
     → PartAgrees attribute_response_form (written_attribute_response x) (a_structure 0x42007C) (returned_attribute_response x)
 unfolding take_tag tag_of number transparent_name rule written_attribute_response returned_attribute_response returned_attribute
 attribute_response_agrees x is =
-    structure refl refl (
-    leaf_then refl refl refl refl (as_text (text_is_utf8 x.unique_identifier)) (
+    structure refl refl (leaf_then refl refl refl refl (as_text (text_is_utf8 x.unique_identifier)) (
     part_then refl refl (attribute_agrees x.attribute is) nothing_left))
 
 pub object_response_agrees : {A : Type 0} (x : ObjectResponse A)
     → PartAgrees object_response_form (object_response_value x) (a_structure 0x42007C) (object_response_value x)
 unfolding take_tag tag_of number transparent_name rule object_response_value
 object_response_agrees x =
-    structure refl refl (
-    leaf_then refl refl refl refl (as_text (text_is_utf8 x.unique_identifier)) nothing_left)
+    structure refl refl (leaf_then refl refl refl refl (as_text (text_is_utf8 x.unique_identifier)) nothing_left)
 
 pub application_namespace_agrees : {A : Type 0} (x : ApplicationNamespace A)
-    → PartAgrees application_namespace_form (application_namespace_value x) record { tag = 0x420003; typ = types.TextString } (application_namespace_value x)
+    → PartAgrees application_namespace_form (application_namespace_value x) (a_text_string 0x420003) (application_namespace_value x)
 unfolding take_tag tag_of number transparent_name
-application_namespace_agrees x =
-    leaf_part refl refl (as_text (text_is_utf8 x.text))
+application_namespace_agrees x = leaf_part refl refl (as_text (text_is_utf8 x.text))
 
 pub query_response_agrees : {A : Type 0} (x : QueryResponse A) → IsQueryResponse x
     → PartAgrees query_response_form (written_query_response x) (a_structure 0x42007C) (returned_query_response x)
 unfolding take_tag tag_of number transparent_name rule written_query_response returned_query_response written_operation written_object_type
 query_response_agrees x is =
-    let b1 = option_behind (first_of x.application_namespaces.items) record { tag = 0x420003; typ = types.TextString } nothing_behind in
-    let b2 = option_behind x.vendor_identification record { tag = 0x42009D; typ = types.TextString } b1 in
-    let b3 = option_behind (first_of x.object_types.items) record { tag = 0x420057; typ = types.Enumeration } b2 in
+    let b1 = option_behind (first_of x.application_namespaces.items) (a_text_string 0x420003) nothing_behind in
+    let b2 = option_behind x.vendor_identification (a_text_string 0x42009D) b1 in
+    let b3 = option_behind (first_of x.object_types.items) (an_enumeration 0x420057) b2 in
     structure refl refl (
-    any_then written_operation written_operation record { tag = 0x42005C; typ = types.Enumeration } x.operations.items refl (b3.other (codes "0x42005C") refl)
+    any_then written_operation written_operation (an_enumeration 0x42005C) x.operations.items refl (b3.other (codes "0x42005C") refl)
     (every_agrees operation_agrees (λ y. refl) x.operations.items is.0) (
-    any_then written_object_type written_object_type record { tag = 0x420057; typ = types.Enumeration } x.object_types.items refl
-    (b2.other (codes "0x420057") refl) (every_agrees object_type_agrees (λ y. refl) x.object_types.items is.1) (
-    optional_same_then (λ y. newtype_value (codes "Transparent:0x42009D") (text_value (string_bytes y))) record { tag = 0x42009D; typ = types.TextString }
-    x.vendor_identification refl (b1.other (codes "0x42009D") refl)
-    (present (λ y. leaf_part refl refl (as_text (text_is_utf8 y))) (λ y. refl) x.vendor_identification) (
-    any_then application_namespace_value application_namespace_value record { tag = 0x420003; typ = types.TextString } x.application_namespaces.items refl refl
+    any_then written_object_type written_object_type (an_enumeration 0x420057) x.object_types.items refl (b2.other (codes "0x420057") refl)
+    (every_agrees object_type_agrees (λ y. refl) x.object_types.items is.1) (
+    optional_same_then (λ y. newtype_value (codes "Transparent:0x42009D") (text_value (string_bytes y))) (a_text_string 0x42009D) x.vendor_identification refl
+    (b1.other (codes "0x42009D") refl) (present (λ y. leaf_part refl refl (as_text (text_is_utf8 y))) (λ y. refl) x.vendor_identification) (
+    any_then application_namespace_value application_namespace_value (a_text_string 0x420003) x.application_namespaces.items refl refl
     (all_agree application_namespace_agrees (λ y. refl) x.application_namespaces.items) nothing_left))))
 
 pub discover_versions_response_agrees : {A : Type 0} (x : DiscoverVersionsResponse A) → IsDiscoverVersionsResponse x

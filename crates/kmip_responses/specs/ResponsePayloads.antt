@@ -6,19 +6,12 @@ use Rattle.kmip_ttlv.specs.Values.{Value, newtype_value, newtype_variant_value, 
 use Rattle.kmip_ttlv.specs.Visits.{joined}
 use Rattle.std.specs.Prelude.{List, None, Option, Some, codes, option_map, string_bytes, true, ℕ, ◌+◌, ◌≡◌}
 use Rattle.kmip_ttlv.specs.Visits as visits
-use Rattle.kmip_responses.specs.declared.response_payload.CreateResponse.{CreateResponse}
-use Rattle.kmip_responses.specs.declared.response_payload.CreateKeyPairResponse.{CreateKeyPairResponse}
-use Rattle.kmip_responses.specs.declared.response_payload.RegisterResponse.{RegisterResponse}
-use Rattle.kmip_responses.specs.declared.response_payload.LocateResponse.{LocateResponse}
-use Rattle.kmip_responses.specs.declared.response_payload.GetResponse.{GetResponse}
-use Rattle.kmip_responses.specs.declared.response_payload.GetAttributesResponse.{GetAttributesResponse}
-use Rattle.kmip_responses.specs.declared.response_payload.GetAttributeListResponse.{GetAttributeListResponse}
-use Rattle.kmip_responses.specs.declared.response_payload.AttributeResponse.{AttributeResponse}
-use Rattle.kmip_responses.specs.declared.response_payload.ObjectResponse.{ObjectResponse}
-use Rattle.kmip_responses.specs.declared.response_payload.ApplicationNamespace.{ApplicationNamespace}
-use Rattle.kmip_responses.specs.declared.response_payload.QueryResponse.{QueryResponse}
-use Rattle.kmip_responses.specs.declared.response_payload.DiscoverVersionsResponse.{DiscoverVersionsResponse}
-use Rattle.kmip_responses.specs.declared.response_payload.ResponsePayload.{ResponsePayload}
+use Rattle.kmip_responses.specs.declared.response_payload.{CreateResponse.CreateResponse, CreateKeyPairResponse.CreateKeyPairResponse}
+use Rattle.kmip_responses.specs.declared.response_payload.{RegisterResponse.RegisterResponse, LocateResponse.LocateResponse, GetResponse.GetResponse}
+use Rattle.kmip_responses.specs.declared.response_payload.{GetAttributesResponse.GetAttributesResponse, GetAttributeListResponse.GetAttributeListResponse}
+use Rattle.kmip_responses.specs.declared.response_payload.{AttributeResponse.AttributeResponse, ObjectResponse.ObjectResponse}
+use Rattle.kmip_responses.specs.declared.response_payload.{ApplicationNamespace.ApplicationNamespace, QueryResponse.QueryResponse}
+use Rattle.kmip_responses.specs.declared.response_payload.{DiscoverVersionsResponse.DiscoverVersionsResponse, ResponsePayload.ResponsePayload}
 use Rattle.kmip_responses.specs.declared.response_payload.ResponsePayload.TheVariants as response_payload
 use Rattle.kmip_objects.specs.declared.object.ManagedObject.{ManagedObject}
 use Rattle.kmip_objects.specs.declared.object.ManagedObject.TheVariants as managed_object

@@ -2,15 +2,11 @@
 -- Which values of each type are sound: what was encoded of them is decoded again.
 use Rattle.kmip_ttlv.specs.MessageParts.{there}
 use Rattle.std.specs.Prelude.{All, IfSome, ◌+◌, ◌≡◌}
-use Rattle.kmip_responses.specs.declared.response_payload.CreateResponse.{CreateResponse}
-use Rattle.kmip_responses.specs.declared.response_payload.CreateKeyPairResponse.{CreateKeyPairResponse}
-use Rattle.kmip_responses.specs.declared.response_payload.RegisterResponse.{RegisterResponse}
-use Rattle.kmip_responses.specs.declared.response_payload.GetResponse.{GetResponse}
-use Rattle.kmip_responses.specs.declared.response_payload.GetAttributesResponse.{GetAttributesResponse}
-use Rattle.kmip_responses.specs.declared.response_payload.AttributeResponse.{AttributeResponse}
-use Rattle.kmip_responses.specs.declared.response_payload.QueryResponse.{QueryResponse}
-use Rattle.kmip_responses.specs.declared.response_payload.DiscoverVersionsResponse.{DiscoverVersionsResponse}
-use Rattle.kmip_responses.specs.declared.response_payload.ResponsePayload.{ResponsePayload}
+use Rattle.kmip_responses.specs.declared.response_payload.{CreateResponse.CreateResponse, CreateKeyPairResponse.CreateKeyPairResponse}
+use Rattle.kmip_responses.specs.declared.response_payload.{RegisterResponse.RegisterResponse, GetResponse.GetResponse}
+use Rattle.kmip_responses.specs.declared.response_payload.{GetAttributesResponse.GetAttributesResponse, AttributeResponse.AttributeResponse}
+use Rattle.kmip_responses.specs.declared.response_payload.{QueryResponse.QueryResponse, DiscoverVersionsResponse.DiscoverVersionsResponse}
+use Rattle.kmip_responses.specs.declared.response_payload.{ResponsePayload.ResponsePayload}
 use Rattle.kmip_responses.specs.declared.response_payload.ResponsePayload.TheVariants as response_payload
 use Rattle.kmip_attributes.specs.Soundness.{IsObjectType, IsAttribute}
 use Rattle.kmip_objects.specs.Soundness.{IsTemplateAttribute, IsPrivateKeyTemplateAttribute, IsPublicKeyTemplateAttribute, IsCertificate, IsSymmetricKey}

@@ -1,18 +1,12 @@
 -- What agrees with a form is read by it.
 use Rattle.std.proofs.Common.{◌≡◌, ℕ, Bool, true, false, List, [], ◌∷◌, ◌++◌, map, Option, Some, None, refl, sym, ap, subst, ◌∙◌}
-use Rattle.std.specs.Prelude.{◌&&◌, ◌||◌}
-use Rattle.std.specs.Int.{w32, to_be_bytes}
-use Rattle.std.specs.List.{AllByRecursion}
-use Rattle.std.proofs.lemmas.Bool.{eq-eqb}
-use Rattle.std.proofs.lemmas.List.{append-nil, map-append}
-use Rattle.kmip_ttlv_types.specs.declared.typ.TtlvType.TheVariants.{Enumeration}
-use Rattle.kmip_ttlv_types.specs.ItemTypes.{code}
-use Rattle.kmip_ttlv_types.specs.Items.{Raw, Splits}
+use Rattle.std.specs.{Prelude.◌&&◌, Prelude.◌||◌, Int.w32, Int.to_be_bytes, List.AllByRecursion}
+use Rattle.std.proofs.lemmas.{Bool.eq-eqb, List.append-nil, List.map-append}
+use Rattle.kmip_ttlv_types.specs.{declared.typ.TtlvType.TheVariants.Enumeration, ItemTypes.code, Items.Raw, Items.Splits}
 use Rattle.kmip_ttlv_types.specs.Trees.{Fits, FitsBelow, Tree, bytes_below, leaf, node, trees_of, raw_of}
 use Rattle.kmip_ttlv_base.specs.Forms.{Form, seq, Fields, Forms, Variants, Content}
 use Rattle.kmip_ttlv_base.specs.Values.{Value, seq_value, Values, no_values, value}
-use Rattle.kmip_ttlv_ser.specs.declared.pending.PendingTag.{PendingTag}
-use Rattle.kmip_ttlv_ser.specs.declared.pending.PendingTag.TheVariants.{Nothing}
+use Rattle.kmip_ttlv_ser.specs.declared.pending.PendingTag.{PendingTag, TheVariants.Nothing}
 use Rattle.kmip_ttlv_ser.specs.WrittenItems.{◌>>=◌, enumeration, pending_tag, items, items_in, left_over, some_item}
 use Rattle.kmip_ttlv_reader.proofs.Giving.{begins_one}
 use Rattle.kmip_ttlv_reader.specs.TagValues.{TagValue}
@@ -25,12 +19,9 @@ use Rattle.kmip_ttlv_laws.specs.Agreements.{nothing_agrees, absent_agrees, field
 use Rattle.kmip_ttlv_laws.specs.Agreements.{newtype_wraps, variant_wraps, EncodesStructure, struct_encodes, newtype_encodes, variant_encodes, tuple_encodes}
 use Rattle.kmip_ttlv_laws.specs.Agreements.{IsNumbered, unit_is_numbered, number_is_numbered, HasVariant, first_variant, later_variant, is_named, is_alike}
 use Rattle.kmip_ttlv_laws.specs.Agreements.{is_field_of, is_run, leaf_type, with_value}
-use Rattle.kmip_ttlv_laws.specs.Contents.{items_below}
-use Rattle.kmip_ttlv_laws.specs.ReadingLaws.{AgreeingIsRead, AgreeingIsWritten}
-use Rattle.kmip_ttlv_laws.proofs.Contents.{below_splits}
+use Rattle.kmip_ttlv_laws.specs.{Contents.items_below, ReadingLaws.AgreeingIsRead, ReadingLaws.AgreeingIsWritten}
+use Rattle.kmip_ttlv_laws.proofs.{Contents.below_splits, Returns.LeafIs, Returns.leaf_of, Roots.reading_what_was_written}
 use Rattle.kmip_ttlv_laws.proofs.Made.{AllMade, Any, any_texts_in, below_made, items_in_made}
-use Rattle.kmip_ttlv_laws.proofs.Returns.{LeafIs, leaf_of}
-use Rattle.kmip_ttlv_laws.proofs.Roots.{reading_what_was_written}
 
 -- ---- heads
 
@@ -205,9 +196,7 @@ like_same q r x [] h g = refl
 like_same q r x (y ∷ ys) h g = rw (h.0, h.1, g.0, g.1) refl
 
 -- a value that is no sequence is read from one item, whatever follows
-one_read :
-    (s : Form) (k k' : List TagValue) (v : Value) (t : Tree) (rest : List Tree) (zs : List Raw)
-    → rest ≡ []
+one_read : (s : Form) (k k' : List TagValue) (v : Value) (t : Tree) (rest : List Tree) (zs : List Raw) → rest ≡ []
     → is_run v ≡ false
     → (AllByRecursion Fits (t ∷ rest) → (is_run v ≡ true → is_like (raw_of t) zs ≡ false) → Reads s k (raw_of t ∷ (map raw_of rest ++ zs)) v k' zs)
     → Fits t
@@ -314,9 +303,7 @@ mutual
         trees = r.first ∷ (r.rest ++ q.trees);
         are = two_steps w ws Nothing r.first r.rest q.trees r.are q.are;
         head_is = r.head_is;
-        reads = λ f.
-            rw (map-append raw_of r.rest q.trees)
-            (next
+        reads = λ f. rw (map-append raw_of r.rest q.trees) (next
             (field_reads name s x (raw_of r.first) k k' _ (map raw_of q.trees) v e r.head_is
             (r.reads (fits_first (r.first ∷ r.rest) q.trees f) (map raw_of q.trees) (λ is. like_first (raw_of r.first) x q.trees y r.head_is q.head_is
             ∙ not_alike v x y apart is)))
@@ -332,9 +319,7 @@ mutual
         trees = r.first ∷ (r.rest ++ q.trees);
         are = two_steps w ws Nothing r.first r.rest q.trees r.are q.are;
         head_is = r.head_is;
-        reads = λ f.
-            rw (map-append raw_of r.rest q.trees)
-            (part
+        reads = λ f. rw (map-append raw_of r.rest q.trees) (part
             (r.reads (fits_first (r.first ∷ r.rest) q.trees f) (map raw_of q.trees) (λ is. like_first (raw_of r.first) x q.trees y r.head_is q.head_is
             ∙ not_alike v x y apart is))
             (q.reads (fits_last (r.first ∷ r.rest) q.trees f)));

@@ -2,20 +2,16 @@
 use Rattle.std.proofs.Common.{◌≡◌, ℕ, true, List, [], ◌∷◌, length, Some, refl, sym, ap, subst, ◌∙◌, arith}
 use Rattle.std.specs.List.{AllByRecursion}
 use Rattle.std.proofs.lemmas.List.{length-append}
-use Rattle.kmip_ttlv_types.specs.declared.typ.TtlvType.{TtlvType}
+use Rattle.kmip_ttlv_types.specs.{declared.typ.TtlvType.TtlvType, Leaves.is_valid, Items.IsTextOf}
 use Rattle.kmip_ttlv_types.specs.declared.typ.TtlvType.TheVariants.{Structure, Integer, LongInteger, BigInteger, Enumeration, Boolean, TextString, ByteString}
 use Rattle.kmip_ttlv_types.specs.declared.typ.TtlvType.TheVariants.{DateTime, Interval}
-use Rattle.kmip_ttlv_types.specs.Leaves.{is_valid}
-use Rattle.kmip_ttlv_types.specs.Items.{IsTextOf}
 use Rattle.kmip_ttlv_types.specs.Trees.{Tree, leaf, node, Trees, no_trees, tree, bytes, bytes_below, bytes_all, raw_of, leaf_bytes, node_bytes, Fits, FitsBelow}
 use Rattle.kmip_ttlv_types.specs.Trees.{IsTreeText, AreTreeTexts}
-use Rattle.kmip_ttlv_ser.specs.declared.pending.PendingTag.TheVariants.{Nothing}
-use Rattle.kmip_ttlv_ser.specs.Sizes.{FitsAfter}
+use Rattle.kmip_ttlv_ser.specs.{declared.pending.PendingTag.TheVariants.Nothing, Sizes.FitsAfter}
 use Rattle.kmip_ttlv_laws.specs.ReadingLaws.{CanonicalIsText, ReadingTrees, WrittenIsWellFormed}
 use Rattle.kmip_ttlv_laws.specs.Texts.{Utf8}
 use Rattle.kmip_ttlv_laws.proofs.Made.{AllMade, AreMade, IsContent, IsMade, items_made, text_of_tree}
-use Rattle.kmip_ttlv_laws.proofs.Roots.{begins_alone}
-use Rattle.kmip_ttlv_laws.proofs.TreeTexts.{padding_of_trees_is_free}
+use Rattle.kmip_ttlv_laws.proofs.{Roots.begins_alone, TreeTexts.padding_of_trees_is_free}
 
 -- such a content is valid
 valid_of : (typ : TtlvType) (content : List ℕ) → IsContent Utf8 typ content → is_valid typ content ≡ true

@@ -3,8 +3,7 @@ use Rattle.std.proofs.Common.{◌≡◌, ℕ, List, [], ◌∷◌, map, Some, re
 use Rattle.std.specs.List.{AllByRecursion}
 use Rattle.kmip_ttlv_types.specs.Items.{Splits}
 use Rattle.kmip_ttlv_types.specs.Trees.{Fits, FitsBelow, Tree, Trees, bytes, bytes_all, bytes_below, leaf, no_trees, node, raw_of, tree}
-use Rattle.kmip_ttlv_ser.specs.declared.pending.PendingTag.TheVariants.{Nothing}
-use Rattle.kmip_ttlv_ser.specs.Sizes.{FitsAfter}
+use Rattle.kmip_ttlv_ser.specs.{declared.pending.PendingTag.TheVariants.Nothing, Sizes.FitsAfter}
 use Rattle.kmip_ttlv_laws.specs.Contents.{ContainBelow, ContainsItems, items_below}
 use Rattle.kmip_ttlv_laws.specs.ReadingLaws.{WrittenIsItems}
 use Rattle.kmip_ttlv_laws.proofs.Made.{AllMade, Any, AreMade, IsMade, any_texts, items_made, text_of_tree}

@@ -2,11 +2,10 @@
 use Rattle.std.proofs.Common.{List, [], ◌∷◌, map, sym, subst}
 use Rattle.std.specs.Prelude.{string_bytes}
 use Rattle.std.proofs.lemmas.Str.{IsUtf8-string_bytes, is_utf8-from_IsUtf8}
-use Rattle.kmip_ttlv_base.specs.declared.shape.Data.{Data, map-Data}
-use Rattle.kmip_ttlv_base.specs.declared.shape.Data.TheOpen as layer
-use Rattle.kmip_ttlv_base.specs.declared.shape.Data.TheFolds.{fold-roll-Data, ind-Data}
+use Rattle.kmip_ttlv_base.specs.declared.shape.Data.{Data, map-Data, TheFolds.fold-roll-Data, TheFolds.ind-Data}
 use Rattle.kmip_ttlv_base.specs.Values.{Value, values_of, view, view_step}
 use Rattle.kmip_ttlv_laws.specs.Texts.{Utf8, EachTextIn, TextsAreUtf8}
+use Rattle.kmip_ttlv_base.specs.declared.shape.Data.TheOpen as layer
 
 -- the texts in a list of data are UTF-8, if those of each data are
 values_texts : {A B : Type 0} (f : B → Data A) → ((b : B) → TextsAreUtf8 (view (f b))) → (bs : List B) → EachTextIn Utf8 (values_of (map view (map f bs)))

@@ -1,28 +1,47 @@
 -- Parts of types whose values are equal if they stand for the same.
 use Rattle.std.proofs.Common.{◌≡◌, refl, sym, ap, ◌∙◌, true, false, ℕ, ℤ, Bool, List, [], ◌∷◌, map, Option, Some, None, String, string_bytes}
 use Rattle.std.specs.Prelude.{if◌then◌else◌, ◌&&◌, ◌==◌}
-use Rattle.std.specs.Option.{option_eq}
-use Rattle.std.specs.String.{string_eq}
+use Rattle.std.specs.{Option.option_eq, String.string_eq, Ordering.int_eq, Cmp.booleans_Decides, Str.bytes_eq, Cmp.Lexicographic.pointwise}
 use mathlib.Core.Bool.{beq}
-use Rattle.std.specs.Ordering.{int_eq}
-use Rattle.std.specs.Cmp.{booleans_Decides}
-use Rattle.std.proofs.lemmas.Bool.{false≢true}
-use Rattle.std.proofs.lemmas.Bool.Decides.{Decides-eqb, Decides-int_eq}
-use Rattle.std.proofs.lemmas.Slice.Eq.{bytes_eq-Decides, slice_eq-Decides}
+use Rattle.std.proofs.lemmas.{Bool.false≢true, Bool.Decides.Decides-eqb, Bool.Decides.Decides-int_eq, Slice.Eq.bytes_eq-Decides, Slice.Eq.slice_eq-Decides}
 use Rattle.kmip_ttlv_messages.specs.MessageParts.{is_listed, numbered_value, optional, optional_sequence, other_number, sequence}
-use Rattle.std.specs.Str.{bytes_eq}
-use Rattle.std.specs.Cmp.Lexicographic.{pointwise}
 use Rattle.kmip_ttlv_base.specs.Forms.{Form}
 use Rattle.kmip_ttlv_base.specs.Values.{Value, Values, struct_value, value, newtype_value, newtype_variant_value, unit_variant_value, values_of}
 use Rattle.kmip_ttlv_base.specs.Values.{big_integer_value, boolean_value, bytes_value, date_time_value, i32_value, i64_value, interval_value, text_value}
 use Rattle.kmip_ttlv_base.specs.Values.{u32_value}
 use Rattle.kmip_ttlv_reader.specs.Reads.{is_root}
-use Rattle.kmip_ttlv_laws.specs.Agreements.{MessageAgrees}
-use Rattle.kmip_ttlv_laws.specs.Equal.{ReturnsEqual}
-use Rattle.kmip_ttlv_laws.specs.Rereads.{Rereads}
+use Rattle.kmip_ttlv_laws.specs.{Agreements.MessageAgrees, Equal.ReturnsEqual, Rereads.Rereads}
 use Rattle.kmip_ttlv_laws.proofs.Agreeing.{agreeing_is_read, agreeing_is_written}
 
--- what is in values that are the same is the same: in structures, newtypes and variants
+-- Each lemma of a value says: it is equal to another, if the two stand for the same value. Leaves:
+pub integers_equal : (x y : ℤ) → i32_value x ≡ i32_value y → int_eq x y ≡ true
+integers_equal x y e = let same : x ≡ y = cc in (Decides-int_eq x y).1 same
+
+pub long_integers_equal : (x y : ℤ) → i64_value x ≡ i64_value y → int_eq x y ≡ true
+long_integers_equal x y e = let same : x ≡ y = cc in (Decides-int_eq x y).1 same
+
+pub date_times_equal : (x y : ℤ) → date_time_value x ≡ date_time_value y → int_eq x y ≡ true
+date_times_equal x y e = let same : x ≡ y = cc in (Decides-int_eq x y).1 same
+
+pub numbers_equal : (x y : ℕ) → u32_value x ≡ u32_value y → (x == y) ≡ true
+numbers_equal x y e = let same : x ≡ y = cc in (Decides-eqb x y).1 same
+
+pub intervals_equal : (x y : ℕ) → interval_value x ≡ interval_value y → (x == y) ≡ true
+intervals_equal x y e = let same : x ≡ y = cc in (Decides-eqb x y).1 same
+
+pub booleans_equal : (x y : Bool) → boolean_value x ≡ boolean_value y → beq x y ≡ true
+booleans_equal x y e = let same : x ≡ y = cc in (booleans_Decides x y).1 same
+
+pub texts_equal : {A : Type 0} (s t : String A) → text_value (string_bytes s) ≡ text_value (string_bytes t) → string_eq s t ≡ true
+texts_equal s t e = let same : string_bytes s ≡ string_bytes t = cc in (bytes_eq-Decides (string_bytes s) (string_bytes t)).1 same
+
+pub bytes_equal : (xs ys : List ℕ) → bytes_value xs ≡ bytes_value ys → pointwise (λ x y. x == y) xs ys ≡ true
+bytes_equal xs ys e = let same : xs ≡ ys = cc in (slice_eq-Decides Decides-eqb xs ys _ refl).1 same
+
+pub big_integers_equal : (xs ys : List ℕ) → big_integer_value xs ≡ big_integer_value ys → pointwise (λ x y. x == y) xs ys ≡ true
+big_integers_equal xs ys e = let same : xs ≡ ys = cc in (slice_eq-Decides Decides-eqb xs ys _ refl).1 same
+
+-- what values that are the same contain: structures, newtypes and variants
 pub in_structure : {n m : List ℕ} {vs ws : Values} → struct_value n vs ≡ struct_value m ws → vs ≡ ws
 in_structure e = cc
 
@@ -32,70 +51,38 @@ first_same e = cc
 pub later_same : {v w : Value} {vs ws : Values} → value v vs ≡ value w ws → vs ≡ ws
 later_same e = cc
 
-pub in_newtype : {n m : List ℕ} {v w : Value} → newtype_value n v ≡ newtype_value m w → v ≡ w
-in_newtype e = cc
-
 pub in_variant : {n m a b : List ℕ} {v w : Value} → newtype_variant_value n a v ≡ newtype_variant_value m b w → v ≡ w
 in_variant e = cc
 
 pub in_unit : {n m a b : List ℕ} → unit_variant_value n a ≡ unit_variant_value m b → a ≡ b
 in_unit e = cc
 
--- and in leaves
-pub in_integer : {x y : ℤ} → i32_value x ≡ i32_value y → x ≡ y
-in_integer e = cc
+in_newtype : {n m : List ℕ} {v w : Value} → newtype_value n v ≡ newtype_value m w → v ≡ w
+in_newtype e = cc
 
-pub in_long_integer : {x y : ℤ} → i64_value x ≡ i64_value y → x ≡ y
-in_long_integer e = cc
+-- newtypes of what is equal
+pub newtypes_equal : {n m : List ℕ} {v w : Value} {a : Bool} → (v ≡ w → a ≡ true) → newtype_value n v ≡ newtype_value m w → a ≡ true
+newtypes_equal equal e = equal (in_newtype e)
 
-pub in_date_time : {x y : ℤ} → date_time_value x ≡ date_time_value y → x ≡ y
-in_date_time e = cc
-
-pub in_number : {x y : ℕ} → u32_value x ≡ u32_value y → x ≡ y
-in_number e = cc
-
-pub in_interval : {x y : ℕ} → interval_value x ≡ interval_value y → x ≡ y
-in_interval e = cc
-
-pub in_boolean : {x y : Bool} → boolean_value x ≡ boolean_value y → x ≡ y
-in_boolean e = cc
-
-pub in_text : {x y : List ℕ} → text_value x ≡ text_value y → x ≡ y
-in_text e = cc
-
-pub in_bytes : {x y : List ℕ} → bytes_value x ≡ bytes_value y → x ≡ y
-in_bytes e = cc
-
-pub in_big_integer : {x y : List ℕ} → big_integer_value x ≡ big_integer_value y → x ≡ y
-in_big_integer e = cc
-
--- parts that are equal each
+-- structures: a part is equal, and those behind it are; the last; and one that is always the same
 pub both : {a b : Bool} → a ≡ true → b ≡ true → a && b ≡ true
 both e f = rw e f
 
--- the same numbers, and the same flags
-pub signed_equal : (x y : ℤ) → x ≡ y → int_eq x y ≡ true
-signed_equal x y e = (Decides-int_eq x y).1 e
+pub part_equal :
+    {v w : Value} {vs ws : Values} {a b : Bool} → (v ≡ w → a ≡ true) → (vs ≡ ws → b ≡ true) → value v vs ≡ value w ws → a && b ≡ true
+part_equal first later e = both (first (first_same e)) (later (later_same e))
 
-pub unsigned_equal : (x y : ℕ) → x ≡ y → (x == y) ≡ true
-unsigned_equal x y e = (Decides-eqb x y).1 e
+pub last_equal : {v w : Value} {vs ws : Values} {a : Bool} → (v ≡ w → a ≡ true) → value v vs ≡ value w ws → a ≡ true
+last_equal last e = last (first_same e)
 
-pub booleans_equal : (x y : Bool) → x ≡ y → beq x y ≡ true
-booleans_equal x y e = (booleans_Decides x y).1 e
+pub constant_equal : {v w : Value} {vs ws : Values} {a : Bool} → (vs ≡ ws → a ≡ true) → value v vs ≡ value w ws → a ≡ true
+constant_equal later e = later (later_same e)
 
--- texts of the same bytes
-pub texts_equal : {A : Type 0} (s t : String A) → string_bytes s ≡ string_bytes t → string_eq s t ≡ true
-texts_equal s t e = (bytes_eq-Decides (string_bytes s) (string_bytes t)).1 e
-
--- the same bytes
-pub bytes_equal : (xs ys : List ℕ) → xs ≡ ys → pointwise (λ x y. x == y) xs ys ≡ true
-bytes_equal xs ys e = (slice_eq-Decides Decides-eqb xs ys _ refl).1 e
+pub structures_equal : {n m : List ℕ} {vs ws : Values} {a : Bool} → (vs ≡ ws → a ≡ true) → struct_value n vs ≡ struct_value m ws → a ≡ true
+structures_equal parts e = parts (in_structure e)
 
 -- what may be absent
-pub options_equal :
-    {T : Type 0} (f g : T → Value) (E : T → T → Bool)
-    → ReturnsEqual f g E
-    → (x y : Option T)
+pub options_equal : {T : Type 0} (f g : T → Value) (E : T → T → Bool) → ReturnsEqual f g E → (x y : Option T)
     → optional f x ≡ optional g y
     → option_eq E x y ≡ true
 options_equal f g E equal None None e = refl
@@ -109,10 +96,7 @@ pub options_same : {T : Type 0} (f : T → Value) (E : T → T → Bool) → Ret
 options_same f = options_equal f f
 
 -- elements of a sequence
-sequences_equal :
-    {T : Type 0} (f g : T → Value) (E : T → T → Bool)
-    → ReturnsEqual f g E
-    → (xs ys : List T)
+sequences_equal : {T : Type 0} (f g : T → Value) (E : T → T → Bool) → ReturnsEqual f g E → (xs ys : List T)
     → values_of (map f xs) ≡ values_of (map g ys)
     → pointwise E xs ys ≡ true
 sequences_equal f g E equal [] [] e = refl
@@ -123,10 +107,7 @@ sequences_equal f g E equal (x ∷ xs) (y ∷ ys) e =
     let rest : values_of (map f xs) ≡ values_of (map g ys) = cc in
     rw (equal x y head) (sequences_equal f g E equal xs ys rest)
 
-pub several_equal :
-    {T : Type 0} (f g : T → Value) (E : T → T → Bool)
-    → ReturnsEqual f g E
-    → (xs ys : List T)
+pub several_equal : {T : Type 0} (f g : T → Value) (E : T → T → Bool) → ReturnsEqual f g E → (xs ys : List T)
     → sequence f xs ≡ sequence g ys
     → pointwise E xs ys ≡ true
 several_equal f g E equal xs ys e =
@@ -134,10 +115,7 @@ several_equal f g E equal xs ys e =
     sequences_equal f g E equal xs ys same
 
 -- those of a sequence that may be empty
-pub any_equal :
-    {T : Type 0} (f g : T → Value) (E : T → T → Bool)
-    → ReturnsEqual f g E
-    → (xs ys : List T)
+pub any_equal : {T : Type 0} (f g : T → Value) (E : T → T → Bool) → ReturnsEqual f g E → (xs ys : List T)
     → optional_sequence f xs ≡ optional_sequence g ys
     → pointwise E xs ys ≡ true
 any_equal f g E equal [] [] e = refl
@@ -148,12 +126,12 @@ any_equal f g E equal (x ∷ xs) (y ∷ ys) e =
     sequences_equal f g E equal (x ∷ xs) (y ∷ ys) same
 
 -- a number that is read as none of the listed ones is itself
-pub other_same : (listed : List ℕ) (m n : ℕ) → u32_value m ≡ numbered_value (other_number listed n) → m ≡ n
-other_same listed m n e = by_case (is_listed n listed) e
+pub others_equal : (listed : List ℕ) (m n : ℕ) → u32_value m ≡ numbered_value (other_number listed n) → (m == n) ≡ true
+others_equal listed m n e = by_case (is_listed n listed) e
   where
-    by_case : (b : Bool) → u32_value m ≡ numbered_value (if b then None else Some n) → m ≡ n
+    by_case : (b : Bool) → u32_value m ≡ numbered_value (if b then None else Some n) → (m == n) ≡ true
     by_case true same = absurd cc
-    by_case false same = cc
+    by_case false same = let is : u32_value m ≡ u32_value n = cc in numbers_equal m n is
 
 -- the first row of a text
 abbrev pub row_of : {T : Type 0} → List ℕ → List (List ℕ × T) → Option T
@@ -161,9 +139,7 @@ row_of text [] = None
 row_of text ((name, x) ∷ rows) = if bytes_eq text name then Some x else row_of text rows
 
 -- values that a table finds by their texts are the same if their texts are
-pub found_same :
-    {T : Type 0} (name : T → List ℕ) (rows : List (List ℕ × T))
-    → ((x : T) → row_of (name x) rows ≡ Some x)
+pub found_same : {T : Type 0} (name : T → List ℕ) (rows : List (List ℕ × T)) → ((x : T) → row_of (name x) rows ≡ Some x)
     → (x y : T)
     → name x ≡ name y
     → x ≡ y
@@ -192,15 +168,14 @@ pub agreeing_rereads :
     → ((x : T) → IsSound x → MessageAgrees s (stated x) (returned x))
     → ReturnsEqual returned decoded eq
     → Rereads stated s (λ v y. v ≡ decoded y) eq IsSound
-agreeing_rereads stated returned decoded s eq IsSound root agrees equal =
-    record {
-      has_items = λ x is.
-          let (head, k, a) = agrees x is in
-          let (t, ts, are, tag, typ) = agreeing_is_written s _ k _ (stated x) (returned x) head a in
-          (t ∷ ts, are);
-      begins = λ x written is w.
-          (returned x, (agreeing_is_read s (stated x) (returned x) (returned x) 0 written root (agrees x is) w).1 refl);
-      equal = λ x y written v is w b e.
-          let same : v ≡ returned x = (agreeing_is_read s (stated x) (returned x) v 0 written root (agrees x is) w).0 b in
-          equal x y (sym same ∙ e);
-    }
+agreeing_rereads stated returned decoded s eq IsSound root agrees equal = record {
+  has_items = λ x is.
+      let (head, k, a) = agrees x is in
+      let (t, ts, are, tag, typ) = agreeing_is_written s _ k _ (stated x) (returned x) head a in
+      (t ∷ ts, are);
+  begins = λ x written is w.
+      (returned x, (agreeing_is_read s (stated x) (returned x) (returned x) 0 written root (agrees x is) w).1 refl);
+  equal = λ x y written v is w b e.
+      let same : v ≡ returned x = (agreeing_is_read s (stated x) (returned x) v 0 written root (agrees x is) w).0 b in
+      equal x y (sym same ∙ e);
+}

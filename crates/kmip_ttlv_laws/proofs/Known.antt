@@ -9,8 +9,7 @@ use Rattle.kmip_ttlv_base.specs.Forms.{Form, struct, option, seq, newtype, enum,
 use Rattle.kmip_ttlv_base.specs.Forms.{variant, Content, unit, wrapped, tuple}
 use Rattle.kmip_ttlv_base.specs.Values.{Value, Values, text_value, u32_value}
 use Rattle.kmip_ttlv_ser.specs.declared.pending.PendingTag.{PendingTag}
-use Rattle.kmip_ttlv_reader.specs.TagValues.{TagValue, last}
-use Rattle.kmip_ttlv_reader.specs.Reads.{has_tag, is_struct}
+use Rattle.kmip_ttlv_reader.specs.{TagValues.TagValue, TagValues.last, Reads.has_tag, Reads.is_struct}
 use Rattle.kmip_ttlv_laws.specs.Agreements.{Head, Agrees, FieldsAgree, HasVariant, RunAgrees, absent_agrees, field_agrees, first_variant, inner_agrees}
 use Rattle.kmip_ttlv_laws.specs.Agreements.{last_agrees, later_variant, leaf_agrees, newtype_agrees, next_agrees, no_field_agrees, nothing_agrees}
 use Rattle.kmip_ttlv_laws.specs.Agreements.{number_agrees, option_agrees, rule_agrees, seq_agrees, struct_agrees, tuple_agrees, with_value}
@@ -21,8 +20,7 @@ found_last : (o : Option TagValue) (k : List TagValue) (r : TagValue) → last_o
 found_last o [] r = rw (eq-eqb r.tag r.tag refl) refl
 found_last o (q ∷ k) r = elim (q.tag == r.tag) as
     (λ b. last_or o (cond b (q ∷ filter (λ p. p.tag == r.tag) (k ++ r ∷ [])) (filter (λ p. p.tag == r.tag) (k ++ r ∷ []))) ≡ Some r) [
-      | true ↦
-          found_last (Some q) k r
+      | true ↦ found_last (Some q) k r
       | false ↦ found_last o k r
     ]
 
@@ -119,11 +117,10 @@ chosen_lacks t (later_variant {d = d} {vs = vs} h) none = chosen_lacks t h (and_
 -- a field of another tag has no item of this one
 other_item : (b : Boole) (name : List ℕ) (u t : ℕ) → (b || has_tag name u) ≡ true → (b || not (has_tag name t)) ≡ true → (b || not (u == t)) ≡ true
 other_item true name u t named other = refl
-other_item false name u t named other =
-    elim (u == t) as (λ b. (u == t) ≡ b → not b ≡ true) [
-      | true ↦ λ same. absurd (false≢true (sym (not-true (has_tag name t) other) ∙ sym (ap (has_tag name) (eqb-true u t same)) ∙ named))
-      | false ↦ λ differ. refl
-    ] refl
+other_item false name u t named other = elim (u == t) as (λ b. (u == t) ≡ b → not b ≡ true) [
+  | true ↦ λ same. absurd (false≢true (sym (not-true (has_tag name t) other) ∙ sym (ap (has_tag name) (eqb-true u t same)) ∙ named))
+  | false ↦ λ differ. refl
+] refl
 
 mutual
   pub spared : {s : Form} {k k' : List TagValue} {h : PendingTag} {w v : Value} {x : Head} (t : ℕ) → Agrees s k h w x v k'

@@ -3,20 +3,15 @@ use Rattle.std.proofs.Common.{◌≡◌, ℕ, ◌+◌, ◌^◌, ◌<◌, true, L
 use Rattle.std.specs.Int.{w32, from_be_bytes}
 use Rattle.std.proofs.lemmas.List.{take_at, drop_at, length-append}
 use Rattle.std.proofs.lemmas.Nat.{from_be_bytes-to_be_bytes_4}
-use Rattle.kmip_ttlv_types.specs.declared.typ.TtlvType.{TtlvType}
-use Rattle.kmip_ttlv_types.specs.declared.typ.TtlvType.TheVariants.{Structure}
-use Rattle.kmip_ttlv_types.specs.ItemTypes.{padding}
-use Rattle.kmip_ttlv_types.specs.Leaves.{is_valid}
+use Rattle.kmip_ttlv_types.specs.{declared.typ.TtlvType.TtlvType, declared.typ.TtlvType.TheVariants.Structure, ItemTypes.padding, Leaves.is_valid, Places.size}
 use Rattle.kmip_ttlv_types.specs.Items.{Raw, IsTextOf, Splits, header}
-use Rattle.kmip_ttlv_types.specs.Places.{size}
 use Rattle.kmip_ttlv_base.specs.Forms.{Content, Form, Variants}
 use Rattle.kmip_ttlv_base.specs.Values.{Value}
 use Rattle.kmip_ttlv_types.proofs.PlaceLemmas.{code_one}
 use Rattle.kmip_ttlv_reader.specs.TagValues.{TagValue}
 use Rattle.kmip_ttlv_reader.specs.Reads.{Reads, ReadsContent, ReadsVariant, by_number, by_rule, here, leaf, parts, run, structure, there, whole, wrap}
 use Rattle.kmip_ttlv_reader.specs.Reads.{wrap_some}
-use Rattle.kmip_ttlv_laws.specs.ReadingLaws.{PaddingIsRequired, PaddingOfRootsIsRequired}
-use Rattle.kmip_ttlv_laws.specs.Padding.{LacksPadding}
+use Rattle.kmip_ttlv_laws.specs.{ReadingLaws.PaddingIsRequired, ReadingLaws.PaddingOfRootsIsRequired, Padding.LacksPadding}
 use Rattle.kmip_ttlv_laws.proofs.Roots.{one_item, root_of_begins, text_length}
 
 -- how long an item that lacks padding is

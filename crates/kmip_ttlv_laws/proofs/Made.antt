@@ -1,16 +1,11 @@
 -- What the items of a value are made of: tags of three bytes, and content that is valid if the value's texts are.
 use Rattle.std.proofs.Common.{◌≡◌, ℕ, ◌<◌, ◌^◌, Bool, true, false, cond, ltb, List, [], ◌∷◌, ◌++◌, length, replicate, Option, Some, None, refl, sym, subst, ◌∙◌}
-use Rattle.std.specs.Prelude.{option_and_then}
+use Rattle.std.specs.{Prelude.option_and_then, List.AllByRecursion}
 use Rattle.std.specs.Int.{w32, w64, to_be_bytes, from_bool}
-use Rattle.std.specs.List.{AllByRecursion}
-use Rattle.std.proofs.lemmas.Bool.{ltb-true}
-use Rattle.std.proofs.lemmas.List.{append-nil, length-replicate}
-use Rattle.kmip_ttlv_types.specs.declared.typ.TtlvType.{TtlvType}
+use Rattle.std.proofs.lemmas.{Bool.ltb-true, List.append-nil, List.length-replicate}
+use Rattle.kmip_ttlv_types.specs.{declared.typ.TtlvType.TtlvType, ItemTypes.pad_len, ItemTypes.padding, Leaves.is_valid, Items.IsTextOf}
 use Rattle.kmip_ttlv_types.specs.declared.typ.TtlvType.TheVariants.{Structure, Integer, LongInteger, BigInteger, Enumeration, Boolean, TextString, ByteString}
 use Rattle.kmip_ttlv_types.specs.declared.typ.TtlvType.TheVariants.{DateTime, Interval}
-use Rattle.kmip_ttlv_types.specs.ItemTypes.{pad_len, padding}
-use Rattle.kmip_ttlv_types.specs.Leaves.{is_valid}
-use Rattle.kmip_ttlv_types.specs.Items.{IsTextOf}
 use Rattle.kmip_ttlv_types.specs.Names.{tag_of, number, below_tag_limit, transparent_name, override_name}
 use Rattle.kmip_ttlv_types.specs.Trees.{Tree, leaf, node, Trees, no_trees, tree, trees_of, bytes, bytes_below, raw_of, leaf_bytes, node_bytes, Fits}
 use Rattle.kmip_ttlv_base.specs.Values.{Value, boolean_value, i8_value, i16_value, i32_value, u32_value, i64_value, u64_value, date_time_value, interval_value}
@@ -53,11 +48,10 @@ bind_some (Some x) f y e = (x, refl, e)
 
 -- a number below the limit stays itself
 below_limit : (n t : ℕ) → below_tag_limit n ≡ Some t → t < 2 ^ 24
-below_limit n t e =
-    elim (ltb n (2 ^ 24)) as (λ b. ltb n (2 ^ 24) ≡ b → cond b (Some n) None ≡ Some t → t < 2 ^ 24) [
-      | true ↦ λ lt h. let same : n ≡ t = cc in subst (λ m. m < 2 ^ 24) same (ltb-true _ _ lt)
-      | false ↦ λ lt h. absurd cc
-    ] refl e
+below_limit n t e = elim (ltb n (2 ^ 24)) as (λ b. ltb n (2 ^ 24) ≡ b → cond b (Some n) None ≡ Some t → t < 2 ^ 24) [
+  | true ↦ λ lt h. let same : n ≡ t = cc in subst (λ m. m < 2 ^ 24) same (ltb-true _ _ lt)
+  | false ↦ λ lt h. absurd cc
+] refl e
 
 -- a name's tag has three bytes
 tag_small : (name : List ℕ) (t : ℕ) → tag_of name ≡ Some t → t < 2 ^ 24

@@ -1,28 +1,20 @@
 -- Structures whose parts agree with themselves, field by field: lemmas for a message type's own proof.
-use Rattle.std.proofs.Common.{◌≡◌, ◌<◌, subst, FitsSigned, ℤ, ℕ, Bool as Boole, true, false, List, [], ◌++◌, ◌∷◌, Some, None, Option, option_map, map}
-use Rattle.std.proofs.Common.{length, ◌==◌, refl, sym, ap, ◌∙◌, arith, String, string_bytes}
-use Rattle.std.proofs.lemmas.Bool.{eqb-true, false≢true}
-use Rattle.std.specs.Prelude.{◌&&◌, ◌||◌}
-use Rattle.std.specs.List.{AllByRecursion}
-use Rattle.std.proofs.lemmas.List.Elements.{recursion_from_All}
-use Rattle.std.specs.Prelude.{◌%◌, All, IfSome}
-use Rattle.kmip_ttlv_types.specs.Primitives.{sign_extended}
-use Rattle.std.specs.Int.{w32, w64}
-use Rattle.std.specs.Str.{is_utf8}
-use Rattle.std.proofs.lemmas.Str.{IsUtf8-string_bytes, is_utf8-from_IsUtf8}
-use Rattle.std.proofs.lemmas.Int.{to_z-of_z}
-use Rattle.kmip_ttlv_types.specs.declared.typ.TtlvType.TheVariants.{Structure, Enumeration}
-use Rattle.kmip_ttlv_types.specs.Names.{number, transparent_name}
+use Rattle.std.proofs.Common.{◌≡◌, ◌<◌, subst, FitsSigned, ℤ, ℕ, Bool as Boole, true, false, List, [], ◌++◌, ◌∷◌, Some, None, Option, option_map, map, length}
+use Rattle.std.proofs.Common.{◌==◌, refl, sym, ap, ◌∙◌, arith, String, string_bytes}
+use Rattle.std.proofs.lemmas.{Bool.eqb-true, Bool.false≢true, List.Elements.recursion_from_All, Str.IsUtf8-string_bytes, Str.is_utf8-from_IsUtf8, Int.to_z-of_z}
+use Rattle.std.specs.Prelude.{◌&&◌, ◌||◌, ◌%◌, All, IfSome}
+use Rattle.std.specs.{List.AllByRecursion, Int.w32, Int.w64, Str.is_utf8}
+use Rattle.kmip_ttlv_types.specs.{Primitives.sign_extended, Names.number, Names.transparent_name}
+use Rattle.kmip_ttlv_types.specs.declared.typ.TtlvType.TheVariants.{Structure, Integer, LongInteger, BigInteger, Enumeration, Boolean, TextString, ByteString}
+use Rattle.kmip_ttlv_types.specs.declared.typ.TtlvType.TheVariants.{DateTime, Interval}
 use Rattle.kmip_ttlv_base.specs.Forms.{Form, big_integer, date_time, int32, int64, struct, option, newtype, enum, seq, Fields, no_fields, field, Variants}
 use Rattle.kmip_ttlv_base.specs.Values.{Value, big_integer_value, date_time_value, i32_value, i64_value, newtype_value, unit_variant_value, some_value}
 use Rattle.kmip_ttlv_base.specs.Values.{none_value, seq_value, struct_value, Values, no_values, value, values_of}
 use Rattle.kmip_ttlv_base.specs.Visits.{joined, optional_field}
 use Rattle.kmip_ttlv_messages.specs.MessageParts.{by_bits, optional as read_optional, optional_sequence, sequence}
-use Rattle.kmip_ttlv_ser.specs.declared.pending.PendingTag.{PendingTag}
-use Rattle.kmip_ttlv_ser.specs.declared.pending.PendingTag.TheVariants.{Nothing}
+use Rattle.kmip_ttlv_ser.specs.declared.pending.PendingTag.{PendingTag, TheVariants.Nothing}
 use Rattle.kmip_ttlv_ser.specs.WrittenItems.{take_tag, pending_tag}
-use Rattle.kmip_ttlv_reader.specs.TagValues.{TagValue}
-use Rattle.kmip_ttlv_reader.specs.Reads.{has_tag}
+use Rattle.kmip_ttlv_reader.specs.{TagValues.TagValue, Reads.has_tag}
 use Rattle.kmip_ttlv_laws.specs.Agreements.{Head, Agrees, FieldsAgree, IsNumbered, MessageAgrees, RunAgrees, Wraps, absent_agrees, field_agrees, inner_agrees}
 use Rattle.kmip_ttlv_laws.specs.Agreements.{is_alike, is_named, is_field_of, is_run, goes_on, last_agrees, leaf_agrees, leaf_type, newtype_agrees}
 use Rattle.kmip_ttlv_laws.specs.Agreements.{newtype_encodes, newtype_wraps, next_agrees, no_field_agrees, nothing_agrees, number_agrees, option_agrees}
@@ -56,11 +48,10 @@ ends v x y single = rw single refl
 pub field_then : {known : List Known} {name : List ℕ} {s : Form} {fs : Fields} {w v : Value} {ws vs : Values} {x : Head} {y : Option Head}
     → is_field_of name s x ≡ true → goes_on v x y ≡ false → PartAgrees s w x v → PartsAgree (left known x.tag s) fs ws y vs
     → PartsAgree known (field name s fs) (value w ws) (Some x) (value v vs)
-field_then {known} named apart p rest =
-    record {
-      stored = λ k. rest.stored (p.stored k);
-      agrees = λ k found. field_agrees named apart (p.agrees k) (rest.agrees (p.stored k) (finds_left known (p.agrees k) found));
-    }
+field_then {known} named apart p rest = record {
+  stored = λ k. rest.stored (p.stored k);
+  agrees = λ k found. field_agrees named apart (p.agrees k) (rest.agrees (p.stored k) (finds_left known (p.agrees k) found));
+}
 
 -- a field that is no sequence
 pub part_then : {known : List Known} {name : List ℕ} {s : Form} {fs : Fields} {w v : Value} {ws vs : Values} {x : Head} {y : Option Head}
@@ -90,12 +81,10 @@ pub constant_then : {known : List Known} {tag vname : List ℕ} {vs : Variants} 
     → take_tag Nothing tag ≡ Some t → number vname ≡ Some n → text_of_number n ≡ vname → has_tag tag t ≡ true → ((k : List TagValue) → NamesUnit vs k n)
     → PartsAgree (left known t (enum tag vs)) fs ws y us → PartsAgree known (field tag (enum tag vs) fs) (value (unit_variant_value tag vname) ws)
     (Some record { tag = t; typ = Enumeration }) (value (unit_variant_value tag vname) us)
-constant_then {t = t} {n = n} takes numbered text named units rest =
-    part_then named refl record {
-      stored = λ k. k ++ record { tag = t; text = text_of_number n } ∷ [];
-      agrees =
-          λ k. unit_agrees takes numbered text k (units k);
-    } rest
+constant_then {t = t} {n = n} takes numbered text named units rest = part_then named refl record {
+  stored = λ k. k ++ record { tag = t; text = text_of_number n } ∷ [];
+  agrees = λ k. unit_agrees takes numbered text k (units k);
+} rest
 
 -- what is true of fields where less is known
 where_more_is_known : {known : List Known} {fs : Fields} {ws vs : Values} {y : Option Head} (u : ℕ) (s : Form) → PartsAgree (left known u s) fs ws y vs
@@ -122,9 +111,36 @@ structure named takes parts = record { stored = parts.stored; agrees = λ k. str
 pub message : {s : Form} {w v : Value} {x : Head} → PartAgrees s w x v → MessageAgrees s w v
 message {s} {w} {v} {x} p = (x, p.stored [], p.agrees [])
 
--- the head of a Structure of this tag
+-- the heads of items: a tag and a type
 abbrev pub a_structure : ℕ → Head
 a_structure t = record { tag = t; typ = Structure }
+
+abbrev pub an_integer : ℕ → Head
+an_integer t = record { tag = t; typ = Integer }
+
+abbrev pub a_long_integer : ℕ → Head
+a_long_integer t = record { tag = t; typ = LongInteger }
+
+abbrev pub a_big_integer : ℕ → Head
+a_big_integer t = record { tag = t; typ = BigInteger }
+
+abbrev pub an_enumeration : ℕ → Head
+an_enumeration t = record { tag = t; typ = Enumeration }
+
+abbrev pub a_boolean : ℕ → Head
+a_boolean t = record { tag = t; typ = Boolean }
+
+abbrev pub a_text_string : ℕ → Head
+a_text_string t = record { tag = t; typ = TextString }
+
+abbrev pub a_byte_string : ℕ → Head
+a_byte_string t = record { tag = t; typ = ByteString }
+
+abbrev pub a_date_time : ℕ → Head
+a_date_time t = record { tag = t; typ = DateTime }
+
+abbrev pub an_interval : ℕ → Head
+an_interval t = record { tag = t; typ = Interval }
 
 -- a Big Integer of so many bytes that its sign isn't extended comes back as itself
 pub as_whole : (s : List ℕ) → length s % 8 ≡ 0 → ComesBack big_integer (big_integer_value s) (big_integer_value s)
@@ -170,8 +186,7 @@ pub unit_part : {tag vname : List ℕ} {vs : Variants} {t n : ℕ} → take_tag 
     (unit_variant_value tag vname)
 unit_part {t = t} {n = n} takes numbered text units = record {
   stored = λ k. k ++ record { tag = t; text = text_of_number n } ∷ [];
-  agrees =
-      λ k. unit_agrees takes numbered text k (units k);
+  agrees = λ k. unit_agrees takes numbered text k (units k);
 }
 
 -- the number that a name of an Enumeration says: its text is the name, and it is a unit of these

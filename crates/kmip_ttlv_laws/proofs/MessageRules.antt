@@ -1,34 +1,26 @@
 -- Parts of messages that a rule chooses by the texts that were kept before, and parts that are kept for such rules.
 use Rattle.std.proofs.Common.{◌≡◌, ◌<◌, ◌^◌, subst, ℕ, Bool as Boole, true, false, List, [], ◌++◌, ◌∷◌, Some, None, Option, option_map, map, length, refl, sym}
 use Rattle.std.proofs.Common.{◌∙◌, ◌==◌, arith}
-use Rattle.std.specs.Option.{IsSomeAnd}
+use Rattle.std.specs.{Option.IsSomeAnd, List.AllByRecursion, Str.bytes_eq, Str.is_utf8}
 use Rattle.std.specs.Prelude.{All, IfSome, ◌||◌, not}
-use Rattle.std.specs.List.{AllByRecursion}
-use Rattle.std.proofs.lemmas.List.Elements.{recursion_from_All}
-use Rattle.std.proofs.lemmas.Bool.{and_parts}
-use Rattle.std.specs.Str.{bytes_eq, is_utf8}
-use Rattle.std.proofs.lemmas.Option.{none-some}
+use Rattle.std.proofs.lemmas.{List.Elements.recursion_from_All, Bool.and_parts, Option.none-some}
 use Rattle.kmip_ttlv_types.specs.declared.typ.TtlvType.TheVariants.{Structure, Enumeration, TextString}
-use Rattle.kmip_ttlv_types.specs.declared.typ.TtlvType.{TtlvType}
-use Rattle.kmip_ttlv_types.specs.Names.{number, transparent_name}
+use Rattle.kmip_ttlv_types.specs.{declared.typ.TtlvType.TtlvType, Names.number, Names.transparent_name}
 use Rattle.kmip_ttlv_base.specs.Forms.{Form, any_number, option, seq, text as text_form, struct, newtype, enum, wrapped, Fields, field, Variants}
 use Rattle.kmip_ttlv_base.specs.Values.{Value, some_value, u32_value, text_value, newtype_value, unit_variant_value, newtype_variant_value, struct_value}
 use Rattle.kmip_ttlv_base.specs.Values.{Values, value, values_of}
 use Rattle.kmip_ttlv_base.specs.Visits.{joined}
-use Rattle.kmip_ttlv_base.specs.Visits as visits
 use Rattle.kmip_ttlv_messages.specs.MessageParts.{optional, optional_sequence, sequence}
-use Rattle.kmip_ttlv_ser.specs.declared.pending.PendingTag.{PendingTag}
-use Rattle.kmip_ttlv_ser.specs.declared.pending.PendingTag.TheVariants.{Nothing}
+use Rattle.kmip_ttlv_ser.specs.declared.pending.PendingTag.{PendingTag, TheVariants.Nothing}
 use Rattle.kmip_ttlv_ser.specs.WrittenItems.{take_tag, pending_tag}
-use Rattle.kmip_ttlv_reader.specs.TagValues.{TagValue, last}
-use Rattle.kmip_ttlv_reader.specs.Reads.{is_struct}
-use Rattle.kmip_ttlv_reader.specs.Rules.{choice, chosen}
+use Rattle.kmip_ttlv_reader.specs.{TagValues.TagValue, TagValues.last, Reads.is_struct, Rules.choice, Rules.chosen}
 use Rattle.kmip_ttlv_laws.specs.Agreements.{Head, Agrees, HasVariant, RunAgrees, Wraps, absent_agrees, field_agrees, inner_agrees, is_alike, is_field_of}
 use Rattle.kmip_ttlv_laws.specs.Agreements.{is_named, is_run, last_agrees, leaf_agrees, leaf_type, newtype_agrees, newtype_encodes, newtype_wraps, next_agrees}
 use Rattle.kmip_ttlv_laws.specs.Agreements.{nothing_agrees, option_agrees, rule_agrees, seq_agrees, struct_agrees, struct_encodes, unit_is_numbered}
 use Rattle.kmip_ttlv_laws.specs.Returns.{ComesBack, IsNoneOf, as_number, as_text, NamesUnit, text_of_number}
 use Rattle.kmip_ttlv_laws.proofs.Known.{Known, finds_stored, finds_left, finds_less, finds_unknown, is_without, left, said, spared, spares}
 use Rattle.kmip_ttlv_laws.proofs.MessageParts.{IsUnit, PartAgrees, PartsAgree, ends, first_of, head_or, run_ends, unit_agrees, unlike, wrapped_unit}
+use Rattle.kmip_ttlv_base.specs.Visits as visits
 
 -- ---- what is kept
 
@@ -71,11 +63,10 @@ enumeration_stored {tag = tag} {name = name} {vs = vs} {t = t} takes u =
 pub stored_then : {known : List Known} {name : List ℕ} {s : Form} {fs : Fields} {w v : Value} {ws vs : Values} {x : Head} {y : Option Head} {r : TagValue}
     → is_field_of name s x ≡ true → is_run v ≡ false → PartKeeps s w x v r → PartsAgree (record { tag = r.tag; text = Some r.text } ∷ known) fs ws y vs
     → PartsAgree known (field name s fs) (value w ws) (Some x) (value v vs)
-stored_then {known} {v = v} {x = x} {y = y} {r = r} named single p rest =
-    record {
-      stored = λ k. rest.stored (k ++ r ∷ []);
-      agrees = λ k found. field_agrees named (ends v x y single) (p.agrees k) (rest.agrees (k ++ r ∷ []) (finds_stored known k r found));
-    }
+stored_then {known} {v = v} {x = x} {y = y} {r = r} named single p rest = record {
+  stored = λ k. rest.stored (k ++ r ∷ []);
+  agrees = λ k found. field_agrees named (ends v x y single) (p.agrees k) (rest.agrees (k ++ r ∷ []) (finds_stored known k r found));
+}
 
 -- one that may be absent: then nothing is known of its tag
 pub optional_stored_then : {T : Type 0} {P : T → Type 0} {known : List Known} {name : List ℕ} {s : Form} {fs : Fields} {ws vs : Values}
@@ -135,12 +126,11 @@ chosen_by_type at chooses p = record { stored = p.stored; agrees = λ k. rule_ag
 pub choice_then : {known : List Known} {tag : ℕ} {text : List ℕ} {name : List ℕ} {s : Form} {fs : Fields} {w v : Value} {ws vs : Values} {x : Head}
     {y : Option Head} → said known tag ≡ Some text → is_field_of name s x ≡ true → is_run v ≡ false → PartAfter tag text s w x v
     → PartsAgree (left known x.tag s) fs ws y vs → PartsAgree known (field name s fs) (value w ws) (Some x) (value v vs)
-choice_then {known = all} {tag = tag} {text = text} {v = v} {x = x} {y = y} known named single p rest =
-    record {
-      stored = λ k. rest.stored (p.stored k);
-      agrees = λ k found. let a = p.agrees k (found tag text known) in
-          field_agrees named (ends v x y single) a (rest.agrees (p.stored k) (finds_left all a found));
-    }
+choice_then {known = all} {tag = tag} {text = text} {v = v} {x = x} {y = y} known named single p rest = record {
+  stored = λ k. rest.stored (p.stored k);
+  agrees = λ k found. let a = p.agrees k (found tag text known) in
+      field_agrees named (ends v x y single) a (rest.agrees (p.stored k) (finds_left all a found));
+}
 
 -- one that is chosen by a part that may be absent, where that is there
 pub choice_if_there_then : {S : Type 0} {C : S → Type 0} {known : List Known} {tag : ℕ} {name : List ℕ} {s : Form} {fs : Fields} {w v : Value} {ws vs : Values}
@@ -211,12 +201,11 @@ sequence_after {C = C} {P = P} {tag = tag} {text = text} {s = s} {x = x} f g t t
 run_choice_then : {known : List Known} {tag : ℕ} {text : List ℕ} {name : List ℕ} {s : Form} {fs : Fields} {w v : Value} {ws vs : Values} {x : Head}
     {y : Option Head} → said known tag ≡ Some text → is_field_of name s x ≡ true → is_alike x y ≡ false → PartAfter tag text s w x v
     → PartsAgree (left known x.tag s) fs ws y vs → PartsAgree known (field name s fs) (value w ws) (Some x) (value v vs)
-run_choice_then {known = all} {tag = tag} {text = text} {v = v} {x = x} {y = y} known named other p rest =
-    record {
-      stored = λ k. rest.stored (p.stored k);
-      agrees = λ k found. let a = p.agrees k (found tag text known) in
-          field_agrees named (run_ends v x y other) a (rest.agrees (p.stored k) (finds_left all a found));
-    }
+run_choice_then {known = all} {tag = tag} {text = text} {v = v} {x = x} {y = y} known named other p rest = record {
+  stored = λ k. rest.stored (p.stored k);
+  agrees = λ k found. let a = p.agrees k (found tag text known) in
+      field_agrees named (run_ends v x y other) a (rest.agrees (p.stored k) (finds_left all a found));
+}
 
 -- one or more that are chosen by a text that is known, also the last part; none keeps another under its tag
 pub several_choice_then : {T : Type 0} {C P : T → Type 0} {known : List Known} {tag : ℕ} {text : List ℕ} {name : List ℕ} {s : Form} {fs : Fields}

@@ -1,14 +1,10 @@
 -- Bytes encode at most one tree.
 use Rattle.std.proofs.Common.{◌≡◌, ℕ, true, List, [], ◌++◌, length, take, drop, refl, sym, ap, subst, ◌∙◌, arith}
 use Rattle.std.proofs.lemmas.List.{drop_at, length-append, take_at}
-use Rattle.kmip_ttlv_types.specs.declared.typ.TtlvType.{TtlvType}
-use Rattle.kmip_ttlv_types.specs.declared.typ.TtlvType.TheVariants.{Structure}
-use Rattle.kmip_ttlv_types.specs.Leaves.{is_valid}
-use Rattle.kmip_ttlv_types.specs.Items.{IsTextOf, Raw}
-use Rattle.kmip_ttlv_types.specs.Places.{size}
+use Rattle.kmip_ttlv_types.specs.{declared.typ.TtlvType.TtlvType, declared.typ.TtlvType.TheVariants.Structure, Leaves.is_valid, Items.IsTextOf, Items.Raw}
+use Rattle.kmip_ttlv_types.specs.{Places.size}
 use Rattle.kmip_ttlv_types.specs.Trees.{AreTreeTexts, IsTreeText, Tree, Trees, leaf, no_trees, node, tree}
-use Rattle.kmip_ttlv_laws.proofs.Roots.{one_item, text_length}
-use Rattle.kmip_ttlv_laws.proofs.TreeTexts.{one_of_text}
+use Rattle.kmip_ttlv_laws.proofs.{Roots.one_item, Roots.text_length, TreeTexts.one_of_text}
 
 -- a leaf is no Structure
 leaf_apart : (typ : TtlvType) (content : List ℕ) → is_valid typ content ≡ true → typ ≡ Structure → ⊥
@@ -31,8 +27,7 @@ fronts t u a b r s h k e =
     let same : x.0 ≡ y.0 = one_item x.0 y.0 a b r s x.1 y.1 e in
     let long : length b ≡ length a = text_length y.0 b y.1 ∙ ap (λ (z : Raw). size z.typ (length z.content)) (sym same) ∙ sym (text_length x.0 a x.1) in (
       sym (take_at a r (length a) refl) ∙ ap (take (length a)) e ∙ take_at b s (length a) long,
-      sym (drop_at a r (length a) refl) ∙ ap (drop (length a)) e
-          ∙ drop_at b s (length a) long,
+      sym (drop_at a r (length a) refl) ∙ ap (drop (length a)) e ∙ drop_at b s (length a) long,
     )
 
 -- at most one tree has this encoding
@@ -47,15 +42,13 @@ mutual
   tree_same (leaf tag typ content) (node tag' below) a h k =
       absurd (leaf_apart typ content h.0 (ap (λ (x : Raw). x.typ) (one_of_text record { tag = tag; typ = typ; content = content } record {
         tag = tag';
-        typ =
-            Structure;
+        typ = Structure;
         content = k.0;
       } a h.1 k.1)))
   tree_same (node tag below) (leaf tag' typ content) a h k =
       absurd (leaf_apart typ content k.0 (ap (λ (x : Raw). x.typ) (one_of_text record { tag = tag'; typ = typ; content = content } record {
         tag = tag;
-        typ =
-            Structure;
+        typ = Structure;
         content = h.0;
       } a k.1 h.1)))
   tree_same (node tag below) (node tag' below') a h k =

@@ -1,17 +1,13 @@
 -- Items that are the same but for padding are decoded alike.
 use Rattle.std.proofs.Common.{◌≡◌, ℕ, Bool, true, List, [], ◌∷◌, ◌++◌, refl, sym, ap, subst, ◌∙◌}
-use Rattle.kmip_ttlv_types.specs.declared.typ.TtlvType.{TtlvType}
-use Rattle.kmip_ttlv_types.specs.declared.typ.TtlvType.TheVariants.{Structure}
-use Rattle.kmip_ttlv_types.specs.Leaves.{is_valid}
-use Rattle.kmip_ttlv_types.specs.Items.{Raw, Splits}
+use Rattle.kmip_ttlv_types.specs.{declared.typ.TtlvType.TtlvType, declared.typ.TtlvType.TheVariants.Structure, Leaves.is_valid, Items.Raw, Items.Splits}
 use Rattle.kmip_ttlv_base.specs.Forms.{Form, Fields, Variants, Content, Forms, struct, seq, enum, tuple}
 use Rattle.kmip_ttlv_base.specs.Values.{Value, Values, seq_value, struct_value, tuple_variant_value, unit_variant_value, value}
 use Rattle.kmip_ttlv_types.proofs.PlaceLemmas.{splits_one}
-use Rattle.kmip_ttlv_reader.specs.TagValues.{TagValue}
+use Rattle.kmip_ttlv_reader.specs.{TagValues.TagValue, Rules.choice, Rules.chosen}
 use Rattle.kmip_ttlv_reader.specs.Reads.{Reads, ReadsContent, ReadsField, ReadsFields, ReadsForms, ReadsRun, ReadsVariant, absent, by_number, by_rule, done}
 use Rattle.kmip_ttlv_reader.specs.Reads.{ends, here, inner, is_like, leaf, decoded_leaf, may_follow, may_ignore, more, named, names, next, no_part, number_text}
 use Rattle.kmip_ttlv_reader.specs.Reads.{part, parts, run, structure, there, whole, stored_after_leaf, wrap, wrap_some}
-use Rattle.kmip_ttlv_reader.specs.Rules.{choice, chosen}
 use Rattle.kmip_ttlv_laws.specs.Padding.{AllSameButPadding, SameButPadding, both_go_on, both_end, equal_items, split_alike}
 
 -- the relation is reflexive and symmetric

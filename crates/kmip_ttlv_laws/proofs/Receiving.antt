@@ -1,8 +1,7 @@
 -- What a visitor is told of a structure, part by part: the answer that `visit` of a structure of many parts needs.
 use Rattle.std.proofs.Common.{◌≡◌, sym, subst, FitsSigned, List, ℕ, ℤ}
 use Rattle.std.proofs.lemmas.Int.{to_z-of_z}
-use Rattle.std.specs.Int.{Width}
-use Rattle.std.specs.Prelude.{Option, option_map}
+use Rattle.std.specs.{Int.Width, Prelude.Option, Prelude.option_map}
 use Rattle.kmip_ttlv_messages.specs.MessageParts.{by_bits}
 use Rattle.kmip_ttlv_base.specs.Values.{Value, Values, newtype_value, no_values, struct_value, value}
 use Rattle.kmip_ttlv_base.specs.Visits.{Event, Receives, ReceivesEach, ReceivesEvent, a_struct, begun, ended, joined, optional_field, visited}

@@ -2,11 +2,8 @@
 use Rattle.std.proofs.Common.{sym, subst, ℕ, List, [], Result, Ok, Err}
 use Rattle.std.specs.Prelude.{IfOk, IfErr}
 use Rattle.std.proofs.lemmas.List.{append-nil}
-use Rattle.kmip_ttlv_base.specs.declared.error.Error.{Error}
-use Rattle.kmip_ttlv_base.specs.Errors.{Kind, io_error, exceeds_limit, malformed, mismatch, out_of_memory, length_overflow}
-use Rattle.kmip_ttlv_base.specs.Errors.{view_of_kind, kind_of}
-use Rattle.kmip_ttlv_base.specs.Forms.{Form}
-use Rattle.kmip_ttlv_base.specs.Values.{Value}
+use Rattle.kmip_ttlv_base.specs.{declared.error.Error.Error, Forms.Form, Values.Value}
+use Rattle.kmip_ttlv_base.specs.Errors.{Kind, io_error, exceeds_limit, malformed, mismatch, out_of_memory, length_overflow, view_of_kind, kind_of}
 use Rattle.kmip_ttlv_reader.specs.Reads.{Begins}
 use Rattle.kmip_ttlv_reader.specs.ReadResults.{ErrorStands, NothingBegins, sort_of_kind}
 use Rattle.kmip_ttlv_laws.specs.Rereads.{IsOfSize}
@@ -29,8 +26,7 @@ decoding_fails (exceeds_limit x) s bytes v b n = absurd (n [] v (subst (λ all. 
 decoding_fails (malformed x) s bytes v b n = absurd (n [] v (subst (λ all. Begins s all v) (sym (append-nil bytes)) b))
 decoding_fails (mismatch x) s bytes v b n = absurd (n [] v (subst (λ all. Begins s all v) (sym (append-nil bytes)) b))
 
-pub if_decoding_fails :
-    {T A : Type 0} {s : Form} {bytes : List ℕ} (r : Result T (Error A))
+pub if_decoding_fails : {T A : Type 0} {s : Form} {bytes : List ℕ} (r : Result T (Error A))
     → ((v : Value) × Begins s bytes v)
     → IfErr r (λ e. ErrorStands s bytes e)
     → IfErr r (λ e. IsOfSize (view_of_kind (kind_of e)))

@@ -1,19 +1,12 @@
 -- Leaves and unit variants that were encoded are decoded again.
 use Rattle.std.proofs.Common.{◌≡◌, ℕ, ℤ, Bool, true, false, List, [], ◌∷◌, Option, Some, refl, ap, subst, ◌∙◌, FitsSigned, arith}
 use Rattle.std.specs.Int.{w32, w64, to_be_bytes, from_be_bytes, cast_signed, cast_unsigned}
-use Rattle.std.proofs.lemmas.Int.{to_z-of_z}
-use Rattle.std.proofs.lemmas.Nat.{from_be_bytes-to_be_bytes_4, from_be_bytes-to_be_bytes_8}
-use Rattle.std.proofs.Math.Facts.{Fits-of_z}
-use Rattle.kmip_ttlv_types.specs.declared.typ.TtlvType.TheVariants.{Enumeration}
-use Rattle.kmip_ttlv_types.specs.Leaves.{is_valid}
-use Rattle.kmip_ttlv_types.specs.Items.{Raw}
-use Rattle.kmip_ttlv_types.specs.Trees.{leaf as leaf_tree}
+use Rattle.std.proofs.{lemmas.Int.to_z-of_z, lemmas.Nat.from_be_bytes-to_be_bytes_4, lemmas.Nat.from_be_bytes-to_be_bytes_8, Math.Facts.Fits-of_z}
+use Rattle.kmip_ttlv_types.specs.{declared.typ.TtlvType.TheVariants.Enumeration, Leaves.is_valid, Items.Raw, Trees.leaf as leaf_tree, Primitives.sign_extended}
 use Rattle.kmip_ttlv_base.specs.Forms.{Form, int32, int64, boolean, text, octets, date_time, interval, big_integer, any_number}
 use Rattle.kmip_ttlv_base.specs.Values.{Value, boolean_value, i8_value, i16_value, i32_value, u32_value, i64_value, u64_value, date_time_value, interval_value}
 use Rattle.kmip_ttlv_base.specs.Values.{text_value, bytes_value, big_integer_value, unit_variant_value}
-use Rattle.kmip_ttlv_ser.specs.declared.pending.PendingTag.{PendingTag}
-use Rattle.kmip_ttlv_ser.specs.declared.pending.PendingTag.TheVariants.{Plain}
-use Rattle.kmip_ttlv_types.specs.Primitives.{sign_extended}
+use Rattle.kmip_ttlv_ser.specs.declared.pending.PendingTag.{PendingTag, TheVariants.Plain}
 use Rattle.kmip_ttlv_ser.specs.WrittenItems.{pending_tag, items, enumeration, one_leaf, ◌>>=◌}
 use Rattle.kmip_ttlv_reader.specs.TagValues.{TagValue}
 use Rattle.kmip_ttlv_reader.specs.Reads.{Reads, leaf, by_number, decoded_leaf, takes, stored_after_leaf}

@@ -1,8 +1,6 @@
 -- What a root form reads from.
 use Rattle.std.proofs.Common.{◌≡◌, true, List, ◌∷◌}
-use Rattle.kmip_ttlv_types.specs.Items.{Raw}
-use Rattle.kmip_ttlv_types.specs.declared.typ.TtlvType.{TtlvType}
-use Rattle.kmip_ttlv_types.specs.declared.typ.TtlvType.TheVariants.{Structure}
+use Rattle.kmip_ttlv_types.specs.{Items.Raw, declared.typ.TtlvType.TtlvType, declared.typ.TtlvType.TheVariants.Structure}
 use Rattle.kmip_ttlv_base.specs.Forms.{Form, struct, option, seq, newtype, enum, int32, int64, boolean, text, octets, date_time, interval, big_integer}
 use Rattle.kmip_ttlv_base.specs.Forms.{any_number}
 use Rattle.kmip_ttlv_base.specs.Values.{Value}

@@ -2,19 +2,15 @@
 use Rattle.std.proofs.Common.{◌≡◌, ℕ, true, ◌+◌, List, [], ◌∷◌, ◌++◌, length, take, drop, Some, refl, sym, ap, subst, ◌∙◌, append_assoc, append-nil, arith}
 use Rattle.std.specs.Prelude.{◌↔◌}
 use Rattle.std.proofs.lemmas.List.{length-append, length-take-le, take_at, take-append-drop}
-use Rattle.kmip_ttlv_types.specs.Items.{Raw, IsTextOf}
+use Rattle.kmip_ttlv_types.specs.{Items.Raw, Items.IsTextOf, declared.typ.TtlvType.TheVariants.Structure, declared.typ.TtlvType.TtlvType}
 use Rattle.kmip_ttlv_types.specs.Places.{ItemAt, length_at, size}
 use Rattle.kmip_ttlv_types.specs.Trees.{bytes, bytes_all, raw_of}
-use Rattle.kmip_ttlv_types.specs.declared.typ.TtlvType.TheVariants.{Structure}
-use Rattle.kmip_ttlv_types.specs.declared.typ.TtlvType.{TtlvType}
-use Rattle.kmip_ttlv_base.specs.Forms.{Form}
-use Rattle.kmip_ttlv_base.specs.Values.{Value}
+use Rattle.kmip_ttlv_base.specs.{Forms.Form, Values.Value}
 use Rattle.kmip_ttlv_reader.proofs.Standing.{length_more}
 use Rattle.kmip_ttlv_types.proofs.PlaceLemmas.{item_at_text, item_one}
 use Rattle.kmip_ttlv_reader.specs.TagValues.{TagValue}
 use Rattle.kmip_ttlv_reader.specs.Reads.{Begins, Reads, is_root}
-use Rattle.kmip_ttlv_ser.specs.declared.pending.PendingTag.TheVariants.{Nothing}
-use Rattle.kmip_ttlv_ser.specs.Sizes.{FitsAfter}
+use Rattle.kmip_ttlv_ser.specs.{declared.pending.PendingTag.TheVariants.Nothing, Sizes.FitsAfter}
 use Rattle.kmip_ttlv_laws.proofs.RootForms.{root_structure}
 use Rattle.kmip_ttlv_laws.proofs.Padding.{reads_same, turned, types_same}
 use Rattle.kmip_ttlv_laws.specs.Padding.{AllSameButPadding, SameButPadding, both_end, both_go_on}
@@ -27,8 +23,7 @@ text_length x a t = ap length t.parts ∙ omega (arith, length-append x.content 
 
 -- at most one item has an encoding at the front of the same bytes
 pub one_item : (x y : Raw) (a b after other : List ℕ) → IsTextOf x a → IsTextOf y b → a ++ after ≡ b ++ other → x ≡ y
-one_item x y a b after other p q e =
-    item_one (a ++ after) 0 x y
+one_item x y a b after other p q e = item_one (a ++ after) 0 x y
     (item_at_text (a ++ after) 0 x a after (omega arith) refl p)
     (item_at_text (a ++ after) 0 y b other (omega arith) e q)
 
@@ -46,19 +41,17 @@ root_of_begins s x text after v t g =
     subst (λ (y : Raw). ReadsRoot s y v) same record { root = g.root; is_structure = g.is_structure; stored = g.stored; reads = g.reads }
 
 begins_of_root : (s : Form) (x : Raw) (text after : List ℕ) (v : Value) → IsTextOf x text → ReadsRoot s x v → Begins s (text ++ after) v
-begins_of_root s x text after v t r =
-    record {
-      root = r.root;
-      item = x;
-      item_text = text;
-      after = after;
-      stored = r.stored;
-      is_text = t;
-      is_structure = r.is_structure;
-      parts =
-          refl;
-      reads = r.reads;
-    }
+begins_of_root s x text after v t r = record {
+  root = r.root;
+  item = x;
+  item_text = text;
+  after = after;
+  stored = r.stored;
+  is_text = t;
+  is_structure = r.is_structure;
+  parts = refl;
+  reads = r.reads;
+}
 
 pub later_bytes : LaterBytes
 later_bytes s x text after other v t =
@@ -92,8 +85,7 @@ message_alone s w after v le = (there, back)
         let e : take (8 + length_at w 0) w ≡ g.item_text = front_text w g.item g.item_text g.after g.parts g.is_structure g.is_text in
         let h : Begins s (g.item_text ++ after) v = begins_of_root s g.item g.item_text after v g.is_text record {
           root = g.root;
-          is_structure =
-              g.is_structure;
+          is_structure = g.is_structure;
           stored = g.stored;
           reads = g.reads;
         } in
@@ -118,8 +110,7 @@ message_alone s w after v le = (there, back)
         let same : g.item_text ≡ front = sym e ∙ ap (λ k. take (8 + k) (front ++ after)) len_same ∙ take_at front after (8 + length_at w 0) long in
         let text : IsTextOf g.item front = subst (IsTextOf g.item) same g.is_text in
         let h : Begins s (front ++ drop (8 + length_at w 0) w) v = begins_of_root s g.item front (drop (8 + length_at w 0) w) v text record {
-          root =
-              g.root;
+          root = g.root;
           is_structure = g.is_structure;
           stored = g.stored;
           reads = g.reads;
@@ -132,8 +123,7 @@ begins_alone s x text after v e t = (
   λ g. let r = root_of_begins s x text after v t g in (r.stored, r.reads),
   λ r. begins_of_root s x text after v t record {
     root = e;
-    is_structure =
-        root_structure e r.1;
+    is_structure = root_structure e r.1;
     stored = r.0;
     reads = r.1;
   },

@@ -38,8 +38,7 @@ mutual
       record {
         one = record { tag = tag; typ = Structure; content = h.0 };
         two = record { tag = tag; typ = Structure; content = k.0 };
-        one_text =
-            h.1;
+        one_text = h.1;
         two_text = k.1;
         alike = split_alike refl refl refl p.ones_split p.twos_split p.all_alike;
       }
@@ -53,8 +52,7 @@ mutual
         ones = p.one ∷ q.ones;
         twos = p.two ∷ q.twos;
         ones_split = (h.0, h.1, p.one_text, h.2, q.ones_split);
-        twos_split =
-            (k.0, k.1, p.two_text, k.2, q.twos_split);
+        twos_split = (k.0, k.1, p.two_text, k.2, q.twos_split);
         all_alike = both_go_on p.alike q.all_alike;
       }
 

@@ -43,8 +43,7 @@ options_agree =
     let second = inner_agrees (newtype_wraps refl refl) (leaf_agrees refl (as_int32 five_fits)) in (
       _,
       _,
-      struct_agrees refl (struct_encodes refl)
-          (nothing_agrees (absent_agrees refl
+      struct_agrees refl (struct_encodes refl) (nothing_agrees (absent_agrees refl
           (field_agrees refl refl (option_agrees first)
           (field_agrees refl refl second no_field_agrees)))),
     )
@@ -55,8 +54,7 @@ algorithm_agrees : PartAgrees attribute_form (written_attribute (codes "Cryptogr
     (unit_variant_value (codes "algorithm") (codes "0x00000003")))
 unfolding take_tag tag_of number transparent_name override_name pending_after is_wrapper rule sides equal at_least member in_brackets trim_end chars
     trim_start encode
-algorithm_agrees =
-    structure refl refl (
+algorithm_agrees = structure refl refl (
     stored_then refl refl (wrapped_text_stored (newtype_wraps refl refl) refl algorithm_utf8) (
     choice_then {tag = 0x42000A} refl refl refl (chosen_after first_variant (λ k found. rw found refl) (
     wrapped_unit (variant_wraps refl refl) (unit_is_numbered refl refl) refl (λ k. record { no_rule = refl; named = refl }))) nothing_left))
@@ -66,8 +64,7 @@ length_agrees : PartAgrees attribute_form (written_attribute (codes "Cryptograph
     (read_attribute (codes "Cryptographic Length") (codes "if 0x42000A in [Cryptographic Length, Cryptographic Usage Mask]") (i32_value (pos 128)))
 unfolding take_tag tag_of number transparent_name override_name pending_after is_wrapper rule sides equal at_least member in_brackets trim_end chars
     trim_start encode
-length_agrees =
-    structure refl refl (
+length_agrees = structure refl refl (
     stored_then refl refl (wrapped_text_stored (newtype_wraps refl refl) refl length_utf8) (
     choice_then {tag = 0x42000A} refl refl refl (chosen_after (later_variant first_variant) (λ k found. rw found refl) (
     wrapped_leaf (variant_wraps refl refl) refl (as_int32 bits_fit))) nothing_left))
@@ -77,18 +74,15 @@ both : List (Value × Value)
 both = (
   written_attribute (codes "Cryptographic Algorithm") (unit_variant_value (codes "420028") (codes "0x00000003")),
   read_attribute (codes "Cryptographic Algorithm") (codes "if 0x42000A==Cryptographic Algorithm") (unit_variant_value (codes "algorithm") (codes "0x00000003")),
+) ∷ (
+  written_attribute (codes "Cryptographic Length") (i32_value (pos 128)),
+  read_attribute (codes "Cryptographic Length") (codes "if 0x42000A in [Cryptographic Length, Cryptographic Usage Mask]") (i32_value (pos 128)),
 )
-    ∷ (
-      written_attribute (codes "Cryptographic Length") (i32_value (pos 128)),
-      read_attribute (codes "Cryptographic Length") (codes "if 0x42000A in [Cryptographic Length, Cryptographic Usage Mask]") (i32_value (pos 128)),
-    )
     ∷ []
 
 pub attributes_agree : AttributesAgree
 unfolding take_tag tag_of number transparent_name both
-attributes_agree =
-    message (newtype_structure refl refl refl (
-    last_then refl (
+attributes_agree = message (newtype_structure refl refl refl (last_then refl (
     sequence_part (λ p. p.0) (λ p. p.1) both (lit< tt) (algorithm_agrees, refl, (length_agrees, refl, tt)))))
 
 -- an integer under its tag

@@ -6,7 +6,8 @@ use Rattle.kmip_ttlv.specs.Returns.{as_boolean, as_date_time, as_int32, as_int64
 use Rattle.kmip_ttlv.specs.Rules.{at_least, equal, in_brackets, member, rule, sides}
 use Rattle.kmip_ttlv.specs.Values.{big_integer_value, boolean_value, bytes_value, interval_value, newtype_value, text_value}
 use Rattle.kmip_ttlv.specs.WrittenItems.{is_wrapper, pending_after, take_tag}
-use Rattle.kmip_ttlv_laws.proofs.MessageParts.{IsUnit, PartAgrees, a_structure, all_agree, any_then, as_whole, enumeration_part, every_agrees, first_of}
+use Rattle.kmip_ttlv_laws.proofs.MessageParts.{IsUnit, PartAgrees, a_big_integer, a_boolean, a_byte_string, a_structure, a_text_string, all_agree}
+use Rattle.kmip_ttlv_laws.proofs.MessageParts.{an_enumeration, an_integer, an_interval, any_then, as_whole, enumeration_part, every_agrees, first_of}
 use Rattle.kmip_ttlv_laws.proofs.MessageParts.{if_present, leaf_part, leaf_then, message, nothing_behind, nothing_left, option_behind, optional_same_then}
 use Rattle.kmip_ttlv_laws.proofs.MessageParts.{optional_then, part_then, present, present_as, structure, text_is_utf8}
 use Rattle.kmip_ttlv_laws.proofs.MessageRules.{PartAfter, any_choice_then, chosen_after, chosen_by_type, optional_choice_then, overridden_leaf, stored_then}
@@ -21,113 +22,86 @@ use Rattle.ttlv_vectors.specs.Leaves.{numbers_form, numbers_value, moments_form,
 use Rattle.ttlv_vectors.specs.Leaves.{written_optional_contents, read_optional_contents, kind_form, kind_value, kind_number, kind_variants}
 use Rattle.ttlv_vectors.specs.Soundness.{IsNumbers, IsMoments, IsContents, IsOptionalContents, IsCount, IsSaid, IsNamed, IsChosen, IsMaximumItems}
 use Rattle.ttlv_vectors.specs.Soundness.{IsLocateRequestPayload, IsOperation, IsQueryResponsePayload, IsResultReason, IsFailedItem}
-use Rattle.ttlv_vectors.specs.declared.leaves.Numbers.{Numbers}
-use Rattle.ttlv_vectors.specs.declared.leaves.Moments.{Moments}
-use Rattle.ttlv_vectors.specs.declared.leaves.Contents.{Contents}
-use Rattle.ttlv_vectors.specs.declared.leaves.OptionalContents.{OptionalContents}
-use Rattle.ttlv_vectors.specs.declared.leaves.Kind.{Kind}
+use Rattle.ttlv_vectors.specs.declared.leaves.{Numbers.Numbers, Moments.Moments, Contents.Contents, OptionalContents.OptionalContents, Kind.Kind}
 use Rattle.ttlv_vectors.specs.declared.leaves.Kind.TheVariants as kind
 use Rattle.ttlv_vectors.specs.Chosens.{word_form, word_value, line_form, line_value, count_form, count_value, said_form, written_said, read_said, said_content}
 use Rattle.ttlv_vectors.specs.Chosens.{named_form, written_named, read_named, ChoosesNamed, named_content, label_form, label_value, address_form, address_value}
 use Rattle.ttlv_vectors.specs.Chosens.{place_form, written_place, read_place, ChoosesPlace, chosen_form, written_chosen, read_chosen}
-use Rattle.ttlv_vectors.specs.declared.chosen.Word.{Word}
-use Rattle.ttlv_vectors.specs.declared.chosen.Line.{Line}
-use Rattle.ttlv_vectors.specs.declared.chosen.Count.{Count}
-use Rattle.ttlv_vectors.specs.declared.chosen.Said.{Said}
+use Rattle.ttlv_vectors.specs.declared.chosen.{Word.Word, Line.Line, Count.Count, Said.Said, Named.Named, Label.Label, Address.Address, Place.Place}
+use Rattle.ttlv_vectors.specs.declared.chosen.{Chosen.Chosen}
 use Rattle.ttlv_vectors.specs.declared.chosen.Said.TheVariants as said
-use Rattle.ttlv_vectors.specs.declared.chosen.Named.{Named}
 use Rattle.ttlv_vectors.specs.declared.chosen.Named.TheVariants as named
-use Rattle.ttlv_vectors.specs.declared.chosen.Label.{Label}
-use Rattle.ttlv_vectors.specs.declared.chosen.Address.{Address}
-use Rattle.ttlv_vectors.specs.declared.chosen.Place.{Place}
 use Rattle.ttlv_vectors.specs.declared.chosen.Place.TheVariants as place
-use Rattle.ttlv_vectors.specs.declared.chosen.Chosen.{Chosen}
 use Rattle.ttlv_vectors.specs.Queries.{maximum_items_form, maximum_items_value, text_attribute_form, text_attribute_value, locate_request_payload_form}
-use Rattle.ttlv_vectors.specs.Queries.{written_locate_request_payload, read_locate_request_payload, operation_form, written_operation, read_operation}
-use Rattle.ttlv_vectors.specs.Queries.{operation_number, object_type_form, object_type_value, object_type_number, object_type_variants}
-use Rattle.ttlv_vectors.specs.Queries.{application_namespace_form, application_namespace_value, query_response_payload_form, written_query_response_payload}
-use Rattle.ttlv_vectors.specs.Queries.{read_query_response_payload, returned_query_response_payload, result_reason_form, written_result_reason}
-use Rattle.ttlv_vectors.specs.Queries.{read_result_reason, result_reason_number, result_status_form, result_status_value, result_status_number}
-use Rattle.ttlv_vectors.specs.Queries.{result_status_variants, failed_item_form, written_failed_item, read_failed_item, returned_failed_item}
-use Rattle.ttlv_vectors.specs.declared.query.MaximumItems.{MaximumItems}
-use Rattle.ttlv_vectors.specs.declared.query.TextAttribute.{TextAttribute}
-use Rattle.ttlv_vectors.specs.declared.query.LocateRequestPayload.{LocateRequestPayload}
-use Rattle.ttlv_vectors.specs.declared.query.Operation.{Operation}
-use Rattle.ttlv_vectors.specs.declared.query.ObjectType.{ObjectType}
+use Rattle.ttlv_vectors.specs.Queries.{written_locate_request_payload, read_locate_request_payload, operation_form, written_operation, object_type_form}
+use Rattle.ttlv_vectors.specs.Queries.{object_type_value, object_type_number, object_type_variants, application_namespace_form, application_namespace_value}
+use Rattle.ttlv_vectors.specs.Queries.{query_response_payload_form, written_query_response_payload, returned_query_response_payload, result_reason_form}
+use Rattle.ttlv_vectors.specs.Queries.{written_result_reason, result_status_form, result_status_value, result_status_number, result_status_variants}
+use Rattle.ttlv_vectors.specs.Queries.{failed_item_form, written_failed_item, returned_failed_item}
+use Rattle.ttlv_vectors.specs.declared.query.{MaximumItems.MaximumItems, TextAttribute.TextAttribute, LocateRequestPayload.LocateRequestPayload}
+use Rattle.ttlv_vectors.specs.declared.query.{Operation.Operation, ObjectType.ObjectType, ApplicationNamespace.ApplicationNamespace}
+use Rattle.ttlv_vectors.specs.declared.query.{QueryResponsePayload.QueryResponsePayload, ResultReason.ResultReason, ResultStatus.ResultStatus}
+use Rattle.ttlv_vectors.specs.declared.query.{FailedItem.FailedItem}
 use Rattle.ttlv_vectors.specs.declared.query.ObjectType.TheVariants as object_type
-use Rattle.ttlv_vectors.specs.declared.query.ApplicationNamespace.{ApplicationNamespace}
-use Rattle.ttlv_vectors.specs.declared.query.QueryResponsePayload.{QueryResponsePayload}
-use Rattle.ttlv_vectors.specs.declared.query.ResultReason.{ResultReason}
-use Rattle.ttlv_vectors.specs.declared.query.ResultStatus.{ResultStatus}
 use Rattle.ttlv_vectors.specs.declared.query.ResultStatus.TheVariants as result_status
-use Rattle.ttlv_vectors.specs.declared.query.FailedItem.{FailedItem}
 
 pub numbers_agrees : (x : Numbers) → IsNumbers x → PartAgrees numbers_form (numbers_value x) (a_structure 0x540001) (numbers_value x)
 unfolding take_tag tag_of number transparent_name rule numbers_value
 numbers_agrees x is =
-    structure refl refl (
-    leaf_then refl refl refl refl (as_int32 is.0) (
-    leaf_then refl refl refl refl (as_int64 is.1) nothing_left))
+    structure refl refl (leaf_then refl refl refl refl (as_int32 is.0) (leaf_then refl refl refl refl (as_int64 is.1) nothing_left))
 
 pub moments_agrees : (x : Moments) → IsMoments x → PartAgrees moments_form (moments_value x) (a_structure 0x540009) (moments_value x)
 unfolding take_tag tag_of number transparent_name rule moments_value
 moments_agrees x is =
-    structure refl refl (
-    leaf_then refl refl refl refl (as_date_time is.0) (
-    leaf_then refl refl refl refl (as_boolean) (
+    structure refl refl (leaf_then refl refl refl refl (as_date_time is.0) (leaf_then refl refl refl refl (as_boolean) (
     leaf_then refl refl refl refl (as_interval is.1) nothing_left)))
 
 pub contents_agrees : {A : Type 0} (x : Contents A) → IsContents x → PartAgrees contents_form (contents_value x) (a_structure 0x540020) (contents_value x)
 unfolding take_tag tag_of number transparent_name rule contents_value
 contents_agrees x is =
-    structure refl refl (
-    leaf_then refl refl refl refl (as_text (text_is_utf8 x.text)) (
-    leaf_then refl refl refl refl (as_octets) (
+    structure refl refl (leaf_then refl refl refl refl (as_text (text_is_utf8 x.text)) (leaf_then refl refl refl refl (as_octets) (
     leaf_then refl refl refl refl (as_whole x.big.items is) nothing_left)))
 
 pub optional_contents_agrees : {A : Type 0} (x : OptionalContents A) → IsOptionalContents x
     → PartAgrees optional_contents_form (written_optional_contents x) (a_structure 0x540030) (read_optional_contents x)
 unfolding take_tag tag_of number transparent_name rule written_optional_contents read_optional_contents
 optional_contents_agrees x is =
-    let b1 = option_behind x.big record { tag = 0x540023; typ = types.BigInteger } nothing_behind in
-    let b2 = option_behind x.bytes record { tag = 0x540022; typ = types.ByteString } b1 in
-    let b3 = option_behind x.text record { tag = 0x540021; typ = types.TextString } b2 in
-    let b4 = option_behind x.seconds record { tag = 0x540006; typ = types.Interval } b3 in
+    let b1 = option_behind x.big (a_big_integer 0x540023) nothing_behind in
+    let b2 = option_behind x.bytes (a_byte_string 0x540022) b1 in
+    let b3 = option_behind x.text (a_text_string 0x540021) b2 in
+    let b4 = option_behind x.seconds (an_interval 0x540006) b3 in
     structure refl refl (
-    optional_same_then (λ y. newtype_value (codes "Transparent:0x540005") (boolean_value y)) record { tag = 0x540005; typ = types.Boolean } x.truth refl
+    optional_same_then (λ y. newtype_value (codes "Transparent:0x540005") (boolean_value y)) (a_boolean 0x540005) x.truth refl
     (b4.other (codes "0x540005") refl) (present (λ y. leaf_part refl refl (as_boolean)) (λ y. refl) x.truth) (
-    optional_same_then (λ y. newtype_value (codes "Transparent:0x540006") (interval_value y)) record { tag = 0x540006; typ = types.Interval } x.seconds refl
+    optional_same_then (λ y. newtype_value (codes "Transparent:0x540006") (interval_value y)) (an_interval 0x540006) x.seconds refl
     (b3.other (codes "0x540006") refl) (if_present (λ y is. leaf_part refl refl (as_interval is)) (λ y. refl) x.seconds is.0) (
-    optional_same_then (λ y. newtype_value (codes "Transparent:0x540021") (text_value (string_bytes y))) record { tag = 0x540021; typ = types.TextString }
-    x.text refl (b2.other (codes "0x540021") refl) (present (λ y. leaf_part refl refl (as_text (text_is_utf8 y))) (λ y. refl) x.text) (
-    optional_same_then (λ y. newtype_value (codes "Transparent:0x540022") (bytes_value y.items)) record { tag = 0x540022; typ = types.ByteString } x.bytes refl
+    optional_same_then (λ y. newtype_value (codes "Transparent:0x540021") (text_value (string_bytes y))) (a_text_string 0x540021) x.text refl
+    (b2.other (codes "0x540021") refl) (present (λ y. leaf_part refl refl (as_text (text_is_utf8 y))) (λ y. refl) x.text) (
+    optional_same_then (λ y. newtype_value (codes "Transparent:0x540022") (bytes_value y.items)) (a_byte_string 0x540022) x.bytes refl
     (b1.other (codes "0x540022") refl) (present (λ y. leaf_part refl refl (as_octets)) (λ y. refl) x.bytes) (
-    optional_same_then (λ y. newtype_value (codes "Transparent:0x540023") (big_integer_value y.items)) record { tag = 0x540023; typ = types.BigInteger } x.big
-    refl refl (if_present (λ y is. leaf_part refl refl (as_whole y.items is)) (λ y. refl) x.big is.1) nothing_left)))))
+    optional_same_then (λ y. newtype_value (codes "Transparent:0x540023") (big_integer_value y.items)) (a_big_integer 0x540023) x.big refl refl
+    (if_present (λ y is. leaf_part refl refl (as_whole y.items is)) (λ y. refl) x.big is.1) nothing_left)))))
 
 pub kind_is_unit : (x : Kind) → IsUnit kind_variants (kind_number x)
 unfolding number rule
 kind_is_unit kind.First = record { n = 0x00000001; numbered = refl; text = refl; units = λ k. record { no_rule = refl; named = refl } }
 kind_is_unit kind.Second = record { n = 0x00000002; numbered = refl; text = refl; units = λ k. record { no_rule = refl; named = refl } }
 
-pub kind_agrees : (x : Kind) → PartAgrees kind_form (kind_value x) record { tag = 0x540040; typ = types.Enumeration } (kind_value x)
+pub kind_agrees : (x : Kind) → PartAgrees kind_form (kind_value x) (an_enumeration 0x540040) (kind_value x)
 unfolding take_tag tag_of number kind_value
 kind_agrees x = enumeration_part refl (kind_is_unit x)
 
-pub word_agrees : {A : Type 0} (x : Word A) → PartAgrees word_form (word_value x) record { tag = 0x540070; typ = types.TextString } (word_value x)
+pub word_agrees : {A : Type 0} (x : Word A) → PartAgrees word_form (word_value x) (a_text_string 0x540070) (word_value x)
 unfolding take_tag tag_of number transparent_name
-word_agrees x =
-    leaf_part refl refl (as_text (text_is_utf8 x.text))
+word_agrees x = leaf_part refl refl (as_text (text_is_utf8 x.text))
 
-pub line_agrees : {A : Type 0} (x : Line A) → PartAgrees line_form (line_value x) record { tag = 0x540071; typ = types.TextString } (line_value x)
+pub line_agrees : {A : Type 0} (x : Line A) → PartAgrees line_form (line_value x) (a_text_string 0x540071) (line_value x)
 unfolding take_tag tag_of number transparent_name
-line_agrees x =
-    leaf_part refl refl (as_text (text_is_utf8 x.text))
+line_agrees x = leaf_part refl refl (as_text (text_is_utf8 x.text))
 
-pub count_agrees : (x : Count) → IsCount x → PartAgrees count_form (count_value x) record { tag = 0x540071; typ = types.Integer } (count_value x)
+pub count_agrees : (x : Count) → IsCount x → PartAgrees count_form (count_value x) (an_integer 0x540071) (count_value x)
 unfolding take_tag tag_of number transparent_name
-count_agrees x is =
-    leaf_part refl refl (as_int32 is)
+count_agrees x is = leaf_part refl refl (as_int32 is)
 
 -- the type of the item of a `Said`
 abbrev pub said_typ : {A : Type 0} → Said A → TtlvType
@@ -170,16 +144,13 @@ named_agrees said (named.Line x) (inr chosen) is =
 named_agrees said (named.Count x) chosen is =
     chosen_after (later_variant first_variant) (λ k found. rw (found ∙ ap Some chosen) refl) (overridden_leaf (variant_wraps refl refl) refl refl (as_int32 is))
 
-pub label_agrees : {A : Type 0} (x : Label A) → PartAgrees label_form (label_value x) record { tag = 0x540073; typ = types.TextString } (label_value x)
+pub label_agrees : {A : Type 0} (x : Label A) → PartAgrees label_form (label_value x) (a_text_string 0x540073) (label_value x)
 unfolding take_tag tag_of number transparent_name
-label_agrees x =
-    leaf_part refl refl (as_text (text_is_utf8 x.text))
+label_agrees x = leaf_part refl refl (as_text (text_is_utf8 x.text))
 
-pub address_agrees : {A : Type 0} (x : Address A)
-    → PartAgrees address_form (address_value x) record { tag = 0x540073; typ = types.TextString } (address_value x)
+pub address_agrees : {A : Type 0} (x : Address A) → PartAgrees address_form (address_value x) (a_text_string 0x540073) (address_value x)
 unfolding take_tag tag_of number transparent_name
-address_agrees x =
-    leaf_part refl refl (as_text (text_is_utf8 x.text))
+address_agrees x = leaf_part refl refl (as_text (text_is_utf8 x.text))
 
 pub place_single : {A : Type 0} (x : Place A) → is_run (read_place x) ≡ false
 unfolding written_place read_place
@@ -187,7 +158,7 @@ place_single (place.Label x) = refl
 place_single (place.Address x) = refl
 
 pub place_agrees : {A : Type 0} (said : List ℕ) (x : Place A) → ChoosesPlace said x
-    → PartAfter 0x540070 said place_form (written_place x) record { tag = 0x540073; typ = types.TextString } (read_place x)
+    → PartAfter 0x540070 said place_form (written_place x) (a_text_string 0x540073) (read_place x)
 unfolding take_tag tag_of number transparent_name override_name pending_after is_wrapper rule sides equal at_least member in_brackets trim_end chars trim_start
     encode written_place read_place
 place_agrees said (place.Label x) chosen =
@@ -198,30 +169,27 @@ place_agrees said (place.Address x) chosen =
 pub chosen_agrees : {A : Type 0} (x : Chosen A) → IsChosen x → MessageAgrees chosen_form (written_chosen x) (read_chosen x)
 unfolding take_tag tag_of number transparent_name rule written_chosen read_chosen
 chosen_agrees x is =
-    let b1 = option_behind (first_of x.places.items) record { tag = 0x540073; typ = types.TextString } nothing_behind in
+    let b1 = option_behind (first_of x.places.items) (a_text_string 0x540073) nothing_behind in
     let b2 = option_behind x.more record { tag = 0x540071; typ = typ_or said_typ x.more } b1 in
-    message (structure refl refl (
-    stored_then refl refl (text_stored refl refl (text_is_utf8 x.word.text)) (
+    message (structure refl refl (stored_then refl refl (text_stored refl refl (text_is_utf8 x.word.text)) (
     part_then refl (said_single x.said) (said_agrees x.said is.0) (
     optional_choice_then {C = ChoosesNamed} written_named read_named (λ o. record { tag = 0x540072; typ = typ_or named_typ o }) x.named (λ z. z)
     (Some (string_bytes x.word.text)) refl refl (b2.other (codes "0x540072") refl) (λ z y chooses is. named_agrees z y chooses is) named_single is.1 is.2 (
     optional_then written_said read_said record { tag = 0x540071; typ = typ_or said_typ x.more } x.more refl (b1.other (codes "0x540071") refl)
     (present_as (λ o. record { tag = 0x540071; typ = typ_or said_typ o }) said_agrees said_single x.more is.3) (
-    any_choice_then {P = λ y. ChoosesPlace (string_bytes x.word.text) y} written_place read_place record { tag = 0x540073; typ = types.TextString }
-    x.places.items refl refl refl refl (λ y chooses is. place_agrees (string_bytes x.word.text) y chooses) place_single is.4 is.4 nothing_left))))))
+    any_choice_then {P = λ y. ChoosesPlace (string_bytes x.word.text) y} written_place read_place (a_text_string 0x540073) x.places.items refl refl refl refl
+    (λ y chooses is. place_agrees (string_bytes x.word.text) y chooses) place_single is.4 is.4 nothing_left))))))
 
 pub maximum_items_agrees : (x : MaximumItems) → IsMaximumItems x
-    → PartAgrees maximum_items_form (maximum_items_value x) record { tag = 0x42004F; typ = types.Integer } (maximum_items_value x)
+    → PartAgrees maximum_items_form (maximum_items_value x) (an_integer 0x42004F) (maximum_items_value x)
 unfolding take_tag tag_of number transparent_name
-maximum_items_agrees x is =
-    leaf_part refl refl (as_int32 is)
+maximum_items_agrees x is = leaf_part refl refl (as_int32 is)
 
 pub text_attribute_agrees : {A : Type 0} (x : TextAttribute A)
     → PartAgrees text_attribute_form (text_attribute_value x) (a_structure 0x420008) (text_attribute_value x)
 unfolding take_tag tag_of number transparent_name rule text_attribute_value
 text_attribute_agrees x =
-    structure refl refl (
-    leaf_then refl refl refl refl (as_text (text_is_utf8 x.name)) (
+    structure refl refl (leaf_then refl refl refl refl (as_text (text_is_utf8 x.name)) (
     leaf_then refl refl refl refl (as_text (text_is_utf8 x.value)) nothing_left))
 
 pub locate_request_payload_agrees : {A : Type 0} (x : LocateRequestPayload A) → IsLocateRequestPayload x
@@ -230,13 +198,12 @@ unfolding take_tag tag_of number transparent_name rule written_locate_request_pa
 locate_request_payload_agrees x is =
     let b1 = option_behind (first_of x.attributes.items) (a_structure 0x420008) nothing_behind in
     structure refl refl (
-    optional_same_then maximum_items_value record { tag = 0x42004F; typ = types.Integer } x.maximum_items refl (b1.other (codes "0x42004F") refl)
+    optional_same_then maximum_items_value (an_integer 0x42004F) x.maximum_items refl (b1.other (codes "0x42004F") refl)
     (if_present maximum_items_agrees (λ y. refl) x.maximum_items is) (
     any_then text_attribute_value text_attribute_value (a_structure 0x420008) x.attributes.items refl refl
     (all_agree text_attribute_agrees (λ y. refl) x.attributes.items) nothing_left))
 
-pub operation_agrees : (x : Operation) → IsOperation x
-    → PartAgrees operation_form (written_operation x) record { tag = 0x42005C; typ = types.Enumeration } (written_operation x)
+pub operation_agrees : (x : Operation) → IsOperation x → PartAgrees operation_form (written_operation x) (an_enumeration 0x42005C) (written_operation x)
 unfolding take_tag tag_of number transparent_name written_operation
 operation_agrees x is = leaf_part refl refl (as_number is)
 
@@ -245,36 +212,34 @@ unfolding number rule
 object_type_is_unit object_type.Certificate = record { n = 0x00000001; numbered = refl; text = refl; units = λ k. record { no_rule = refl; named = refl } }
 object_type_is_unit object_type.SymmetricKey = record { n = 0x00000002; numbered = refl; text = refl; units = λ k. record { no_rule = refl; named = refl } }
 
-pub object_type_agrees : (x : ObjectType)
-    → PartAgrees object_type_form (object_type_value x) record { tag = 0x420057; typ = types.Enumeration } (object_type_value x)
+pub object_type_agrees : (x : ObjectType) → PartAgrees object_type_form (object_type_value x) (an_enumeration 0x420057) (object_type_value x)
 unfolding take_tag tag_of number object_type_value
 object_type_agrees x = enumeration_part refl (object_type_is_unit x)
 
 pub application_namespace_agrees : {A : Type 0} (x : ApplicationNamespace A)
-    → PartAgrees application_namespace_form (application_namespace_value x) record { tag = 0x420003; typ = types.TextString } (application_namespace_value x)
+    → PartAgrees application_namespace_form (application_namespace_value x) (a_text_string 0x420003) (application_namespace_value x)
 unfolding take_tag tag_of number transparent_name
-application_namespace_agrees x =
-    leaf_part refl refl (as_text (text_is_utf8 x.name))
+application_namespace_agrees x = leaf_part refl refl (as_text (text_is_utf8 x.name))
 
 pub query_response_payload_agrees : {A : Type 0} (x : QueryResponsePayload A) → IsQueryResponsePayload x
     → PartAgrees query_response_payload_form (written_query_response_payload x) (a_structure 0x42007C) (returned_query_response_payload x)
 unfolding take_tag tag_of number transparent_name rule written_query_response_payload returned_query_response_payload written_operation object_type_value
 query_response_payload_agrees x is =
-    let b1 = option_behind (first_of x.namespaces.items) record { tag = 0x420003; typ = types.TextString } nothing_behind in
-    let b2 = option_behind x.vendor record { tag = 0x42009D; typ = types.TextString } b1 in
-    let b3 = option_behind (first_of x.object_types.items) record { tag = 0x420057; typ = types.Enumeration } b2 in
+    let b1 = option_behind (first_of x.namespaces.items) (a_text_string 0x420003) nothing_behind in
+    let b2 = option_behind x.vendor (a_text_string 0x42009D) b1 in
+    let b3 = option_behind (first_of x.object_types.items) (an_enumeration 0x420057) b2 in
     structure refl refl (
-    any_then written_operation written_operation record { tag = 0x42005C; typ = types.Enumeration } x.operations.items refl (b3.other (codes "0x42005C") refl)
+    any_then written_operation written_operation (an_enumeration 0x42005C) x.operations.items refl (b3.other (codes "0x42005C") refl)
     (every_agrees operation_agrees (λ y. refl) x.operations.items is) (
-    any_then object_type_value object_type_value record { tag = 0x420057; typ = types.Enumeration } x.object_types.items refl (b2.other (codes "0x420057") refl)
+    any_then object_type_value object_type_value (an_enumeration 0x420057) x.object_types.items refl (b2.other (codes "0x420057") refl)
     (all_agree object_type_agrees (λ y. refl) x.object_types.items) (
-    optional_same_then (λ y. newtype_value (codes "Transparent:0x42009D") (text_value (string_bytes y))) record { tag = 0x42009D; typ = types.TextString }
-    x.vendor refl (b1.other (codes "0x42009D") refl) (present (λ y. leaf_part refl refl (as_text (text_is_utf8 y))) (λ y. refl) x.vendor) (
-    any_then application_namespace_value application_namespace_value record { tag = 0x420003; typ = types.TextString } x.namespaces.items refl refl
+    optional_same_then (λ y. newtype_value (codes "Transparent:0x42009D") (text_value (string_bytes y))) (a_text_string 0x42009D) x.vendor refl
+    (b1.other (codes "0x42009D") refl) (present (λ y. leaf_part refl refl (as_text (text_is_utf8 y))) (λ y. refl) x.vendor) (
+    any_then application_namespace_value application_namespace_value (a_text_string 0x420003) x.namespaces.items refl refl
     (all_agree application_namespace_agrees (λ y. refl) x.namespaces.items) nothing_left))))
 
 pub result_reason_agrees : (x : ResultReason) → IsResultReason x
-    → PartAgrees result_reason_form (written_result_reason x) record { tag = 0x42007E; typ = types.Enumeration } (written_result_reason x)
+    → PartAgrees result_reason_form (written_result_reason x) (an_enumeration 0x42007E) (written_result_reason x)
 unfolding take_tag tag_of number transparent_name written_result_reason
 result_reason_agrees x is = leaf_part refl refl (as_number is)
 
@@ -284,19 +249,16 @@ result_status_is_unit result_status.Failed = record { n = 0x00000001; numbered =
 result_status_is_unit result_status.Pending = record { n = 0x00000002; numbered = refl; text = refl; units = λ k. record { no_rule = refl; named = refl } }
 result_status_is_unit result_status.Undone = record { n = 0x00000003; numbered = refl; text = refl; units = λ k. record { no_rule = refl; named = refl } }
 
-pub result_status_agrees : (x : ResultStatus)
-    → PartAgrees result_status_form (result_status_value x) record { tag = 0x42007F; typ = types.Enumeration } (result_status_value x)
+pub result_status_agrees : (x : ResultStatus) → PartAgrees result_status_form (result_status_value x) (an_enumeration 0x42007F) (result_status_value x)
 unfolding take_tag tag_of number result_status_value
 result_status_agrees x = enumeration_part refl (result_status_is_unit x)
 
 pub failed_item_agrees : {A : Type 0} (x : FailedItem A) → IsFailedItem x → MessageAgrees failed_item_form (written_failed_item x) (returned_failed_item x)
 unfolding take_tag tag_of number transparent_name rule written_failed_item returned_failed_item written_operation result_status_value written_result_reason
 failed_item_agrees x is =
-    let b1 = option_behind x.message record { tag = 0x42007D; typ = types.TextString } nothing_behind in
-    message (structure refl refl (
-    part_then refl refl (operation_agrees x.operation is.0) (
-    part_then refl refl (result_status_agrees x.status) (
-    optional_same_then written_result_reason record { tag = 0x42007E; typ = types.Enumeration } x.reason refl (b1.other (codes "0x42007E") refl)
+    let b1 = option_behind x.message (a_text_string 0x42007D) nothing_behind in
+    message (structure refl refl (part_then refl refl (operation_agrees x.operation is.0) (part_then refl refl (result_status_agrees x.status) (
+    optional_same_then written_result_reason (an_enumeration 0x42007E) x.reason refl (b1.other (codes "0x42007E") refl)
     (if_present result_reason_agrees (λ y. refl) x.reason is.1) (
-    optional_same_then (λ y. newtype_value (codes "Transparent:0x42007D") (text_value (string_bytes y))) record { tag = 0x42007D; typ = types.TextString }
-    x.message refl refl (present (λ y. leaf_part refl refl (as_text (text_is_utf8 y))) (λ y. refl) x.message) nothing_left)))))
+    optional_same_then (λ y. newtype_value (codes "Transparent:0x42007D") (text_value (string_bytes y))) (a_text_string 0x42007D) x.message refl refl
+    (present (λ y. leaf_part refl refl (as_text (text_is_utf8 y))) (λ y. refl) x.message) nothing_left)))))

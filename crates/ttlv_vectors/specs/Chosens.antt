@@ -6,18 +6,11 @@ use Rattle.kmip_ttlv.specs.Values.{Value, i32_value, newtype_value, newtype_vari
 use Rattle.kmip_ttlv.specs.Visits.{joined}
 use Rattle.std.specs.Prelude.{List, codes, false, option_map, string_bytes, ℕ, ◌≡◌, ◌⊎◌}
 use Rattle.kmip_ttlv.specs.Visits as visits
-use Rattle.ttlv_vectors.specs.declared.chosen.Word.{Word}
-use Rattle.ttlv_vectors.specs.declared.chosen.Line.{Line}
-use Rattle.ttlv_vectors.specs.declared.chosen.Count.{Count}
-use Rattle.ttlv_vectors.specs.declared.chosen.Said.{Said}
+use Rattle.ttlv_vectors.specs.declared.chosen.{Word.Word, Line.Line, Count.Count, Said.Said, Named.Named, Label.Label, Address.Address, Place.Place}
+use Rattle.ttlv_vectors.specs.declared.chosen.{Chosen.Chosen}
 use Rattle.ttlv_vectors.specs.declared.chosen.Said.TheVariants as said
-use Rattle.ttlv_vectors.specs.declared.chosen.Named.{Named}
 use Rattle.ttlv_vectors.specs.declared.chosen.Named.TheVariants as named
-use Rattle.ttlv_vectors.specs.declared.chosen.Label.{Label}
-use Rattle.ttlv_vectors.specs.declared.chosen.Address.{Address}
-use Rattle.ttlv_vectors.specs.declared.chosen.Place.{Place}
 use Rattle.ttlv_vectors.specs.declared.chosen.Place.TheVariants as place
-use Rattle.ttlv_vectors.specs.declared.chosen.Chosen.{Chosen}
 
 -- the form of a `Word`
 abbrev pub word_form : Form

@@ -7,7 +7,7 @@ use Rattle.kmip_ttlv.specs.Reads.{Begins}
 use Rattle.ttlv_vectors.specs.Chosens.{chosen_form, written_chosen, read_chosen}
 use Rattle.ttlv_vectors.specs.Soundness.{IsChosen, IsFailedItem}
 use Rattle.ttlv_vectors.specs.declared.chosen.Chosen.{Chosen}
-use Rattle.ttlv_vectors.specs.Queries.{failed_item_form, written_failed_item, read_failed_item, returned_failed_item}
+use Rattle.ttlv_vectors.specs.Queries.{failed_item_form, written_failed_item, returned_failed_item}
 use Rattle.ttlv_vectors.specs.declared.query.FailedItem.{FailedItem}
 
 -- the bytes of a `Chosen`, behind any others, begin by its form with its own value and with no other

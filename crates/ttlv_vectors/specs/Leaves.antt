@@ -8,11 +8,7 @@ use Rattle.kmip_ttlv.specs.Values.{no_values, struct_value, text_value, unit_var
 use Rattle.kmip_ttlv.specs.Visits.{joined}
 use Rattle.std.specs.Prelude.{List, codes, false, option_map, string_bytes, ℕ}
 use Rattle.kmip_ttlv.specs.Visits as visits
-use Rattle.ttlv_vectors.specs.declared.leaves.Numbers.{Numbers}
-use Rattle.ttlv_vectors.specs.declared.leaves.Moments.{Moments}
-use Rattle.ttlv_vectors.specs.declared.leaves.Contents.{Contents}
-use Rattle.ttlv_vectors.specs.declared.leaves.OptionalContents.{OptionalContents}
-use Rattle.ttlv_vectors.specs.declared.leaves.Kind.{Kind}
+use Rattle.ttlv_vectors.specs.declared.leaves.{Numbers.Numbers, Moments.Moments, Contents.Contents, OptionalContents.OptionalContents, Kind.Kind}
 use Rattle.ttlv_vectors.specs.declared.leaves.Kind.TheVariants as kind
 
 -- the form of a `Numbers`

@@ -6,20 +6,14 @@ use Rattle.kmip_ttlv.specs.Values.{Value, i32_value, newtype_value, no_values, s
 use Rattle.kmip_ttlv.specs.Visits.{joined}
 use Rattle.std.specs.Prelude.{List, Option, Some, [], codes, false, option_map, string_bytes, ℕ, ◌∷◌}
 use Rattle.kmip_ttlv.specs.Visits as visits
-use Rattle.ttlv_vectors.specs.declared.query.MaximumItems.{MaximumItems}
-use Rattle.ttlv_vectors.specs.declared.query.TextAttribute.{TextAttribute}
-use Rattle.ttlv_vectors.specs.declared.query.LocateRequestPayload.{LocateRequestPayload}
-use Rattle.ttlv_vectors.specs.declared.query.Operation.{Operation}
+use Rattle.ttlv_vectors.specs.declared.query.{MaximumItems.MaximumItems, TextAttribute.TextAttribute, LocateRequestPayload.LocateRequestPayload}
+use Rattle.ttlv_vectors.specs.declared.query.{Operation.Operation, ObjectType.ObjectType, ApplicationNamespace.ApplicationNamespace}
+use Rattle.ttlv_vectors.specs.declared.query.{QueryResponsePayload.QueryResponsePayload, ResultReason.ResultReason, ResultStatus.ResultStatus}
+use Rattle.ttlv_vectors.specs.declared.query.{FailedItem.FailedItem}
 use Rattle.ttlv_vectors.specs.declared.query.Operation.TheVariants as operation
-use Rattle.ttlv_vectors.specs.declared.query.ObjectType.{ObjectType}
 use Rattle.ttlv_vectors.specs.declared.query.ObjectType.TheVariants as object_type
-use Rattle.ttlv_vectors.specs.declared.query.ApplicationNamespace.{ApplicationNamespace}
-use Rattle.ttlv_vectors.specs.declared.query.QueryResponsePayload.{QueryResponsePayload}
-use Rattle.ttlv_vectors.specs.declared.query.ResultReason.{ResultReason}
 use Rattle.ttlv_vectors.specs.declared.query.ResultReason.TheVariants as result_reason
-use Rattle.ttlv_vectors.specs.declared.query.ResultStatus.{ResultStatus}
 use Rattle.ttlv_vectors.specs.declared.query.ResultStatus.TheVariants as result_status
-use Rattle.ttlv_vectors.specs.declared.query.FailedItem.{FailedItem}
 
 -- the form of a `MaximumItems`
 abbrev pub maximum_items_form : Form

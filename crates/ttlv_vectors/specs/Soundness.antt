@@ -2,22 +2,12 @@
 -- Which values of each type are sound: what was encoded of them is decoded again.
 use Rattle.std.specs.Int.{w32, w64}
 use Rattle.std.specs.Prelude.{All, FitsSigned, IfSome, length, string_bytes, ◌%◌, ◌<◌, ◌^◌, ◌≡◌}
-use Rattle.ttlv_vectors.specs.declared.leaves.Numbers.{Numbers}
-use Rattle.ttlv_vectors.specs.declared.leaves.Moments.{Moments}
-use Rattle.ttlv_vectors.specs.declared.leaves.Contents.{Contents}
-use Rattle.ttlv_vectors.specs.declared.leaves.OptionalContents.{OptionalContents}
-use Rattle.ttlv_vectors.specs.declared.chosen.Count.{Count}
-use Rattle.ttlv_vectors.specs.declared.chosen.Said.{Said}
+use Rattle.ttlv_vectors.specs.declared.leaves.{Numbers.Numbers, Moments.Moments, Contents.Contents, OptionalContents.OptionalContents}
+use Rattle.ttlv_vectors.specs.declared.chosen.{Count.Count, Said.Said, Named.Named, Chosen.Chosen}
 use Rattle.ttlv_vectors.specs.declared.chosen.Said.TheVariants as said
-use Rattle.ttlv_vectors.specs.declared.chosen.Named.{Named}
 use Rattle.ttlv_vectors.specs.declared.chosen.Named.TheVariants as named
-use Rattle.ttlv_vectors.specs.declared.chosen.Chosen.{Chosen}
-use Rattle.ttlv_vectors.specs.declared.query.MaximumItems.{MaximumItems}
-use Rattle.ttlv_vectors.specs.declared.query.LocateRequestPayload.{LocateRequestPayload}
-use Rattle.ttlv_vectors.specs.declared.query.Operation.{Operation}
-use Rattle.ttlv_vectors.specs.declared.query.QueryResponsePayload.{QueryResponsePayload}
-use Rattle.ttlv_vectors.specs.declared.query.ResultReason.{ResultReason}
-use Rattle.ttlv_vectors.specs.declared.query.FailedItem.{FailedItem}
+use Rattle.ttlv_vectors.specs.declared.query.{MaximumItems.MaximumItems, LocateRequestPayload.LocateRequestPayload, Operation.Operation}
+use Rattle.ttlv_vectors.specs.declared.query.{QueryResponsePayload.QueryResponsePayload, ResultReason.ResultReason, FailedItem.FailedItem}
 use Rattle.ttlv_vectors.specs.Chosens.{ChoosesNamed, ChoosesPlace}
 use Rattle.ttlv_vectors.specs.Queries.{operation_number, result_reason_number}
 

@@ -1,6 +1,6 @@
 -- Written by codegen from types.table: change that, and run codegen/codegen.
 use Rattle.std.proofs.Common.{refl}
-use Rattle.kmip_messages.specs.Requests.{request_form, written_request, read_request, returned_request}
+use Rattle.kmip_messages.specs.Requests.{request_form, written_request, returned_request}
 use Rattle.kmip_messages.proofs.Agreeing.{request_agrees}
 use Rattle.kmip_messages.proofs.laws.requests_come_back.Goals as goal
 

@@ -1,6 +1,6 @@
 -- Written by codegen from types.table: change that, and run codegen/codegen.
 use Rattle.std.proofs.Common.{refl}
-use Rattle.kmip_messages.specs.Responses.{response_form, written_response, read_response, returned_response}
+use Rattle.kmip_messages.specs.Responses.{response_form, written_response, returned_response}
 use Rattle.kmip_messages.proofs.Agreeing.{response_agrees}
 use Rattle.kmip_messages.proofs.laws.responses_come_back.Goals as goal
 

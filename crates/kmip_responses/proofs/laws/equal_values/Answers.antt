@@ -1,8 +1,8 @@
 -- Written by codegen from types.table: change that, and run codegen/codegen.
 -- Values of a type are equal if they stand for the same: each part is, and numbers tell apart the variants of an Enumeration.
 use Rattle.kmip_ttlv.specs.Values.{newtype_value, text_value}
-use Rattle.kmip_ttlv_laws.proofs.Equal.{any_equal, apart, both, first_same, in_newtype, in_structure, in_text, in_variant, later_same, options_equal}
-use Rattle.kmip_ttlv_laws.proofs.Equal.{options_same, texts_equal}
+use Rattle.kmip_ttlv_laws.proofs.Equal.{any_equal, apart, in_variant, last_equal, newtypes_equal, options_equal, options_same, part_equal, structures_equal}
+use Rattle.kmip_ttlv_laws.proofs.Equal.{texts_equal}
 use Rattle.std.proofs.Common.{refl}
 use Rattle.std.specs.Prelude.{codes, string_bytes}
 use Rattle.kmip_responses.specs.ResponsePayloads.{returned_create_response, read_create_response, returned_create_key_pair_response}
@@ -20,128 +20,97 @@ use Rattle.kmip_objects.specs.Objects.{returned_private_key, read_private_key, r
 use Rattle.kmip_objects.specs.Objects.{returned_secret_data, read_secret_data, returned_opaque_object, read_opaque_object}
 use Rattle.kmip_attributes.specs.Attributes.{returned_attribute, read_attribute, attribute_name_value}
 use Rattle.kmip_headers.specs.Headers.{written_operation, read_operation, protocol_version_value}
-use Rattle.kmip_responses.specs.declared.response_payload.ResponsePayload.{ResponsePayload}
 use Rattle.kmip_responses.specs.declared.response_payload.ResponsePayload.TheVariants as response_payload
 use Rattle.kmip_responses.proofs.laws.equal_values.Goals as goal
 
 pub returns-clause-create_response : goal.returns-clause-create_response
 unfolding returned_create_response read_create_response
 returns-clause-create_response g c x y e =
-    let e = in_structure e in
-    both (c.equal_values.ensures.object_type x.object_type y.object_type (first_same e)) (
-    let e = later_same e in
-    both (texts_equal x.unique_identifier y.unique_identifier (in_text (in_newtype (first_same e)))) (
-    let e = later_same e in
-    options_equal returned_template_attribute read_template_attribute _ (c.equal_values-2.ensures.template_attribute) x.template_attribute y.template_attribute
-    (first_same e)))
+    structures_equal (part_equal (c.equal_values.ensures.object_type x.object_type y.object_type) (
+    part_equal (newtypes_equal (texts_equal x.unique_identifier y.unique_identifier)) (
+    last_equal (options_equal returned_template_attribute read_template_attribute _ (c.equal_values-2.ensures.template_attribute) x.template_attribute
+    y.template_attribute)))) e
 
 pub returns-clause-create_key_pair_response : goal.returns-clause-create_key_pair_response
 unfolding returned_create_key_pair_response read_create_key_pair_response
 returns-clause-create_key_pair_response g c x y e =
-    let e = in_structure e in
-    both (texts_equal x.private_key_unique_identifier y.private_key_unique_identifier (in_text (in_newtype (first_same e)))) (
-    let e = later_same e in
-    both (texts_equal x.public_key_unique_identifier y.public_key_unique_identifier (in_text (in_newtype (first_same e)))) (
-    let e = later_same e in
-    both (options_equal returned_private_key_template_attribute read_private_key_template_attribute _ (c.equal_values-2.ensures.private_key_template_attribute)
-    x.private_key y.private_key (first_same e)) (
-    let e = later_same e in
-    options_equal returned_public_key_template_attribute read_public_key_template_attribute _ (c.equal_values-2.ensures.public_key_template_attribute)
-    x.public_key y.public_key (first_same e))))
+    structures_equal (part_equal (newtypes_equal (texts_equal x.private_key_unique_identifier y.private_key_unique_identifier)) (
+    part_equal (newtypes_equal (texts_equal x.public_key_unique_identifier y.public_key_unique_identifier)) (
+    part_equal (options_equal returned_private_key_template_attribute read_private_key_template_attribute _
+    (c.equal_values-2.ensures.private_key_template_attribute) x.private_key y.private_key) (
+    last_equal (options_equal returned_public_key_template_attribute read_public_key_template_attribute _
+    (c.equal_values-2.ensures.public_key_template_attribute) x.public_key y.public_key))))) e
 
 pub returns-clause-register_response : goal.returns-clause-register_response
 unfolding returned_register_response read_register_response
 returns-clause-register_response g c x y e =
-    let e = in_structure e in
-    both (texts_equal x.unique_identifier y.unique_identifier (in_text (in_newtype (first_same e)))) (
-    let e = later_same e in
-    options_equal returned_template_attribute read_template_attribute _ (c.equal_values-2.ensures.template_attribute) x.template_attribute y.template_attribute
-    (first_same e))
+    structures_equal (part_equal (newtypes_equal (texts_equal x.unique_identifier y.unique_identifier)) (
+    last_equal (options_equal returned_template_attribute read_template_attribute _ (c.equal_values-2.ensures.template_attribute) x.template_attribute
+    y.template_attribute))) e
 
 pub returns-clause-locate_response : goal.returns-clause-locate_response
 unfolding read_locate_response
 returns-clause-locate_response g c x y e =
-    let e = in_structure e in
-    any_equal unique_identifier_value unique_identifier_value _ (c.equal_values-2.ensures.unique_identifier) x.unique_identifiers.items
-    y.unique_identifiers.items (first_same e)
+    structures_equal (last_equal
+    (any_equal unique_identifier_value unique_identifier_value _ (c.equal_values-2.ensures.unique_identifier) x.unique_identifiers.items
+    y.unique_identifiers.items)) e
 
 pub returns-clause-get_response : goal.returns-clause-get_response
 unfolding returned_get_response read_get_response
 returns-clause-get_response g c x y e =
-    let e = in_structure e in
-    both (c.equal_values.ensures.object_type x.object_type y.object_type (first_same e)) (
-    let e = later_same e in
-    both (texts_equal x.unique_identifier y.unique_identifier (in_text (in_newtype (first_same e)))) (
-    let e = later_same e in
-    both (options_equal returned_certificate read_certificate _ (c.equal_values-2.ensures.certificate) x.certificate y.certificate (first_same e)) (
-    let e = later_same e in
-    both (options_equal returned_symmetric_key read_symmetric_key _ (c.equal_values-2.ensures.symmetric_key) x.symmetric_key y.symmetric_key (first_same e)) (
-    let e = later_same e in
-    both (options_equal returned_public_key read_public_key _ (c.equal_values-2.ensures.public_key) x.public_key y.public_key (first_same e)) (
-    let e = later_same e in
-    both (options_equal returned_private_key read_private_key _ (c.equal_values-2.ensures.private_key) x.private_key y.private_key (first_same e)) (
-    let e = later_same e in
-    both (options_equal returned_split_key read_split_key _ (c.equal_values-2.ensures.split_key) x.split_key y.split_key (first_same e)) (
-    let e = later_same e in
-    both (options_equal returned_template read_template _ (c.equal_values-2.ensures.template) x.template y.template (first_same e)) (
-    let e = later_same e in
-    both (options_equal returned_secret_data read_secret_data _ (c.equal_values-2.ensures.secret_data) x.secret_data y.secret_data (first_same e)) (
-    let e = later_same e in
-    options_equal returned_opaque_object read_opaque_object _ (c.equal_values-2.ensures.opaque_object) x.opaque_object y.opaque_object (first_same e))))))))))
+    structures_equal (part_equal (c.equal_values.ensures.object_type x.object_type y.object_type) (
+    part_equal (newtypes_equal (texts_equal x.unique_identifier y.unique_identifier)) (
+    part_equal (options_equal returned_certificate read_certificate _ (c.equal_values-2.ensures.certificate) x.certificate y.certificate) (
+    part_equal (options_equal returned_symmetric_key read_symmetric_key _ (c.equal_values-2.ensures.symmetric_key) x.symmetric_key y.symmetric_key) (
+    part_equal (options_equal returned_public_key read_public_key _ (c.equal_values-2.ensures.public_key) x.public_key y.public_key) (
+    part_equal (options_equal returned_private_key read_private_key _ (c.equal_values-2.ensures.private_key) x.private_key y.private_key) (
+    part_equal (options_equal returned_split_key read_split_key _ (c.equal_values-2.ensures.split_key) x.split_key y.split_key) (
+    part_equal (options_equal returned_template read_template _ (c.equal_values-2.ensures.template) x.template y.template) (
+    part_equal (options_equal returned_secret_data read_secret_data _ (c.equal_values-2.ensures.secret_data) x.secret_data y.secret_data) (
+    last_equal (options_equal returned_opaque_object read_opaque_object _ (c.equal_values-2.ensures.opaque_object) x.opaque_object y.opaque_object))))))))))) e
 
 pub returns-clause-get_attributes_response : goal.returns-clause-get_attributes_response
 unfolding returned_get_attributes_response read_get_attributes_response
 returns-clause-get_attributes_response g c x y e =
-    let e = in_structure e in
-    both (texts_equal x.unique_identifier y.unique_identifier (in_text (in_newtype (first_same e)))) (
-    let e = later_same e in
-    any_equal returned_attribute read_attribute _ (c.equal_values.ensures.attribute) x.attributes.items y.attributes.items (first_same e))
+    structures_equal (part_equal (newtypes_equal (texts_equal x.unique_identifier y.unique_identifier)) (
+    last_equal (any_equal returned_attribute read_attribute _ (c.equal_values.ensures.attribute) x.attributes.items y.attributes.items))) e
 
 pub returns-clause-get_attribute_list_response : goal.returns-clause-get_attribute_list_response
 unfolding read_get_attribute_list_response
 returns-clause-get_attribute_list_response g c x y e =
-    let e = in_structure e in
-    both (texts_equal x.unique_identifier y.unique_identifier (in_text (in_newtype (first_same e)))) (
-    let e = later_same e in
-    any_equal attribute_name_value attribute_name_value _ (c.equal_values.ensures.attribute_name) x.attribute_names.items y.attribute_names.items
-    (first_same e))
+    structures_equal (part_equal (newtypes_equal (texts_equal x.unique_identifier y.unique_identifier)) (
+    last_equal (any_equal attribute_name_value attribute_name_value _ (c.equal_values.ensures.attribute_name) x.attribute_names.items y.attribute_names.items)))
+    e
 
 pub returns-clause-attribute_response : goal.returns-clause-attribute_response
 unfolding returned_attribute_response read_attribute_response
 returns-clause-attribute_response g c x y e =
-    let e = in_structure e in
-    both (texts_equal x.unique_identifier y.unique_identifier (in_text (in_newtype (first_same e)))) (
-    let e = later_same e in
-    c.equal_values.ensures.attribute x.attribute y.attribute (first_same e))
+    structures_equal (part_equal (newtypes_equal (texts_equal x.unique_identifier y.unique_identifier)) (
+    last_equal (c.equal_values.ensures.attribute x.attribute y.attribute))) e
 
 pub returns-clause-object_response : goal.returns-clause-object_response
 unfolding object_response_value
 returns-clause-object_response g c x y e =
-    let e = in_structure e in
-    texts_equal x.unique_identifier y.unique_identifier (in_text (in_newtype (first_same e)))
+    structures_equal (last_equal (newtypes_equal (texts_equal x.unique_identifier y.unique_identifier))) e
 
 pub returns-clause-application_namespace : goal.returns-clause-application_namespace
-returns-clause-application_namespace g c x y e = texts_equal x.text y.text (in_text (in_newtype e))
+returns-clause-application_namespace g c x y e = newtypes_equal (texts_equal x.text y.text) e
 
 pub returns-clause-query_response : goal.returns-clause-query_response
 unfolding returned_query_response read_query_response
 returns-clause-query_response g c x y e =
-    let e = in_structure e in
-    both (any_equal written_operation read_operation _ (c.equal_values-3.ensures.operation) x.operations.items y.operations.items (first_same e)) (
-    let e = later_same e in
-    both (any_equal written_object_type read_object_type _ (c.equal_values.ensures.object_type) x.object_types.items y.object_types.items (first_same e)) (
-    let e = later_same e in
-    both (options_same (λ y. newtype_value (codes "Transparent:0x42009D") (text_value (string_bytes y))) _ (λ a b e. texts_equal a b (in_text (in_newtype e)))
-    x.vendor_identification y.vendor_identification (first_same e)) (
-    let e = later_same e in
-    any_equal application_namespace_value application_namespace_value _ (returns-clause-application_namespace g c) x.application_namespaces.items
-    y.application_namespaces.items (first_same e))))
+    structures_equal (part_equal (any_equal written_operation read_operation _ (c.equal_values-3.ensures.operation) x.operations.items y.operations.items) (
+    part_equal (any_equal written_object_type read_object_type _ (c.equal_values.ensures.object_type) x.object_types.items y.object_types.items) (
+    part_equal (options_same (λ y. newtype_value (codes "Transparent:0x42009D") (text_value (string_bytes y))) _ (λ a b. newtypes_equal (texts_equal a b))
+    x.vendor_identification y.vendor_identification) (
+    last_equal (any_equal application_namespace_value application_namespace_value _ (returns-clause-application_namespace g c) x.application_namespaces.items
+    y.application_namespaces.items))))) e
 
 pub returns-clause-discover_versions_response : goal.returns-clause-discover_versions_response
 unfolding read_discover_versions_response
 returns-clause-discover_versions_response g c x y e =
-    let e = in_structure e in
-    any_equal protocol_version_value protocol_version_value _ (c.equal_values-3.ensures.protocol_version) x.versions.items y.versions.items (first_same e)
+    structures_equal (last_equal
+    (any_equal protocol_version_value protocol_version_value _ (c.equal_values-3.ensures.protocol_version) x.versions.items y.versions.items)) e
 
 pub returns-clause-response_payload : goal.returns-clause-response_payload
 unfolding returned_response_payload read_response_payload

@@ -1,36 +1,28 @@
 -- Written by codegen from types.table: change that, and run codegen/codegen.
 -- Values of a type are equal if they stand for the same: each part is, and numbers tell apart the variants of an Enumeration.
 use Rattle.kmip_ttlv.specs.Values.{big_integer_value, boolean_value, bytes_value, interval_value, newtype_value, text_value}
-use Rattle.kmip_ttlv_laws.proofs.Equal.{any_equal, apart, booleans_equal, both, bytes_equal, first_same, found_same, in_big_integer, in_boolean, in_bytes}
-use Rattle.kmip_ttlv_laws.proofs.Equal.{in_date_time, in_integer, in_interval, in_long_integer, in_newtype, in_number, in_structure, in_text, in_unit}
-use Rattle.kmip_ttlv_laws.proofs.Equal.{in_variant, later_same, options_equal, options_same, other_same, row_of, signed_equal, texts_equal, unsigned_equal}
+use Rattle.kmip_ttlv_laws.proofs.Equal.{any_equal, apart, big_integers_equal, booleans_equal, bytes_equal, date_times_equal, found_same, in_unit, in_variant}
+use Rattle.kmip_ttlv_laws.proofs.Equal.{integers_equal, intervals_equal, last_equal, long_integers_equal, newtypes_equal, numbers_equal, options_equal}
+use Rattle.kmip_ttlv_laws.proofs.Equal.{options_same, others_equal, part_equal, row_of, structures_equal, texts_equal}
 use Rattle.std.proofs.Common.{refl}
 use Rattle.std.specs.Prelude.{List, Some, [], codes, string_bytes, ℕ, ◌∷◌, ◌≡◌}
 use denote.Enum.Bare.{true_same}
 use Rattle.ttlv_vectors.specs.Leaves.{numbers_value, moments_value, contents_value, read_optional_contents, kind_number, kind_value}
-use Rattle.ttlv_vectors.specs.Chosens.{word_value, line_value, count_value, read_said, read_named, label_value, address_value, read_place, read_chosen}
+use Rattle.ttlv_vectors.specs.Chosens.{read_said, read_named, read_place, read_chosen}
 use Rattle.ttlv_vectors.specs.Queries.{maximum_items_value, text_attribute_value, read_locate_request_payload, operation_number, operation_numbers}
-use Rattle.ttlv_vectors.specs.Queries.{operation_read_number, written_operation, read_operation, object_type_number, object_type_value}
-use Rattle.ttlv_vectors.specs.Queries.{application_namespace_value, returned_query_response_payload, read_query_response_payload, result_reason_number}
-use Rattle.ttlv_vectors.specs.Queries.{result_reason_numbers, result_reason_read_number, written_result_reason, read_result_reason, result_status_number}
-use Rattle.ttlv_vectors.specs.Queries.{result_status_value, returned_failed_item, read_failed_item}
+use Rattle.ttlv_vectors.specs.Queries.{written_operation, read_operation, object_type_number, object_type_value, application_namespace_value}
+use Rattle.ttlv_vectors.specs.Queries.{returned_query_response_payload, read_query_response_payload, result_reason_number, result_reason_numbers}
+use Rattle.ttlv_vectors.specs.Queries.{written_result_reason, read_result_reason, result_status_number, result_status_value, returned_failed_item}
+use Rattle.ttlv_vectors.specs.Queries.{read_failed_item}
 use Rattle.ttlv_vectors.specs.declared.leaves.Kind.{Kind}
 use Rattle.ttlv_vectors.specs.declared.leaves.Kind.TheVariants as kind
 use Rattle.ttlv_vectors.specs.contracts.leaves.Kind as kind_contract
-use Rattle.ttlv_vectors.specs.declared.chosen.Said.{Said}
 use Rattle.ttlv_vectors.specs.declared.chosen.Said.TheVariants as said
-use Rattle.ttlv_vectors.specs.declared.chosen.Named.{Named}
 use Rattle.ttlv_vectors.specs.declared.chosen.Named.TheVariants as named
-use Rattle.ttlv_vectors.specs.declared.chosen.Place.{Place}
 use Rattle.ttlv_vectors.specs.declared.chosen.Place.TheVariants as place
-use Rattle.ttlv_vectors.specs.declared.query.Operation.{Operation}
-use Rattle.ttlv_vectors.specs.declared.query.Operation.TheVariants as operation
-use Rattle.ttlv_vectors.specs.declared.query.ObjectType.{ObjectType}
+use Rattle.ttlv_vectors.specs.declared.query.{Operation.TheVariants.Other, ObjectType.ObjectType, ResultReason.TheVariants.Other, ResultStatus.ResultStatus}
 use Rattle.ttlv_vectors.specs.declared.query.ObjectType.TheVariants as object_type
 use Rattle.ttlv_vectors.specs.contracts.query.ObjectType as object_type_contract
-use Rattle.ttlv_vectors.specs.declared.query.ResultReason.{ResultReason}
-use Rattle.ttlv_vectors.specs.declared.query.ResultReason.TheVariants as result_reason
-use Rattle.ttlv_vectors.specs.declared.query.ResultStatus.{ResultStatus}
 use Rattle.ttlv_vectors.specs.declared.query.ResultStatus.TheVariants as result_status
 use Rattle.ttlv_vectors.specs.contracts.query.ResultStatus as result_status_contract
 use Rattle.ttlv_vectors.proofs.laws.equal_values.Goals as goal
@@ -38,49 +30,33 @@ use Rattle.ttlv_vectors.proofs.laws.equal_values.Goals as goal
 pub returns-clause-numbers : goal.returns-clause-numbers
 unfolding numbers_value
 returns-clause-numbers g c x y e =
-    let e = in_structure e in
-    both (signed_equal x.count y.count (in_integer (in_newtype (first_same e)))) (
-    let e = later_same e in
-    signed_equal x.long y.long (in_long_integer (in_newtype (first_same e))))
+    structures_equal (part_equal (newtypes_equal (integers_equal x.count y.count)) (last_equal (newtypes_equal (long_integers_equal x.long y.long)))) e
 
 pub returns-clause-moments : goal.returns-clause-moments
 unfolding moments_value
 returns-clause-moments g c x y e =
-    let e = in_structure e in
-    both (signed_equal x.date y.date (in_date_time (in_newtype (first_same e)))) (
-    let e = later_same e in
-    both (booleans_equal x.truth y.truth (in_boolean (in_newtype (first_same e)))) (
-    let e = later_same e in
-    unsigned_equal x.seconds y.seconds (in_interval (in_newtype (first_same e)))))
+    structures_equal (part_equal (newtypes_equal (date_times_equal x.date y.date)) (part_equal (newtypes_equal (booleans_equal x.truth y.truth)) (
+    last_equal (newtypes_equal (intervals_equal x.seconds y.seconds))))) e
 
 pub returns-clause-contents : goal.returns-clause-contents
 unfolding contents_value
 returns-clause-contents g c x y e =
-    let e = in_structure e in
-    both (texts_equal x.text y.text (in_text (in_newtype (first_same e)))) (
-    let e = later_same e in
-    both (bytes_equal x.bytes.items y.bytes.items (in_bytes (in_newtype (first_same e)))) (
-    let e = later_same e in
-    bytes_equal x.big.items y.big.items (in_big_integer (in_newtype (first_same e)))))
+    structures_equal (part_equal (newtypes_equal (texts_equal x.text y.text)) (part_equal (newtypes_equal (bytes_equal x.bytes.items y.bytes.items)) (
+    last_equal (newtypes_equal (big_integers_equal x.big.items y.big.items))))) e
 
 pub returns-clause-optional_contents : goal.returns-clause-optional_contents
 unfolding read_optional_contents
 returns-clause-optional_contents g c x y e =
-    let e = in_structure e in
-    both (options_same (λ y. newtype_value (codes "Transparent:0x540005") (boolean_value y)) _ (λ a b e. booleans_equal a b (in_boolean (in_newtype e))) x.truth
-    y.truth (first_same e)) (
-    let e = later_same e in
-    both (options_same (λ y. newtype_value (codes "Transparent:0x540006") (interval_value y)) _ (λ a b e. unsigned_equal a b (in_interval (in_newtype e)))
-    x.seconds y.seconds (first_same e)) (
-    let e = later_same e in
-    both (options_same (λ y. newtype_value (codes "Transparent:0x540021") (text_value (string_bytes y))) _ (λ a b e. texts_equal a b (in_text (in_newtype e)))
-    x.text y.text (first_same e)) (
-    let e = later_same e in
-    both (options_same (λ y. newtype_value (codes "Transparent:0x540022") (bytes_value y.items)) _
-    (λ a b e. bytes_equal a.items b.items (in_bytes (in_newtype e))) x.bytes y.bytes (first_same e)) (
-    let e = later_same e in
-    options_same (λ y. newtype_value (codes "Transparent:0x540023") (big_integer_value y.items)) _
-    (λ a b e. bytes_equal a.items b.items (in_big_integer (in_newtype e))) x.big y.big (first_same e)))))
+    structures_equal (part_equal
+    (options_same (λ y. newtype_value (codes "Transparent:0x540005") (boolean_value y)) _ (λ a b. newtypes_equal (booleans_equal a b)) x.truth y.truth) (
+    part_equal (options_same (λ y. newtype_value (codes "Transparent:0x540006") (interval_value y)) _ (λ a b. newtypes_equal (intervals_equal a b)) x.seconds
+    y.seconds) (
+    part_equal (options_same (λ y. newtype_value (codes "Transparent:0x540021") (text_value (string_bytes y))) _ (λ a b. newtypes_equal (texts_equal a b))
+    x.text y.text) (
+    part_equal (options_same (λ y. newtype_value (codes "Transparent:0x540022") (bytes_value y.items)) _ (λ a b. newtypes_equal (bytes_equal a.items b.items))
+    x.bytes y.bytes) (
+    last_equal (options_same (λ y. newtype_value (codes "Transparent:0x540023") (big_integer_value y.items)) _
+    (λ a b. newtypes_equal (big_integers_equal a.items b.items)) x.big y.big)))))) e
 
 abbrev kind_rows : List (List ℕ × Kind)
 kind_rows =
@@ -98,13 +74,13 @@ returns-clause-kind g c x y e =
     true_same kind_contract.the_type x y (found_same kind_number kind_rows kind_found x y (in_unit e))
 
 pub returns-clause-word : goal.returns-clause-word
-returns-clause-word g c x y e = texts_equal x.text y.text (in_text (in_newtype e))
+returns-clause-word g c x y e = newtypes_equal (texts_equal x.text y.text) e
 
 pub returns-clause-line : goal.returns-clause-line
-returns-clause-line g c x y e = texts_equal x.text y.text (in_text (in_newtype e))
+returns-clause-line g c x y e = newtypes_equal (texts_equal x.text y.text) e
 
 pub returns-clause-count : goal.returns-clause-count
-returns-clause-count g c x y e = signed_equal x.number y.number (in_integer (in_newtype e))
+returns-clause-count g c x y e = newtypes_equal (integers_equal x.number y.number) e
 
 pub returns-clause-said : goal.returns-clause-said
 unfolding read_said
@@ -119,10 +95,10 @@ returns-clause-named g c (named.Count x) (named.Count y) e = returns-clause-coun
 returns-clause-named g c x y e = absurd (apart e refl)
 
 pub returns-clause-label : goal.returns-clause-label
-returns-clause-label g c x y e = texts_equal x.text y.text (in_text (in_newtype e))
+returns-clause-label g c x y e = newtypes_equal (texts_equal x.text y.text) e
 
 pub returns-clause-address : goal.returns-clause-address
-returns-clause-address g c x y e = texts_equal x.text y.text (in_text (in_newtype e))
+returns-clause-address g c x y e = newtypes_equal (texts_equal x.text y.text) e
 
 pub returns-clause-place : goal.returns-clause-place
 unfolding read_place
@@ -133,42 +109,29 @@ returns-clause-place g c x y e = absurd (apart e refl)
 pub returns-clause-chosen : goal.returns-clause-chosen
 unfolding read_chosen
 returns-clause-chosen g c x y e =
-    let e = in_structure e in
-    both (returns-clause-word g c x.word y.word (first_same e)) (
-    let e = later_same e in
-    both (returns-clause-said g c x.said y.said (first_same e)) (
-    let e = later_same e in
-    both (options_same read_named _ (returns-clause-named g c) x.named y.named (first_same e)) (
-    let e = later_same e in
-    both (options_same read_said _ (returns-clause-said g c) x.more y.more (first_same e)) (
-    let e = later_same e in
-    any_equal read_place read_place _ (returns-clause-place g c) x.places.items y.places.items (first_same e)))))
+    structures_equal (part_equal (returns-clause-word g c x.word y.word) (part_equal (returns-clause-said g c x.said y.said) (
+    part_equal (options_same read_named _ (returns-clause-named g c) x.named y.named) (
+    part_equal (options_same read_said _ (returns-clause-said g c) x.more y.more) (
+    last_equal (any_equal read_place read_place _ (returns-clause-place g c) x.places.items y.places.items)))))) e
 
 pub returns-clause-maximum_items : goal.returns-clause-maximum_items
-returns-clause-maximum_items g c x y e = signed_equal x.count y.count (in_integer (in_newtype e))
+returns-clause-maximum_items g c x y e = newtypes_equal (integers_equal x.count y.count) e
 
 pub returns-clause-text_attribute : goal.returns-clause-text_attribute
 unfolding text_attribute_value
 returns-clause-text_attribute g c x y e =
-    let e = in_structure e in
-    both (texts_equal x.name y.name (in_text (in_newtype (first_same e)))) (
-    let e = later_same e in
-    texts_equal x.value y.value (in_text (in_newtype (first_same e))))
+    structures_equal (part_equal (newtypes_equal (texts_equal x.name y.name)) (last_equal (newtypes_equal (texts_equal x.value y.value)))) e
 
 pub returns-clause-locate_request_payload : goal.returns-clause-locate_request_payload
 unfolding read_locate_request_payload
 returns-clause-locate_request_payload g c x y e =
-    let e = in_structure e in
-    both (options_same maximum_items_value _ (returns-clause-maximum_items g c) x.maximum_items y.maximum_items (first_same e)) (
-    let e = later_same e in
-    any_equal text_attribute_value text_attribute_value _ (returns-clause-text_attribute g c) x.attributes.items y.attributes.items (first_same e))
+    structures_equal (part_equal (options_same maximum_items_value _ (returns-clause-maximum_items g c) x.maximum_items y.maximum_items) (
+    last_equal (any_equal text_attribute_value text_attribute_value _ (returns-clause-text_attribute g c) x.attributes.items y.attributes.items))) e
 
 pub returns-clause-operation : goal.returns-clause-operation
 unfolding written_operation read_operation
-returns-clause-operation g c x (operation.Other n) e =
-    unsigned_equal (operation_number x) n (other_same operation_numbers (operation_number x) n (in_newtype e))
-returns-clause-operation g c x y e =
-    unsigned_equal (operation_number x) (operation_number y) (in_number (in_newtype e))
+returns-clause-operation g c x (Other n) e = newtypes_equal (others_equal operation_numbers (operation_number x) n) e
+returns-clause-operation g c x y e = newtypes_equal (numbers_equal (operation_number x) (operation_number y)) e
 
 abbrev object_type_rows : List (List ℕ × ObjectType)
 object_type_rows =
@@ -186,28 +149,22 @@ returns-clause-object_type g c x y e =
     true_same object_type_contract.the_type x y (found_same object_type_number object_type_rows object_type_found x y (in_unit e))
 
 pub returns-clause-application_namespace : goal.returns-clause-application_namespace
-returns-clause-application_namespace g c x y e = texts_equal x.name y.name (in_text (in_newtype e))
+returns-clause-application_namespace g c x y e = newtypes_equal (texts_equal x.name y.name) e
 
 pub returns-clause-query_response_payload : goal.returns-clause-query_response_payload
 unfolding returned_query_response_payload read_query_response_payload
 returns-clause-query_response_payload g c x y e =
-    let e = in_structure e in
-    both (any_equal written_operation read_operation _ (returns-clause-operation g c) x.operations.items y.operations.items (first_same e)) (
-    let e = later_same e in
-    both (any_equal object_type_value object_type_value _ (returns-clause-object_type g c) x.object_types.items y.object_types.items (first_same e)) (
-    let e = later_same e in
-    both (options_same (λ y. newtype_value (codes "Transparent:0x42009D") (text_value (string_bytes y))) _ (λ a b e. texts_equal a b (in_text (in_newtype e)))
-    x.vendor y.vendor (first_same e)) (
-    let e = later_same e in
-    any_equal application_namespace_value application_namespace_value _ (returns-clause-application_namespace g c) x.namespaces.items y.namespaces.items
-    (first_same e))))
+    structures_equal (part_equal (any_equal written_operation read_operation _ (returns-clause-operation g c) x.operations.items y.operations.items) (
+    part_equal (any_equal object_type_value object_type_value _ (returns-clause-object_type g c) x.object_types.items y.object_types.items) (
+    part_equal (options_same (λ y. newtype_value (codes "Transparent:0x42009D") (text_value (string_bytes y))) _ (λ a b. newtypes_equal (texts_equal a b))
+    x.vendor y.vendor) (
+    last_equal (any_equal application_namespace_value application_namespace_value _ (returns-clause-application_namespace g c) x.namespaces.items
+    y.namespaces.items))))) e
 
 pub returns-clause-result_reason : goal.returns-clause-result_reason
 unfolding written_result_reason read_result_reason
-returns-clause-result_reason g c x (result_reason.Other n) e =
-    unsigned_equal (result_reason_number x) n (other_same result_reason_numbers (result_reason_number x) n (in_newtype e))
-returns-clause-result_reason g c x y e =
-    unsigned_equal (result_reason_number x) (result_reason_number y) (in_number (in_newtype e))
+returns-clause-result_reason g c x (Other n) e = newtypes_equal (others_equal result_reason_numbers (result_reason_number x) n) e
+returns-clause-result_reason g c x y e = newtypes_equal (numbers_equal (result_reason_number x) (result_reason_number y)) e
 
 abbrev result_status_rows : List (List ℕ × ResultStatus)
 result_status_rows =
@@ -229,12 +186,7 @@ returns-clause-result_status g c x y e =
 pub returns-clause-failed_item : goal.returns-clause-failed_item
 unfolding returned_failed_item read_failed_item
 returns-clause-failed_item g c x y e =
-    let e = in_structure e in
-    both (returns-clause-operation g c x.operation y.operation (first_same e)) (
-    let e = later_same e in
-    both (returns-clause-result_status g c x.status y.status (first_same e)) (
-    let e = later_same e in
-    both (options_equal written_result_reason read_result_reason _ (returns-clause-result_reason g c) x.reason y.reason (first_same e)) (
-    let e = later_same e in
-    options_same (λ y. newtype_value (codes "Transparent:0x42007D") (text_value (string_bytes y))) _ (λ a b e. texts_equal a b (in_text (in_newtype e)))
-    x.message y.message (first_same e))))
+    structures_equal (part_equal (returns-clause-operation g c x.operation y.operation) (part_equal (returns-clause-result_status g c x.status y.status) (
+    part_equal (options_equal written_result_reason read_result_reason _ (returns-clause-result_reason g c) x.reason y.reason) (
+    last_equal (options_same (λ y. newtype_value (codes "Transparent:0x42007D") (text_value (string_bytes y))) _ (λ a b. newtypes_equal (texts_equal a b))
+    x.message y.message))))) e
