@@ -2,8 +2,7 @@
 use Rattle.std.proofs.Common.{◌≡◌, ℕ, suc, ◌+◌, ◌≤◌, List, [], ◌∷◌, ◌++◌, length, map, set, ap, sym, refl, ◌∙◌, arith}
 use Rattle.std.proofs.lemmas.List.{map-append}
 use Rattle.kmip_ttlv_types.specs.Places.{length_at}
-use Rattle.kmip_ttlv_items.specs.declared.found.FoundItem.{FoundItem}
-use Rattle.kmip_ttlv_items.specs.FoundItems.{overlaid}
+use Rattle.kmip_ttlv_items.specs.{declared.found.FoundItem.FoundItem, FoundItems.overlaid}
 
 -- ---- the caller's list
 

@@ -9,5 +9,4 @@ mod Sending
 mod Outputs
 mod Receiving
 mod Sound
-mod Rows
 mod Splitting

@@ -1,9 +1,7 @@
 -- The items of values one after the other, and of what is in a wrapper.
 use Rattle.std.proofs.Common.{◌≡◌, ℕ, ◌+◌, Bool, List, [], ◌∷◌, ◌++◌, length, Option, Some, None, refl, sym, ap₂, arith}
 use Rattle.kmip_ttlv_types.specs.Trees.{Tree, bytes_all}
-use Rattle.kmip_ttlv_ser.specs.declared.pending.PendingTag.{PendingTag}
-use Rattle.kmip_ttlv_ser.specs.declared.pending.PendingTag.TheVariants.{Nothing}
-use Rattle.kmip_ttlv_ser.specs.declared.pending.Place.{Place}
+use Rattle.kmip_ttlv_ser.specs.declared.pending.{PendingTag.PendingTag, PendingTag.TheVariants.Nothing, Place.Place}
 use Rattle.kmip_ttlv_ser.specs.WrittenItems.{◌>>=◌, some_item, left_over}
 use Rattle.kmip_ttlv_ser.specs.Faults.{place_after}
 use Rattle.kmip_ttlv_ser.proofs.Leaves.{len_append, opened_append}

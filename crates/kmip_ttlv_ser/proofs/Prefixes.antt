@@ -1,20 +1,11 @@
 -- What is left after prefixes, and the number that it is.
-use Rattle.std.proofs.Common.{◌≡◌, ℕ, ◌<◌, ◌++◌, List, [], ◌∷◌, Bool, true, false, ◌&&◌, Option, Some, None, option_map, MatchOption, Bor}
-use Rattle.std.proofs.Common.{take, drop, length, get_or, eqb, ◌==◌, if◌then◌else◌, codes, refl, sym, ap, ◌∙◌, subst, arith, append-nil, true≢false}
-use Rattle.std.proofs.Math.Logic.{⊎_elim}
-use Rattle.std.specs.Char.{digit_value}
-use Rattle.std.specs.Str.{bytes_eq}
-use Rattle.std.specs.Str.Parse.{AllDigits, without_leading_plus}
-use Rattle.std.specs.Str.{IsCharBoundary}
-use Rattle.std.specs.Str.Pattern.{FindsTextPrefix, StripsPrefix}
-use Rattle.std.specs.List.{starts_with}
-use Rattle.std.proofs.lemmas.Str.Pattern.{starts_text}
-use Rattle.std.proofs.lemmas.Bool.{cases_Bool, ne_eqb}
-use Rattle.std.proofs.lemmas.Bool.Decides.{Decides-eqb}
-use Rattle.std.proofs.Math.ListN.{get_or-append}
+use Rattle.std.proofs.Common.{◌≡◌, ℕ, ◌<◌, ◌++◌, List, [], ◌∷◌, Bool, true, false, ◌&&◌, Option, Some, None, option_map, MatchOption, Bor, take, drop, length}
+use Rattle.std.proofs.Common.{get_or, eqb, ◌==◌, if◌then◌else◌, codes, refl, sym, ap, ◌∙◌, subst, arith, append-nil, true≢false}
+use Rattle.std.proofs.{Math.Logic.⊎_elim, lemmas.Str.Pattern.starts_text, lemmas.Bool.cases_Bool, lemmas.Bool.ne_eqb, lemmas.Bool.Decides.Decides-eqb}
+use Rattle.std.proofs.{Math.ListN.get_or-append, lemmas.Slice.Eq.starts_is, lemmas.Slice.Eq.bytes_eq-Decides, lemmas.Str.Parse.without_leading_plus_none}
+use Rattle.std.specs.{Char.digit_value, Str.bytes_eq, Str.IsCharBoundary, Str.Parse.AllDigits, Str.Parse.without_leading_plus, Str.Pattern.FindsTextPrefix}
+use Rattle.std.specs.{Str.Pattern.StripsPrefix, List.starts_with}
 use Rattle.std.proofs.lemmas.List.{take-append-drop, drop_all, take_all}
-use Rattle.std.proofs.lemmas.Slice.Eq.{starts_is, bytes_eq-Decides}
-use Rattle.std.proofs.lemmas.Str.Parse.{without_leading_plus_none}
 use Rattle.kmip_ttlv_types.specs.Names.{after_prefix, without_0x, numeral, number}
 
 pub stripped : (p s : List ℕ) (r : Option (Bor (List ℕ))) → MatchOption r (FindsTextPrefix p s None) (λ x. StripsPrefix (FindsTextPrefix p) s x.now)

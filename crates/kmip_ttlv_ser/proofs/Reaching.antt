@@ -1,15 +1,10 @@
 -- An error isn't before the place at which the value begins.
-use Rattle.std.proofs.Common.{ℕ, ◌≤◌, Bool, true, false, List, Option, Some, None, codes, arith}
-use Rattle.kmip_ttlv_types.specs.Names.{tag_of, transparent_name}
-use Rattle.kmip_ttlv_types.specs.Trees.{Tree}
-use Rattle.kmip_ttlv_base.specs.Errors.{Kind, mismatch, invalid_variant, unsupported_rust_type}
-use Rattle.kmip_ttlv_base.specs.Values.{Value, boolean_value, i8_value, i16_value, i32_value, u32_value, i64_value, u64_value, date_time_value, interval_value}
-use Rattle.kmip_ttlv_base.specs.Values.{text_value, bytes_value, big_integer_value, none_value as none, some_value as some, seq_value, struct_value}
-use Rattle.kmip_ttlv_base.specs.Values.{newtype_value, unit_variant_value, newtype_variant_value, tuple_variant_value, unsupported_value, Values, no_values}
-use Rattle.kmip_ttlv_base.specs.Values.{value}
-use Rattle.kmip_ttlv_ser.specs.declared.pending.PendingTag.{PendingTag}
-use Rattle.kmip_ttlv_ser.specs.declared.pending.PendingTag.TheVariants.{Nothing, Plain}
-use Rattle.kmip_ttlv_ser.specs.declared.pending.Place.{Place}
+use Rattle.std.proofs.Common.{ℕ, ◌≤◌, Bool, true, false, List, Option, Some, None, arith}
+use Rattle.kmip_ttlv_types.specs.{Names.tag_of, Names.transparent_name, Trees.Tree}
+use Rattle.kmip_ttlv_base.specs.Errors.{Kind, mismatch, invalid_variant}
+use Rattle.kmip_ttlv_base.specs.Values.{Value, some_value as some, seq_value, struct_value, newtype_value, unit_variant_value, newtype_variant_value}
+use Rattle.kmip_ttlv_base.specs.Values.{tuple_variant_value, Values, no_values, value}
+use Rattle.kmip_ttlv_ser.specs.declared.pending.{PendingTag.PendingTag, PendingTag.TheVariants.Nothing, PendingTag.TheVariants.Plain, Place.Place}
 use Rattle.kmip_ttlv_ser.specs.WrittenItems.{take_tag, pending_after, without_override, is_wrapper, left_over, items}
 use Rattle.kmip_ttlv_ser.specs.Faults.{EncodeFault, fault_at, name_kind, no_tag, under_name, within, newtype_fault, variant_fault, in_turn, place_after, inside}
 use Rattle.kmip_ttlv_ser.specs.Faults.{fault, fault_in}
@@ -50,19 +45,6 @@ turn_least (Some ts) p here later h l = omega (arith, l ts)
 
 mutual
   pub fault_least : (v : Value) (w : PendingTag) (p : Place) → p.offset ≤ (fault v w p).offset
-  fault_least (boolean_value b) w p = at_least (no_tag p.opened) w p
-  fault_least (i8_value z) w p = at_least (no_tag p.opened) w p
-  fault_least (i16_value z) w p = at_least (no_tag p.opened) w p
-  fault_least (i32_value z) w p = at_least (no_tag p.opened) w p
-  fault_least (u32_value n) w p = at_least (no_tag p.opened) w p
-  fault_least (i64_value z) w p = at_least (no_tag p.opened) w p
-  fault_least (u64_value n) w p = at_least (no_tag p.opened) w p
-  fault_least (date_time_value z) w p = at_least (no_tag p.opened) w p
-  fault_least (interval_value n) w p = at_least (no_tag p.opened) w p
-  fault_least (text_value s) w p = at_least (no_tag p.opened) w p
-  fault_least (bytes_value s) w p = at_least (no_tag p.opened) w p
-  fault_least (big_integer_value s) w p = at_least (no_tag p.opened) w p
-  fault_least none w p = at_least (mismatch (unsupported_rust_type (codes "None"))) w p
   fault_least (some v) w p = fault_least v w p
   fault_least (seq_value vs) w p = fault_in_least vs w p
   fault_least (struct_value name vs) w p = under_least (take_tag w name) name w p (λ t. fault_in vs Nothing (inside p))
@@ -73,7 +55,7 @@ mutual
   fault_least (newtype_variant_value name vname v) w p = variant_least (is_wrapper vname) name w p (items v) (fault v) (λ u q. fault_least v u q)
   fault_least (tuple_variant_value name vname vs) w p = let n = without_override name in under_least (take_tag w n) n w p (λ t. fault_in vs Nothing (inside p))
       (λ t. omega (arith, fault_in_least vs Nothing (inside p)))
-  fault_least (unsupported_value name) w p = at_least (mismatch (unsupported_rust_type name)) w p
+  fault_least _ w p = omega arith
 
   pub fault_in_least : (vs : Values) (w : PendingTag) (p : Place) → p.offset ≤ (fault_in vs w p).offset
   fault_in_least no_values w p = at_least (no_tag p.opened) w p

@@ -4,15 +4,11 @@ use Rattle.std.proofs.Common.{append_assoc, length-append}
 use Rattle.std.specs.List.{AllByRecursion}
 use Rattle.std.specs.Int.{w32, to_be_bytes, from_be_bytes, bytes_high_first}
 use Rattle.std.proofs.lemmas.Nat.{from_be_bytes-to_be_bytes_4}
-use Rattle.kmip_ttlv_types.specs.declared.typ.TtlvType.{TtlvType}
-use Rattle.kmip_ttlv_types.specs.declared.typ.TtlvType.TheVariants.{Structure, Integer, LongInteger, BigInteger, Enumeration, Boolean, TextString, ByteString}
-use Rattle.kmip_ttlv_types.specs.declared.typ.TtlvType.TheVariants.{DateTime, Interval}
+use Rattle.kmip_ttlv_types.specs.{declared.typ.TtlvType.TtlvType, declared.typ.TtlvType.TheVariants.Structure, Items.header}
 use Rattle.kmip_ttlv_types.specs.ItemTypes.{code, type_of, is_structure, pad_len}
-use Rattle.kmip_ttlv_types.specs.Items.{header}
 use Rattle.kmip_ttlv_types.specs.Trees.{Tree, leaf, node, Trees, no_trees, tree, trees_of, leaf_bytes, node_bytes, bytes, bytes_below, bytes_all}
 use Rattle.kmip_ttlv_ser.specs.WriteLaws.{IsSound, AreSound}
-use Rattle.kmip_ttlv_ser.proofs.Leaves.{below_is, tree_len}
-use Rattle.kmip_ttlv_ser.proofs.Parts.{some_same}
+use Rattle.kmip_ttlv_ser.proofs.{Leaves.below_is, Leaves.tree_len, Parts.some_same}
 
 -- ---- numbers
 
@@ -27,15 +23,7 @@ same_tag m n hm hn e = same_number m n (omega (arith, hm)) (omega (arith, hn)) (
 
 of_code : (t : TtlvType) → type_of (code t) ≡ Some t
 of_code Structure = refl
-of_code Integer = refl
-of_code LongInteger = refl
-of_code BigInteger = refl
-of_code Enumeration = refl
-of_code Boolean = refl
-of_code TextString = refl
-of_code ByteString = refl
-of_code DateTime = refl
-of_code Interval = refl
+of_code _ = refl
 
 same_type : (t u : TtlvType) → code t ≡ code u → t ≡ u
 same_type t u e = some_same t u (sym (of_code t) ∙ ap type_of e ∙ of_code u)
@@ -44,13 +32,12 @@ same_type t u e = some_same t u (sym (of_code t) ∙ ap type_of e ∙ of_code u)
 
 split_same : (xs ys a b : List ℕ) → length xs ≡ length ys → xs ++ a ≡ ys ++ b → (xs ≡ ys) × (a ≡ b)
 split_same [] [] a b len e = (refl, e)
-split_same [] (y ∷ ys) a b len e = absurd (omega (arith, len))
-split_same (x ∷ xs) [] a b len e = absurd (omega (arith, len))
 split_same (x ∷ xs) (y ∷ ys) a b len e =
     let tail : xs ++ a ≡ ys ++ b = cc in
     let head : x ≡ y = cc in
     let s = split_same xs ys a b (omega (arith, len)) tail in
     (ap₂ (λ z zs. z ∷ zs) head s.0, s.1)
+split_same _ _ a b len e = absurd (omega (arith, len))
 
 -- two headers, and what follows them
 same_header : (t u : ℕ) (p q : TtlvType) (m n : ℕ) (a b : List ℕ) → t < 2 ^ 24 → u < 2 ^ 24 → m < 2 ^ 32 → n < 2 ^ 32 → header t p m ++ a ≡ header u q n ++ b
@@ -70,9 +57,7 @@ unfolding leaf_bytes
 leaf_split t u p q c d a b ht hu hc hd e =
     let zc = replicate (pad_len (length c)) 0 in
     let zd = replicate (pad_len (length d)) 0 in
-    let flat : header t p (length c) ++ (c ++ (zc ++ a)) ≡ header u q (length d) ++ (d ++ (zd ++ b)) =
-    ap (λ xs. header t p (length c) ++ xs) (sym (append_assoc c zc a)) ∙ sym (append_assoc (header t p (length c)) (c ++ zc) a) ∙ e
-    ∙ append_assoc (header u q (length d)) (d ++ zd) b ∙ ap (λ xs. header u q (length d) ++ xs) (append_assoc d zd b) in
+    let flat : header t p (length c) ++ (c ++ (zc ++ a)) ≡ header u q (length d) ++ (d ++ (zd ++ b)) = simp append_assoc at e in
     let h = same_header t u p q (length c) (length d) (c ++ (zc ++ a)) (d ++ (zd ++ b)) ht hu hc hd flat in
     let content = split_same c d (zc ++ a) (zd ++ b) h.2 h.3 in
     let pad : zd ≡ zc = ap (λ n. replicate (pad_len n) 0) (sym h.2) in
@@ -83,8 +68,7 @@ node_split : (t u : ℕ) (c d a b : List ℕ) → t < 2 ^ 24 → u < 2 ^ 24 → 
     → (t ≡ u) × (c ≡ d) × (a ≡ b)
 unfolding node_bytes
 node_split t u c d a b ht hu hc hd e =
-    let flat : header t Structure (length c) ++ (c ++ a) ≡ header u Structure (length d) ++ (d ++ b) = sym (append_assoc (header t Structure (length c)) c a)
-    ∙ e ∙ append_assoc (header u Structure (length d)) d b in
+    let flat : header t Structure (length c) ++ (c ++ a) ≡ header u Structure (length d) ++ (d ++ b) = simp append_assoc at e in
     let h = same_header t u Structure Structure (length c) (length d) (c ++ a) (d ++ b) ht hu hc hd flat in
     let s = split_same c d a b h.2 h.3 in
     (h.0, s.0, s.1)
@@ -94,10 +78,9 @@ leaf_no_node : (t u : ℕ) (p : TtlvType) (c d a b : List ℕ) → t < 2 ^ 24 �
     → leaf_bytes t p c ++ a ≡ node_bytes u d ++ b → ⊥
 unfolding leaf_bytes node_bytes
 leaf_no_node t u p c d a b ht hu plain hc hd e =
-    let z = c ++ replicate (pad_len (length c)) 0 in
-    let flat : header t p (length c) ++ (z ++ a) ≡ header u Structure (length d) ++ (d ++ b) = sym (append_assoc (header t p (length c)) z a) ∙ e
-    ∙ append_assoc (header u Structure (length d)) d b in
-    let h = same_header t u p Structure (length c) (length d) (z ++ a) (d ++ b) ht hu hc hd flat in
+    let z : List ℕ = replicate (pad_len (length c)) 0 in
+    let flat : header t p (length c) ++ (c ++ (z ++ a)) ≡ header u Structure (length d) ++ (d ++ b) = simp append_assoc at e in
+    let h = same_header t u p Structure (length c) (length d) (c ++ (z ++ a)) (d ++ b) ht hu hc hd flat in
     let k : true ≡ false = sym (ap is_structure h.1) ∙ plain in
     absurd cc
 

@@ -2,45 +2,28 @@
 use Rattle.std.proofs.Common.{◌≡◌, ℕ, false, List, [], ◌∷◌, ◌++◌, map, length, replicate, refl, sym, ◌∙◌, append_assoc, append-nil, subst}
 use Rattle.std.specs.List.{AllByRecursion}
 use Rattle.std.proofs.Math.ListN.{length-replicate}
-use Rattle.kmip_ttlv_types.specs.declared.typ.TtlvType.{TtlvType}
-use Rattle.kmip_ttlv_types.specs.declared.typ.TtlvType.TheVariants.{Structure, Integer, LongInteger, BigInteger, Enumeration, Boolean, TextString, ByteString}
-use Rattle.kmip_ttlv_types.specs.declared.typ.TtlvType.TheVariants.{DateTime, Interval}
+use Rattle.kmip_ttlv_types.specs.declared.typ.TtlvType.{TtlvType, TheVariants.Structure}
 use Rattle.kmip_ttlv_types.specs.ItemTypes.{is_structure, pad_len, padding}
 use Rattle.kmip_ttlv_types.specs.Items.{header, IsTextOf, Splits}
 use Rattle.kmip_ttlv_types.specs.Trees.{Tree, leaf, node, leaf_bytes, node_bytes, bytes, bytes_below, bytes_all, raw_of}
 use Rattle.kmip_ttlv_base.specs.Values.{Value}
-use Rattle.kmip_ttlv_ser.specs.EncodeResults.{IsWrittenAs}
-use Rattle.kmip_ttlv_ser.specs.WriteLaws.{IsSound}
+use Rattle.kmip_ttlv_ser.specs.{EncodeResults.IsWrittenAs, WriteLaws.IsSound}
 use Rattle.kmip_ttlv_ser.proofs.Sound.{items_sound}
 
 padding_is : (t : TtlvType) (n : ℕ) → is_structure t ≡ false → padding t n ≡ pad_len n
 padding_is Structure n h = absurd cc
-padding_is Integer n h = refl
-padding_is LongInteger n h = refl
-padding_is BigInteger n h = refl
-padding_is Enumeration n h = refl
-padding_is Boolean n h = refl
-padding_is TextString n h = refl
-padding_is ByteString n h = refl
-padding_is DateTime n h = refl
-padding_is Interval n h = refl
+padding_is _ n h = refl
 
 tree_text : (t : Tree) → IsSound t → IsTextOf (raw_of t) (bytes t)
 unfolding leaf_bytes node_bytes
-tree_text (leaf tag typ c) h = record {
-  tag_fits = h.0;
-  length_fits = h.2;
-  pad = replicate (pad_len (length c)) 0;
-  pad_length = length-replicate (pad_len (length c)) 0 ∙ sym (padding_is typ (length c) h.1);
-  parts = sym (append_assoc (header tag typ (length c)) c (replicate (pad_len (length c)) 0));
-}
-tree_text (node tag below) h = record {
-  tag_fits = h.0;
-  length_fits = h.1;
-  pad = [];
-  pad_length = refl;
-  parts = sym (append-nil (header tag Structure (length (bytes_below below)) ++ bytes_below below));
-}
+tree_text (leaf tag typ c) h =
+    let n = pad_len (length c) in
+    let long = length-replicate n 0 ∙ sym (padding_is typ (length c) h.1) in
+    let parts = sym (append_assoc (header tag typ (length c)) c (replicate n 0)) in
+    record { tag_fits = h.0; length_fits = h.2; pad = replicate n 0; pad_length = long; parts = parts }
+tree_text (node tag below) h =
+    let parts = sym (append-nil (header tag Structure (length (bytes_below below)) ++ bytes_below below)) in
+    record { tag_fits = h.0; length_fits = h.1; pad = []; pad_length = refl; parts = parts }
 
 trees_split : (ts : List Tree) → AllByRecursion IsSound ts → Splits (map raw_of ts) (bytes_all ts)
 trees_split [] h = refl

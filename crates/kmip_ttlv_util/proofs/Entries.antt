@@ -1,15 +1,12 @@
 -- Entries at offsets.
-use Rattle.std.proofs.Common.{Bor, ◌≡◌, ◌≢◌, ℕ, ◌+◌, ◌<◌, ◌≤◌, Bool, true, false, ◌&&◌, cond, eqb, leb, List, length, take, drop, get_or, Option, Some, None}
-use Rattle.std.proofs.Common.{refl, sym, ap, subst, ◌∙◌, arith, add-zero}
+use Rattle.std.proofs.Common.{Bor, ◌≡◌, ◌≢◌, ℕ, ◌+◌, ◌<◌, ◌≤◌, Bool, true, false, ◌&&◌, cond, leb, List, length, take, drop, get_or, Option, Some, None, refl}
+use Rattle.std.proofs.Common.{sym, ap, subst, ◌∙◌, arith, add-zero}
 use Rattle.std.specs.Int.{w32, from_be_bytes}
 use Rattle.std.proofs.lemmas.List.{get_or-take, get_or-drop, length-take-le, length-drop}
 use Rattle.std.proofs.lemmas.Bool.{le-leb, lt-leb}
-use Rattle.kmip_ttlv_types.specs.declared.typ.TtlvType.{TtlvType}
-use Rattle.kmip_ttlv_types.specs.declared.typ.TtlvType.TheVariants.{Structure, Integer, LongInteger, BigInteger, Enumeration, Boolean, TextString, ByteString}
-use Rattle.kmip_ttlv_types.specs.declared.typ.TtlvType.TheVariants.{DateTime, Interval}
-use Rattle.kmip_ttlv_types.specs.Leaves.{is_valid}
+use Rattle.kmip_ttlv_types.specs.{declared.typ.TtlvType.TtlvType, declared.typ.TtlvType.TheVariants.Structure, declared.typ.TtlvType.TheVariants.Enumeration}
+use Rattle.kmip_ttlv_types.specs.{Leaves.is_valid, ItemTypes.type_of}
 use Rattle.kmip_ttlv_types.specs.Places.{tag_at, code_at, length_at, size}
-use Rattle.kmip_ttlv_types.specs.ItemTypes.{type_of}
 use Rattle.kmip_ttlv_util.specs.Entries.{Detail, detail_of, detail_at, entry_at, is_fine, extent, type_if, type_read, detail_value}
 use Rattle.kmip_ttlv_util.specs.Walks.{IsItem}
 
@@ -35,54 +32,22 @@ module _ (w : List ℕ) (p : ℕ) where
 -- an entry takes at least the eight bytes of its header
 pub extent_least : (t : TtlvType) (n : ℕ) → 8 ≤ extent t n
 extent_least Structure n = omega arith
-extent_least Integer n = omega arith
-extent_least LongInteger n = omega arith
-extent_least BigInteger n = omega arith
-extent_least Enumeration n = omega arith
-extent_least Boolean n = omega arith
-extent_least TextString n = omega arith
-extent_least ByteString n = omega arith
-extent_least DateTime n = omega arith
-extent_least Interval n = omega arith
+extent_least typ n = omega arith
 
 -- a leaf's entry takes all of it
 pub extent_leaf : (t : TtlvType) (n : ℕ) → t ≢ Structure → extent t n ≡ size t n
 extent_leaf Structure n ne = absurd (ne refl)
-extent_leaf Integer n ne = refl
-extent_leaf LongInteger n ne = refl
-extent_leaf BigInteger n ne = refl
-extent_leaf Enumeration n ne = refl
-extent_leaf Boolean n ne = refl
-extent_leaf TextString n ne = refl
-extent_leaf ByteString n ne = refl
-extent_leaf DateTime n ne = refl
-extent_leaf Interval n ne = refl
+extent_leaf typ n ne = refl
 
 -- what is kept shows whether content is valid
 fine_is : (t : TtlvType) (n : ℕ) (content : List ℕ) → t ≢ Structure → length content ≡ n → is_fine t n (detail_of t content) ≡ is_valid t content
 fine_is Structure n content ne len = absurd (ne refl)
-fine_is Integer n content ne len = ap (λ (m : ℕ). eqb m 4) (sym len)
-fine_is LongInteger n content ne len = ap (λ (m : ℕ). eqb m 8) (sym len)
-fine_is BigInteger n content ne len = refl
-fine_is Enumeration n content ne len = ap (λ (m : ℕ). eqb m 4) (sym len)
-fine_is Boolean n content ne len = refl
-fine_is TextString n content ne len = refl
-fine_is ByteString n content ne len = refl
-fine_is DateTime n content ne len = ap (λ (m : ℕ). eqb m 8) (sym len)
-fine_is Interval n content ne len = ap (λ (m : ℕ). eqb m 4) (sym len)
+fine_is typ n content ne len = subst (λ (m : ℕ). is_fine typ m (detail_of typ content) ≡ is_valid typ content) len refl
 
 -- a value is kept only of an enumeration
 shown_none : (t : TtlvType) (d : Detail) → t ≢ Enumeration → detail_value t d ≡ None
-shown_none Structure d ne = refl
-shown_none Integer d ne = refl
-shown_none LongInteger d ne = refl
-shown_none BigInteger d ne = refl
 shown_none Enumeration d ne = absurd (ne refl)
-shown_none Boolean d ne = refl
-shown_none TextString d ne = refl
-shown_none ByteString d ne = refl
-shown_none DateTime d ne = refl
-shown_none Interval d ne = refl
+shown_none typ d ne = refl
 
 -- a valid enumeration's value is kept
 pub shown_enumeration : (content : List ℕ) → is_valid Enumeration content ≡ true → detail_value Enumeration (detail_of Enumeration content) ≡ Some
@@ -147,8 +112,7 @@ module _ (w : List ℕ) (p : ℕ) where
   -- an entry with invalid content is not read
   pub read_invalid : (t : TtlvType) (n : ℕ) → type_of (code_at w p) ≡ Some t → t ≢ Structure → n ≡ length_at w p → p + size t n ≤ length w
       → is_valid t (take n (drop (p + 8) w)) ≡ false → type_read (length w) p (entry_at w p) ≡ None
-  read_invalid t n code-is ne len le bad =
-      read_at (Some t) code-is ∙ test_false _ _ t (fine_here t n code-is ne len le ∙ bad)
+  read_invalid t n code-is ne len le bad = read_at (Some t) code-is ∙ test_false _ _ t (fine_here t n code-is ne len le ∙ bad)
 
   -- a leaf with valid content that is all there is read
   pub read_leaf : (t : TtlvType) (n : ℕ) → type_of (code_at w p) ≡ Some t → t ≢ Structure → n ≡ length_at w p → p + size t n ≤ length w
@@ -186,7 +150,7 @@ module _ (w : List ℕ) (p : ℕ) where
         typ = read_leaf t n code-is ne len le (ap (is_valid t) (sym content-is) ∙ good);
         tag = tag-is ∙ sym (entry_tag w p);
         len = len ∙ sym (entry_length w p);
-        value = detail_value-is ∙ ap (λ (c : List ℕ). detail_value t (detail_of t c)) content-is ∙ ap (detail_value t) (sym (detail_here t n code-is len le));
+        value = rw (detail_value-is, content-is, ← detail_here t n code-is len le) refl;
         next = next-is ∙ ap (λ (m : ℕ). p + m) (sym (extent_leaf t n ne));
         within = within;
         content = λ _. content-is;

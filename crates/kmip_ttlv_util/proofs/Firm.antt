@@ -1,28 +1,17 @@
 -- Texts that trimming leaves alone, whatever follows them, and the trimmed end of a line.
-use Rattle.std.proofs.Common.{◌≡◌, ◌≢◌, ◌⊎◌, inl, inr, ℕ, zero, suc, ◌-◌, ◌<◌, Bool, true, false, ◌&&◌, cond, eqb, List, [], ◌∷◌, ◌++◌, length, replicate}
-use Rattle.std.proofs.Common.{Option, Some, None, refl, sym, ap, subst, ◌∙◌, arith, append_assoc, append-nil, length-append}
+use Rattle.std.proofs.Common.{◌≡◌, ◌≢◌, ◌⊎◌, inl, inr, ℕ, zero, suc, ◌-◌, ◌<◌, Bool, true, false, ◌&&◌, cond, eqb, List, [], ◌∷◌, ◌++◌, length, take, replicate}
+use Rattle.std.proofs.Common.{Option, Some, None, refl, sym, ap, subst, ◌∙◌, arith, append-nil}
 use Rattle.std.specs.Prelude.{codes, ◌^◌, IfSome, nat_le}
-use Rattle.std.specs.Borrow.{Bor}
-use Rattle.std.specs.Option.{option_map}
-use Rattle.std.specs.Char.{is_whitespace}
-use Rattle.std.specs.Fmt.{decimal}
+use Rattle.std.specs.{Borrow.Bor, Option.option_map, Char.is_whitespace, Fmt.decimal}
+use Rattle.kmip_ttlv_util.specs.{TagNames.named, Pending.pending_text, Pending.last_text, declared.indentation.Indentation.Indentation}
+use Rattle.kmip_ttlv_util.specs.{declared.indentation.Indentation.TheVariants.Full, declared.indentation.Indentation.TheVariants.Bounded, Outlines.hex_upper}
 use Rattle.std.specs.Str.{IsUtf8, IsAscii, is_utf8, chars, drop_trailing_whitespace, trim_end, encode_utf8_all}
-use Rattle.std.proofs.lemmas.Str.{IsUtf8-append, IsUtf8-from_ascii, IsUtf8-from_is_utf8, IsUtf8-nil, chars-append, chars-IsAscii, chars-nil, encodes-chars}
-use Rattle.std.proofs.lemmas.Str.{encodes-append, length-le-encodes}
-use Rattle.kmip_ttlv_util.specs.Pending.{pending_text, last_text}
+use Rattle.std.proofs.lemmas.Str.{IsUtf8-append, IsUtf8-from_ascii, IsUtf8-from_is_utf8, IsUtf8-nil, chars-append, chars-IsAscii, chars-nil, length-le-encodes}
 use lib.Utf8.{encode}
-use Rattle.std.proofs.lemmas.Bool.{ne_eqb}
-use Rattle.std.proofs.lemmas.Str.Ascii.{IsAscii-nil, IsAscii-cons}
-use Rattle.std.proofs.lemmas.Fmt.{IsAscii-decimal}
-use Rattle.kmip_ttlv_types.specs.declared.typ.TtlvType.{TtlvType}
-use Rattle.kmip_ttlv_types.specs.declared.typ.TtlvType.TheVariants.{Structure, Integer, LongInteger, BigInteger, Enumeration, Boolean, TextString, ByteString}
-use Rattle.kmip_ttlv_types.specs.declared.typ.TtlvType.TheVariants.{DateTime, Interval}
-use Rattle.kmip_ttlv_types.specs.TypeTexts.{type_text}
-use Rattle.kmip_ttlv_util.specs.declared.indentation.Indentation.{Indentation}
-use Rattle.kmip_ttlv_util.specs.declared.indentation.Indentation.TheVariants.{Full, Bounded}
-use Rattle.kmip_ttlv_util.specs.Outlines.{hex_upper}
-use Rattle.kmip_ttlv_util.specs.Lines.{at_least, hex_padded, indent, tag_named, tag_part, depth_mark, bounded_part, indented, typ_part}
-use Rattle.kmip_ttlv_util.proofs.Trimmed.{Visible, AllVisible, visible_dark, stays_on, ascii_one, front_utf8, Ends, ends_behind, last_visible, hex_visible}
+use Rattle.std.proofs.lemmas.{Bool.ne_eqb, Str.Ascii.IsAscii-nil, Str.Ascii.IsAscii-cons, Fmt.IsAscii-decimal}
+use Rattle.kmip_ttlv_types.specs.{declared.typ.TtlvType.TtlvType, declared.typ.TtlvType.TheVariants.Structure, TypeTexts.type_text}
+use Rattle.kmip_ttlv_util.specs.Lines.{at_least, hex_padded, indent, tag_named, tag_part, depth_mark, bounded_part, indented}
+use Rattle.kmip_ttlv_util.proofs.Trimmed.{AllVisible, ascii_one, Ends, ends_behind, keeps, last_visible, hex_visible}
 
 -- a text that ends with a visible character
 abbrev pub Solid : List ℕ → Type 0
@@ -36,36 +25,6 @@ IsFirm t = (t ≡ []) ⊎ Solid t
 pub firm_utf8 : (t : List ℕ) → IsFirm t → IsUtf8 t
 firm_utf8 t (inl e) = subst IsUtf8 (sym e) IsUtf8-nil
 firm_utf8 t (inr f) = f.1
-
--- a visible character stays, with everything before it
-drop_keeps : (zs : List ℕ) (c : ℕ) (ys : List ℕ) → Visible c → drop_trailing_whitespace (zs ++ (c ∷ ys)) ≡ zs ++ (c ∷ drop_trailing_whitespace ys)
-drop_keeps [] c ys v = rw (visible_dark c v) refl
-drop_keeps (z ∷ zs) c ys v =
-    let k = drop_keeps zs c ys v in
-    let some : length (drop_trailing_whitespace (zs ++ (c ∷ ys))) ≢ 0 =
-    λ h. omega (arith, h, ap length k, length-append zs (c ∷ drop_trailing_whitespace ys)) in
-    stays_on (is_whitespace z) (length (drop_trailing_whitespace (zs ++ (c ∷ ys)))) z (drop_trailing_whitespace (zs ++ (c ∷ ys))) some
-    ∙ ap (λ (r : List ℕ). z ∷ r) k
-
--- trimming leaves what ends with a visible character
-keeps : (q more : List ℕ) → Ends q → IsUtf8 q → trim_end (q ++ more) ≡ q ++ trim_end more
-unfolding trim_end
-keeps q more e utf8 =
-    let c = e.last in
-    let ys = chars more in
-    let fed : IsUtf8 (e.front ++ (c ∷ 10 ∷ [])) = subst IsUtf8 (ap (λ (s : List ℕ). s ++ (10 ∷ [])) e.is ∙ append_assoc e.front (c ∷ []) (10 ∷ []))
-    (IsUtf8-append q (10 ∷ []) utf8 (IsUtf8-from_ascii (10 ∷ []) (ascii_one 10 (omega arith)))) in
-    let front : IsUtf8 e.front = front_utf8 e.front c fed e.visible.below in
-    let spelt : chars q ≡ chars e.front ++ (c ∷ []) = ap chars e.is ∙ chars-append e.front (c ∷ []) front
-    ∙ ap (λ (s : List ℕ). chars e.front ++ s) (chars-IsAscii (c ∷ []) (ascii_one c e.visible.below)) in
-    let all : chars (q ++ more) ≡ chars e.front ++ (c ∷ ys) = chars-append q more utf8 ∙ ap (λ (s : List ℕ). s ++ ys) spelt
-    ∙ append_assoc (chars e.front) (c ∷ []) ys in
-    let detail_value : chars e.front ++ (c ∷ drop_trailing_whitespace ys) ≡ chars q ++ drop_trailing_whitespace ys =
-    sym (append_assoc (chars e.front) (c ∷ []) (drop_trailing_whitespace ys)) ∙ ap (λ (s : List ℕ). s ++ drop_trailing_whitespace ys) (sym spelt) in
-    ap (λ (s : List ℕ). encode_utf8_all (drop_trailing_whitespace s)) all
-    ∙ ap encode_utf8_all (drop_keeps (chars e.front) c ys e.visible ∙ detail_value)
-    ∙ encodes-append (chars q) (drop_trailing_whitespace ys)
-    ∙ ap (λ (s : List ℕ). s ++ encode_utf8_all (drop_trailing_whitespace ys)) (encodes-chars q utf8)
 
 -- and an empty text stays empty
 pub firm_keeps : (q more : List ℕ) → IsFirm q → trim_end (q ++ more) ≡ q ++ trim_end more
@@ -105,12 +64,8 @@ unfolding trim_end
 trim_spaced v utf8 =
     let space : IsAscii (32 ∷ []) = ascii_one 32 (omega arith) in
     let feed : IsAscii (10 ∷ []) = ascii_one 10 (omega arith) in
-    let spelt : chars (32 ∷ (v ++ (10 ∷ []))) ≡ 32 ∷ (chars v ++ (10 ∷ [])) = chars-append (32 ∷ []) (v ++ (10 ∷ [])) (IsUtf8-from_ascii (32 ∷ []) space)
-    ∙ ap (λ (s : List ℕ). s ++ chars (v ++ (10 ∷ []))) (chars-IsAscii (32 ∷ []) space) ∙ ap (λ (s : List ℕ). 32 ∷ s) (chars-append v (10 ∷ []) utf8
-    ∙ ap (λ (s : List ℕ). chars v ++ s) (chars-IsAscii (10 ∷ []) feed)) in
-    ap (λ (s : List ℕ). encode_utf8_all (drop_trailing_whitespace s)) spelt
-    ∙ ap (λ (r : List ℕ). encode_utf8_all (cond (true && eqb (length r) 0) [] (32 ∷ r))) (drop_feed (chars v))
-    ∙ drop_spaced (drop_trailing_whitespace (chars v))
+    rw (chars-append (32 ∷ []) (v ++ (10 ∷ [])) (IsUtf8-from_ascii (32 ∷ []) space), chars-IsAscii (32 ∷ []) space, chars-append v (10 ∷ []) utf8)
+    (rw (chars-IsAscii (10 ∷ []) feed, drop_feed (chars v)) (drop_spaced (drop_trailing_whitespace (chars v))))
 
 -- what follows `Data:`
 last_spaced : (s : List ℕ) → codes ", Data:" ++ spaced s ≡ last_text true s
@@ -128,11 +83,10 @@ colon_utf8 = IsUtf8-from_is_utf8 (codes ", Data:") refl
 -- the end of a line, trimmed
 pub trim_pending : (q : List ℕ) (pending : Bool) (shown : List ℕ) → IsFirm q → IsUtf8 shown
     → trim_end (q ++ pending_text pending shown) ≡ q ++ last_text pending (trim_end shown)
-trim_pending q false shown firm utf8 = firm_keeps q [] firm ∙ ap (λ (s : List ℕ). q ++ s) trim_nil
-trim_pending q true shown firm utf8 =
-    firm_keeps q (codes ", Data: " ++ (shown ++ (10 ∷ []))) firm
-    ∙ ap (λ (s : List ℕ). q ++ s) (keeps (codes ", Data:") (32 ∷ (shown ++ (10 ∷ []))) colon_ends colon_utf8
-    ∙ ap (λ (s : List ℕ). codes ", Data:" ++ s) (trim_spaced shown utf8) ∙ last_spaced (trim_end shown))
+trim_pending q false shown firm utf8 = rw (firm_keeps q [] firm, trim_nil) refl
+trim_pending q true shown firm utf8 = firm_keeps q (codes ", Data: " ++ (shown ++ (10 ∷ []))) firm
+    ∙ ap (λ (s : List ℕ). q ++ s) (keeps (codes ", Data:") (32 ∷ (shown ++ (10 ∷ []))) colon_ends colon_utf8 ∙ rw (trim_spaced shown utf8)
+    (last_spaced (trim_end shown)))
 
 -- the pending end of a line, if there is one
 pub is_pending : (pending : Bool) (shown : List ℕ) → pending ≡ true → codes ", Data: " ++ (shown ++ (10 ∷ [])) ≡ pending_text pending shown
@@ -191,8 +145,7 @@ hex_solid n = seen 48 _ (
 tag_solid : (name : Option (Bor (List ℕ))) (tag : ℕ) → IfSome name (λ s. IsUtf8 s.now) → Solid (tag_named (option_map (λ s. s.now) name) tag)
 unfolding is_utf8 chars encode
 tag_solid None tag text = hex_solid tag
-tag_solid (Some name) tag text =
-    solid_behind name.now _ text (solid_behind (codes " (") _ (IsUtf8-from_is_utf8 (codes " (") refl)
+tag_solid (Some name) tag text = solid_behind name.now _ text (solid_behind (codes " (") _ (IsUtf8-from_is_utf8 (codes " (") refl)
     (solid_behind (hex_padded 4 tag) (codes ")") ((hex_solid tag).1) (seen 41 [] (record { above = omega arith; below = omega arith }, tt))))
 
 indent_ascii : (depth : ℕ) → IsAscii (indent depth)
@@ -222,34 +175,17 @@ module _ (names : ℕ → Option (List ℕ)) (tag : ℕ) (solid : Solid (tag_nam
   beginning_solid Full depth small = part_solid depth
   beginning_solid Bounded depth small = either_solid _ _ _ (part_solid depth) (solid_behind (depth_mark depth) _ (mark_utf8 depth small) (part_solid 0))
 
-  typed : (front words : List ℕ) → codes ", Type: " ++ words ≡ front ++ (41 ∷ []) → is_utf8 (codes ", Type: " ++ words) ≡ true
-      → Solid (codes ", Type: " ++ words)
-  typed front words is text = (
-    record { front = front; last = 41; is = is; visible = record { above = omega arith; below = omega arith } },
-    IsUtf8-from_is_utf8 _ text,
-  )
+-- a type
+typed : (words : List ℕ) → words ≡ take (length words - 1) words ++ (41 ∷ []) → is_utf8 words ≡ true → Solid words
+typed words is text = (
+  record { front = take (length words - 1) words; last = 41; is = is; visible = record { above = omega arith; below = omega arith } },
+  IsUtf8-from_is_utf8 words text,
+)
 
-  type_solid : (typ : TtlvType) → Solid (codes ", Type: " ++ type_text typ)
-  unfolding is_utf8 chars encode
-  type_solid Structure = typed (codes ", Type: Structure (0x01") _ refl refl
-  type_solid Integer = typed (codes ", Type: Integer (0x02") _ refl refl
-  type_solid LongInteger = typed (codes ", Type: LongInteger (0x03") _ refl refl
-  type_solid BigInteger = typed (codes ", Type: BigInteger (0x04") _ refl refl
-  type_solid Enumeration = typed (codes ", Type: Enumeration (0x05") _ refl refl
-  type_solid Boolean = typed (codes ", Type: Boolean (0x06") _ refl refl
-  type_solid TextString = typed (codes ", Type: TextString (0x07") _ refl refl
-  type_solid ByteString = typed (codes ", Type: ByteString (0x08") _ refl refl
-  type_solid DateTime = typed (codes ", Type: DateTime (0x09") _ refl refl
-  type_solid Interval = typed (codes ", Type: Interval (0x0A") _ refl refl
-
-  -- and its type
-  pub typed_solid : (indentation : Indentation) (depth : ℕ) (typ : TtlvType) → depth < 2 ^ 64 → Solid (typ_part (indented indentation names) depth tag typ)
-  typed_solid indentation depth typ small = solid_behind (indented indentation names depth tag) _ ((beginning_solid indentation depth small).1) (type_solid typ)
-
--- a tag with the name that was found
-pub named_solid : (names : ℕ → Option (List ℕ)) (name : Option (Bor (List ℕ))) (tag : ℕ) → option_map (λ s. s.now) name ≡ names tag
-    → IfSome name (λ s. IsUtf8 s.now) → Solid (tag_named (names tag) tag)
-named_solid names name tag same text = subst (λ (o : Option (List ℕ)). Solid (tag_named o tag)) same (tag_solid name tag text)
+type_solid : (typ : TtlvType) → Solid (codes ", Type: " ++ type_text typ)
+unfolding is_utf8 chars encode
+type_solid Structure = typed (codes ", Type: " ++ type_text Structure) refl refl
+type_solid typ = typed (codes ", Type: " ++ type_text typ) refl refl
 
 -- names that agree on a tag give its line the same beginning
 pub same_beginning : (names names' : ℕ → Option (List ℕ)) (indentation : Indentation) (depth tag : ℕ) → names tag ≡ names' tag
@@ -258,3 +194,21 @@ unfolding bounded_part
 same_beginning names names' Full depth tag same = ap (λ (o : Option (List ℕ)). indent depth ++ (codes "Tag: " ++ tag_named o tag)) same
 same_beginning names names' Bounded depth tag same = ap (λ (o : Option (List ℕ)). cond (nat_le depth 64) (indent depth ++ (codes "Tag: " ++ tag_named o tag))
     (depth_mark depth ++ (indent 0 ++ (codes "Tag: " ++ tag_named o tag)))) same
+
+-- a line up to its tag
+pub record Begun (beginning : ℕ → ℕ → List ℕ) (depth tag : ℕ) (text : List ℕ) : Type 0 where
+  pub is : text ≡ beginning depth tag
+  pub solid : Solid text
+
+-- with the name that was found
+pub begun : (indentation : Indentation) (names : ℕ → Option (List ℕ)) (name : Option (Bor (List ℕ))) (depth tag : ℕ) → depth < 2 ^ 64
+    → named name tag ≡ names tag → IfSome name (λ s. IsUtf8 s.now)
+    → Begun (indented indentation names) depth tag (indented indentation (named name) depth tag)
+begun indentation names name depth tag small same text = record {
+  is = same_beginning (named name) names indentation depth tag same;
+  solid = beginning_solid (named name) tag (tag_solid name tag text) indentation depth small;
+}
+
+-- and up to its type
+pub typed_solid : {text : List ℕ} (typ : TtlvType) → Solid text → Solid (text ++ (codes ", Type: " ++ type_text typ))
+typed_solid {text} typ solid = solid_behind text _ solid.1 (type_solid typ)

@@ -1,30 +1,26 @@
 -- Beginnings of texts.
 use Rattle.std.proofs.Common.{◌≡◌, ℕ, zero, suc, ◌+◌, ◌-◌, ◌*◌, ◌<◌, ◌≤◌, Bool, true, false, cond, ltb, leb, List, [], ◌∷◌, ◌++◌, length, take, drop, get_or}
-use Rattle.std.proofs.Common.{Some, None, refl, sym, ap, subst, ◌∙◌, arith}
-use Rattle.std.proofs.Common.{◌⊎◌, inl, inr}
+use Rattle.std.proofs.Common.{Some, None, refl, sym, ap, subst, ◌∙◌, arith, inl, inr}
 use Rattle.std.specs.List.{prefix_len}
 use Rattle.std.specs.Str.{IsUtf8, IsAscii, IsCharBoundary}
 use Rattle.std.proofs.lemmas.Str.Ascii.{IsAscii-nil, IsAscii-cons}
 use Rattle.std.proofs.lemmas.Str.{IsUtf8-from_ascii, IsCharBoundary-from_take, IsCharBoundary-after_ascii}
-use Rattle.std.proofs.lemmas.Bool.{ne_eqb, cases_lt, and_right, lt-leb, lt-ltb, le-ltb}
-use Rattle.kmip_ttlv_types.specs.declared.typ.TtlvType.{TtlvType}
-use Rattle.kmip_ttlv_util.specs.Letters.{is_hex, type_of_letter}
-use Rattle.kmip_ttlv_util.specs.Undiag.{value_up_to}
-use Rattle.kmip_ttlv_util.specs.Lines.{indent}
-use Rattle.kmip_ttlv_util.specs.declared.lines.TheConstants.{SPACES}
+use Rattle.std.proofs.lemmas.Bool.{cases_lt, and_right, lt-leb, lt-ltb, le-ltb}
+use Rattle.kmip_ttlv_types.specs.declared.typ.TtlvType.{TtlvType, TheVariants.Structure}
+use Rattle.kmip_ttlv_util.specs.Letters.{is_hex, letter, type_of_letter}
+use Rattle.kmip_ttlv_util.proofs.Letters.{letter_type}
+use Rattle.kmip_ttlv_util.specs.{Undiag.value_up_to, Lines.indent, declared.lines.TheConstants.SPACES}
 
 -- a digit is ASCII
 hex_ascii : (d : ℕ) → is_hex d ≡ true → d < 128
-hex_ascii d h = by (cases_lt d 128)
-  where
-    by : (d < 128) ⊎ (128 ≤ d) → d < 128
-    by (inl lt) = lt
-    by (inr le) = let k : is_hex d ≡ false = rw (
-      lt-leb d 57 (omega arith),
-      lt-leb d 70 (omega arith),
-      and_right (leb 48 d) false refl,
-      and_right (leb 65 d) false refl,
-    ) refl in absurd cc
+hex_ascii d h = elim (cases_lt d 128) [
+  | inl lt ↦ lt
+  | inr le ↦
+      let a = lt-leb d 57 (omega arith) in
+      let b = lt-leb d 70 (omega arith) in
+      let k : is_hex d ≡ false = rw (a, b, and_right (leb 48 d) false refl, and_right (leb 65 d) false refl) refl in
+      absurd cc
+]
 
 -- one more leading digit
 ascii_step : (d : ℕ) (s : List ℕ) (n : ℕ) (b : Bool) → is_hex d ≡ b → ((i : ℕ) → get_or (take n s) i 0 < 128) → (i : ℕ)
@@ -54,29 +50,13 @@ hex_boundary s n utf8 is = subst (λ (m : ℕ). IsCharBoundary s m) (sym is) (Is
     (IsUtf8-from_ascii (take (prefix_len is_hex s) s) (front_ascii s)))
 
 -- a type's letter is ASCII
-letter_ascii : (c : ℕ) (t : TtlvType) → type_of_letter c ≡ Some t → c < 128
-letter_ascii c t h = by (cases_lt c 128)
-  where
-    by : (c < 128) ⊎ (128 ≤ c) → c < 128
-    by (inl lt) = lt
-    by (inr le) =
-        let k : type_of_letter c ≡ None = rw (
-          ne_eqb c 91 (omega arith),
-          ne_eqb c 105 (omega arith),
-          ne_eqb c 108 (omega arith),
-          ne_eqb c 73 (omega arith),
-          ne_eqb c 101 (omega arith),
-          ne_eqb c 98 (omega arith),
-          ne_eqb c 116 (omega arith),
-          ne_eqb c 111 (omega arith),
-          ne_eqb c 100 (omega arith),
-          ne_eqb c 110 (omega arith),
-        ) refl in
-        absurd cc
+letter_ascii : (t : TtlvType) → letter t < 128
+letter_ascii Structure = omega arith
+letter_ascii typ = omega arith
 
 -- a text can be cut after a letter
 pub letter_boundary : (s : List ℕ) (c : ℕ) (t : TtlvType) → IsUtf8 s → 0 < length s → c ≡ get_or s 0 0 → type_of_letter c ≡ Some t → IsCharBoundary s 1
-letter_boundary s c t utf8 some is h = IsCharBoundary-after_ascii s 0 utf8 some (omega (arith, letter_ascii c t h))
+letter_boundary s c t utf8 some is h = IsCharBoundary-after_ascii s 0 utf8 some (omega (arith, letter_type c t h, letter_ascii t))
 
 -- without a colon there is no value
 pub value_none : (s : List ℕ) (n : ℕ) → n ≡ length s → value_up_to s n ≡ None

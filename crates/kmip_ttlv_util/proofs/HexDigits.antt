@@ -2,20 +2,14 @@
 use Rattle.std.proofs.Common.{◌≡◌, ℕ, zero, suc, ◌+◌, ◌-◌, ◌*◌, ◌/◌, ◌%◌, ◌^◌, ◌<◌, ◌≤◌, Bool, true, false, ◌&&◌, T, eqb, eqb→eq, cond, ltb, List, [], ◌∷◌}
 use Rattle.std.proofs.Common.{◌++◌, length, take, drop, get_or, refl, sym, ap, ◌∙◌, arith, append_assoc, append-nil, length-append, length-drop, take_all, inl}
 use Rattle.std.proofs.Common.{inr}
-use Rattle.std.specs.Prelude.{replicate}
+use Rattle.std.specs.{Prelude.replicate, Str.IsAscii}
 use Rattle.std.specs.Fmt.{digit_glyph, digits, digits_onto}
-use Rattle.std.specs.Str.{IsAscii}
-use Rattle.std.proofs.Math.Nat.{pow-suc, pow-succ', pow-le-pow_right, div-div-eq-div-mul}
-use Rattle.std.proofs.lemmas.Nat.{pow-add}
-use Rattle.std.proofs.lemmas.List.{drop-append-le, take_more}
-use Rattle.std.proofs.lemmas.Bool.{eq-eqb, ne_eqb, cases_lt}
-use Rattle.std.proofs.lemmas.Str.{IsAscii-append}
-use Rattle.std.proofs.lemmas.Str.Ascii.{IsAscii-nil, IsAscii-cons}
+use Rattle.std.proofs.Math.Nat.{pow-suc, pow-succ', pow-le-pow_right, div-div-eq-div-mul, mul_assoc}
+use Rattle.std.proofs.lemmas.{Nat.pow-add, Str.IsAscii-append, Str.Ascii.IsAscii-nil, Str.Ascii.IsAscii-cons}
+use Rattle.std.proofs.lemmas.List.{drop-append-le, drop_all, take_more}
+use Rattle.std.proofs.lemmas.Bool.{eq-eqb, ne_eqb, cases_lt, ltb-true, ltb-false}
 use lib.Ieee.Fits.{and_l, and_r}
-use Rattle.kmip_ttlv_util.specs.declared.digits.TheConstants.{PAIRS}
-use Rattle.kmip_ttlv_util.specs.LastDigits.{last_digits}
-use Rattle.kmip_ttlv_util.specs.Lines.{at_least}
-use Rattle.kmip_ttlv_util.specs.Outlines.{hex_upper}
+use Rattle.kmip_ttlv_util.specs.{declared.digits.TheConstants.PAIRS, LastDigits.last_digits, Lines.at_least, Outlines.hex_upper}
 
 -- ---- the table
 
@@ -26,11 +20,10 @@ are_pairs (suc b) = (eqb (get_or PAIRS (b * 2) 0) (digit_glyph true (b / 16)) &&
 
 below : (n b : ℕ) → T (are_pairs n) → b < n → (get_or PAIRS (b * 2) 0 ≡ digit_glyph true (b / 16)) × (get_or PAIRS (b * 2 + 1) 0 ≡ digit_glyph true (b % 16))
 below zero b t h = absurd (omega arith)
-below (suc n) b t h =
-    elim (cases_lt b n) [
-      | inl lt ↦ below n b (and_r _ (are_pairs n) t) lt
-      | inr ge ↦ let e : b ≡ n = omega arith in let a = and_l _ (are_pairs n) t in rw e (eqb→eq _ _ (and_l _ _ a), eqb→eq _ _ (and_r _ _ a))
-    ]
+below (suc n) b t h = elim (cases_lt b n) [
+  | inl lt ↦ below n b (and_r _ (are_pairs n) t) lt
+  | inr ge ↦ let e : b ≡ n = omega arith in let a = and_l _ (are_pairs n) t in rw e (eqb→eq _ _ (and_l _ _ a), eqb→eq _ _ (and_r _ _ a))
+]
 
 -- so the two digits of a byte are in it
 PAIRS_at : (b : ℕ) → b < 256 → (get_or PAIRS (b * 2) 0 ≡ digit_glyph true (b / 16)) × (get_or PAIRS (b * 2 + 1) 0 ≡ digit_glyph true (b % 16))
@@ -41,9 +34,9 @@ pub pairs_two : (b : ℕ) → b < 256 → get_or PAIRS (b * 2) 0 ∷ get_or PAIR
 pairs_two b small = let p = PAIRS_at b small in rw (p.0, p.1) refl
 
 -- a list of eight numbers
-eight_same : (a b c d e f g h i j k l m n o p : ℕ) → a ≡ i → b ≡ j → c ≡ k → d ≡ l → e ≡ m → f ≡ n → g ≡ o → h ≡ p
+eight_same : {a b c d e f g h i j k l m n o p : ℕ} → a ≡ i → b ≡ j → c ≡ k → d ≡ l → e ≡ m → f ≡ n → g ≡ o → h ≡ p
     → a ∷ b ∷ c ∷ d ∷ e ∷ f ∷ g ∷ h ∷ [] ≡ i ∷ j ∷ k ∷ l ∷ m ∷ n ∷ o ∷ p ∷ []
-eight_same a b c d e f g h i j k l m n o p p1 p2 p3 p4 p5 p6 p7 p8 = cc
+eight_same p1 p2 p3 p4 p5 p6 p7 p8 = cc
 
 digit_at : (x m n : ℕ) → x ≡ digit_glyph true m → m ≡ n → x ≡ digit_glyph true n
 digit_at x m n e h = e ∙ ap (digit_glyph true) h
@@ -60,8 +53,7 @@ pairs_eight n small =
     let b = PAIRS_at (n / 65536 % 256) (omega arith) in
     let c = PAIRS_at (n / 256 % 256) (omega arith) in
     let d = PAIRS_at (n % 256) (omega arith) in
-    eight_same _ _ _ _ _ _ _ _ _ _ _ _ _ _ _ _
-    (digit_at _ (n / 16777216 / 16) _ a.0 (omega arith)) (digit_at _ (n / 16777216 % 16) _ a.1 (omega arith))
+    eight_same (digit_at _ (n / 16777216 / 16) _ a.0 (omega arith)) (digit_at _ (n / 16777216 % 16) _ a.1 (omega arith))
     (digit_at _ (n / 65536 % 256 / 16) _ b.0 (omega arith)) (digit_at _ (n / 65536 % 256 % 16) _ b.1 (omega arith))
     (digit_at _ (n / 256 % 256 / 16) _ c.0 (omega arith)) (digit_at _ (n / 256 % 256 % 16) _ c.1 (omega arith))
     (digit_at _ (n % 256 / 16) _ d.0 (omega arith)) (digit_at _ (n % 256 % 16) _ d.1 (omega arith))
@@ -74,12 +66,16 @@ unfolding last_digits
 last_length zero n = refl
 last_length (suc k) n = omega (arith, last_length k (n / 16), length-append (last_digits k (n / 16)) (digit_glyph true (n % 16) ∷ []))
 
-glyph_ascii : (d : ℕ) → d < 16 → digit_glyph true d < 128
-glyph_ascii d small = by (ltb d 10)
+-- a digit is one of ten, or a letter
+pub glyph_cases : (P : ℕ → Type 0) (d : ℕ) → (d < 10 → P (48 + d)) → (10 ≤ d → P (55 + d)) → P (digit_glyph true d)
+glyph_cases P d low high = by (ltb d 10) refl
   where
-    by : (b : Bool) → cond b (48 + d) (55 + d) < 128
-    by true = omega arith
-    by false = omega arith
+    by : (b : Bool) → ltb d 10 ≡ b → P (cond b (48 + d) (55 + d))
+    by true e = low (ltb-true d 10 e)
+    by false e = high (ltb-false d 10 e)
+
+glyph_ascii : (d : ℕ) → d < 16 → digit_glyph true d < 128
+glyph_ascii d small = glyph_cases (λ c. c < 128) d (λ lt. omega arith) (λ le. omega arith)
 
 -- in ASCII
 pub last_ascii : (k n : ℕ) → IsAscii (last_digits k n)
@@ -94,13 +90,7 @@ last_drop zero zero n le = refl
 last_drop (suc w) zero n le =
     let all : length (last_digits w (n / 16) ++ (digit_glyph true (n % 16) ∷ [])) ≤ suc w - 0 =
     omega (arith, last_length w (n / 16), length-append (last_digits w (n / 16)) (digit_glyph true (n % 16) ∷ [])) in
-    none_left (suc w - 0) _ all
-  where
-    none_left : (i : ℕ) (xs : List ℕ) → length xs ≤ i → drop i xs ≡ []
-    none_left zero [] h = refl
-    none_left (suc i) [] h = refl
-    none_left zero (x ∷ xs) h = absurd (omega arith)
-    none_left (suc i) (x ∷ xs) h = none_left i xs (omega arith)
+    drop_all (suc w - 0) _ all
 last_drop zero (suc m) n le = absurd (omega arith)
 last_drop (suc w) (suc m) n le =
     let e : suc w - suc m ≡ w - m = omega arith in
@@ -140,14 +130,13 @@ front_zero (suc m) n small = ap (λ (s : List ℕ). s ++ (digit_glyph true (n % 
 pub padded : (w m n : ℕ) → m ≤ w → n < 16 ^ m → replicate (w - m) 48 ++ last_digits m n ≡ last_digits w n
 padded zero zero n le small = refl
 padded zero (suc m) n le small = absurd (omega arith)
-padded (suc w) m n le small =
-    elim (cases_lt w m) [
-      | inl lt ↦ let e : m ≡ suc w = omega arith in let z : suc w - m ≡ 0 = omega arith in rw z (ap (λ (k : ℕ). last_digits k n) e)
-      | inr ge ↦
-          let z : suc w - m ≡ suc (w - m) = omega arith in
-          let fits : n < 16 ^ w = omega (arith, pow-le-pow_right {n = 16} (omega arith) ge) in
-          rw z (ap (λ (s : List ℕ). 48 ∷ s) (padded w m n ge small) ∙ sym (front_zero w n fits))
-    ]
+padded (suc w) m n le small = elim (cases_lt w m) [
+  | inl lt ↦ let e : m ≡ suc w = omega arith in let z : suc w - m ≡ 0 = omega arith in rw z (ap (λ (k : ℕ). last_digits k n) e)
+  | inr ge ↦
+      let z : suc w - m ≡ suc (w - m) = omega arith in
+      let fits : n < 16 ^ w = omega (arith, pow-le-pow_right {n = 16} (omega arith) ge) in
+      rw z (ap (λ (s : List ℕ). 48 ∷ s) (padded w m n ge small) ∙ sym (front_zero w n fits))
+]
 
 -- ---- all digits
 
@@ -177,44 +166,22 @@ pub hex_count : (j n : ℕ) → j < 64 → (0 < j → 16 ^ j ≤ n) → n < 16 ^
 hex_count j n lt lo hi = sym (ap length (hex_is j n lt lo hi) ∙ last_length (suc j) n)
 
 -- how many digits a number has
-pub record Digits (n : ℕ) : Type 0 where
+pub record Digits (most n : ℕ) : Type 0 where
   pub more : ℕ
-  pub few : more ≤ 7
+  pub few : more ≤ most
   pub low : 0 < more → 16 ^ more ≤ n
   pub high : n < 16 ^ suc more
 
+digits_below : (most n : ℕ) → n < 16 ^ suc most → Digits most n
+digits_below zero n small = record { more = 0; few = omega arith; low = λ z. omega arith; high = small }
+digits_below (suc most) n small = elim (cases_lt n (16 ^ suc most)) [
+  | inl lt ↦ let d = digits_below most n lt in record { more = d.more; few = omega (arith, d.few); low = d.low; high = d.high }
+  | inr ge ↦ record { more = suc most; few = omega arith; low = λ z. ge; high = small }
+]
+
 -- a four-byte number has at most eight
-has_digits : (n : ℕ) → n < 2 ^ 32 → Digits n
-has_digits n small =
-    elim (cases_lt n 16) [
-      | inl h ↦ record { more = 0; few = omega arith; low = λ z. omega arith; high = h }
-      | inr a ↦
-          elim (cases_lt n 256) [
-            | inl h ↦ record { more = 1; few = omega arith; low = λ z. a; high = h }
-            | inr b ↦
-                elim (cases_lt n 4096) [
-                  | inl h ↦ record { more = 2; few = omega arith; low = λ z. b; high = h }
-                  | inr c ↦
-                      elim (cases_lt n 65536) [
-                        | inl h ↦ record { more = 3; few = omega arith; low = λ z. c; high = h }
-                        | inr d ↦
-                            elim (cases_lt n 1048576) [
-                              | inl h ↦ record { more = 4; few = omega arith; low = λ z. d; high = h }
-                              | inr e ↦
-                                  elim (cases_lt n 16777216) [
-                                    | inl h ↦ record { more = 5; few = omega arith; low = λ z. e; high = h }
-                                    | inr f ↦
-                                        elim (cases_lt n 268435456) [
-                                          | inl h ↦ record { more = 6; few = omega arith; low = λ z. f; high = h }
-                                          | inr g ↦
-                                              record { more = 7; few = omega arith; low = λ z. g; high = small }
-                                        ]
-                                  ]
-                            ]
-                      ]
-                ]
-          ]
-    ]
+has_digits : (n : ℕ) → n < 2 ^ 32 → Digits 7 n
+has_digits n small = digits_below 7 n small
 
 -- ---- what is written of a number
 
@@ -227,13 +194,8 @@ shown_digits least total n small short long =
     let is = hex_is d.more n (omega (arith, d.few)) d.low d.high in
     let count : suc d.more ≡ length (hex_upper n) = hex_count d.more n (omega (arith, d.few)) d.low d.high in
     elim (cases_lt (length (hex_upper n)) least) [
-      | inl lt ↦
-          ap (λ (k : ℕ). last_digits k n) (short lt) ∙ sym (padded least (suc d.more) n (omega (arith, count, lt)) d.high)
-          ∙ ap (λ (k : ℕ). replicate (least - k) 48 ++ last_digits (suc d.more) n) count
-          ∙ ap (λ (s : List ℕ). replicate (least - length (hex_upper n)) 48 ++ s) (sym is)
-      | inr ge ↦
-          let none : least - length (hex_upper n) ≡ 0 = omega arith in
-          ap (λ (k : ℕ). last_digits k n) (long ge ∙ sym count) ∙ sym is ∙ ap (λ (k : ℕ). replicate k 48 ++ hex_upper n) (sym none)
+      | inl lt ↦ rw (short lt, ← count, is) (sym (padded least (suc d.more) n (omega (arith, count, lt)) d.high))
+      | inr ge ↦ let none : least - length (hex_upper n) ≡ 0 = omega arith in rw (long ge, none, ← count) (sym is)
     ]
 
 -- a number with enough digits is not padded
@@ -252,13 +214,19 @@ last_split (suc w) (suc j) n le =
     rw (a, b) (ap (λ (s : List ℕ). s ++ (digit_glyph true (n % 16) ∷ [])) (last_split w j (n / 16) (omega arith))
     ∙ append_assoc (last_digits (w - j) (n / 16 / 16 ^ j)) (last_digits j (n / 16)) (digit_glyph true (n % 16) ∷ []))
 
+-- a number before the last digits doesn't change them
+pub last_add : (k a b : ℕ) → last_digits k (a * 16 ^ k + b) ≡ last_digits k b
+unfolding last_digits
+last_add zero a b = refl
+last_add (suc k) a b =
+    let e : a * 16 ^ suc k ≡ (a * 16 ^ k) * 16 = ap (λ (n : ℕ). a * n) (pow-suc 16 k) ∙ sym (mul_assoc a (16 ^ k) 16) in
+    let front : (a * 16 ^ suc k + b) / 16 ≡ a * 16 ^ k + b / 16 = omega (arith, e) in
+    let end : (a * 16 ^ suc k + b) % 16 ≡ b % 16 = omega (arith, e) in
+    rw (front, end, last_add k a (b / 16)) refl
+
 -- the last eight are those of the last four bytes
 last_low : (n : ℕ) → last_digits 8 (n % 4294967296) ≡ last_digits 8 n
-unfolding last_digits
-last_low n =
-    eight_same _ _ _ _ _ _ _ _ _ _ _ _ _ _ _ _ (ap (digit_glyph true) (omega arith)) (ap (digit_glyph true) (omega arith)) (ap (digit_glyph true) (omega arith))
-    (ap (digit_glyph true) (omega arith))
-    (ap (digit_glyph true) (omega arith)) (ap (digit_glyph true) (omega arith)) (ap (digit_glyph true) (omega arith)) (ap (digit_glyph true) (omega arith))
+last_low n = sym (last_add 8 (n / 4294967296) (n % 4294967296)) ∙ ap (last_digits 8) (omega arith)
 
 -- the digits of a number that needs more than four bytes
 pub wide_digits : (n : ℕ) → 2 ^ 32 ≤ n → n < 2 ^ 64 → at_least 1 (hex_upper (n / 4294967296)) ++ last_digits 8 (n % 4294967296) ≡ at_least 6 (hex_upper n)
@@ -274,10 +242,8 @@ wide_digits n low high =
     let rest : suc (k + 8) - 8 ≡ suc k = omega arith in
     let c1 = hex_count k hi (omega (arith, d.few)) d.low d.high in
     let c2 = hex_count (k + 8) n (omega (arith, d.few)) (λ z. below) above in
-    ap (λ (s : List ℕ). s ++ last_digits 8 (n % 4294967296)) (not_padded 1 (hex_upper hi) (omega (arith, c1)) ∙ first)
-    ∙ ap (λ (s : List ℕ). last_digits (suc k) hi ++ s) (last_low n)
-    ∙ ap (λ (j : ℕ). last_digits j (n / 4294967296) ++ last_digits 8 n) (sym rest) ∙ sym (last_split (suc (k + 8)) 8 n (omega arith)) ∙ sym all
-    ∙ sym (not_padded 6 (hex_upper n) (omega (arith, c2)))
+    rw (not_padded 1 (hex_upper hi) (omega (arith, c1)), not_padded 6 (hex_upper n) (omega (arith, c2)), first, all, last_low n, ← rest)
+    (sym (last_split (suc (k + 8)) 8 n (omega arith)))
 
 -- ---- parsing digits
 
@@ -296,9 +262,7 @@ front_more s n number value lt small is before fits few =
     let front : (number * 16 + value) / 16 ≡ number = omega arith in
     let end : (number * 16 + value) % 16 ≡ value = omega arith in
     let text : take (n + 1) s ≡ last_digits (suc n) (number * 16 + value) =
-    take_more s n 0 lt ∙ ap (λ (t : List ℕ). t ++ (get_or s n 0 ∷ [])) (before (omega arith)) ∙ ap (λ (d : ℕ). last_digits n number ++ (d ∷ [])) (sym is)
-    ∙ ap (λ (k : ℕ). last_digits n k ++ (digit_glyph true value ∷ [])) (sym front)
-    ∙ ap (λ (d : ℕ). last_digits n ((number * 16 + value) / 16) ++ (digit_glyph true d ∷ [])) (sym end) in (
+    rw (take_more s n 0 lt, before (omega arith), front, end, is) refl in (
       text ∙ ap (λ (k : ℕ). last_digits k (number * 16 + value)) (sym next) ∙ ap (last_digits (n + 1)) (sym all),
       omega (arith, all, within, pow-suc 16 n, ap (λ (k : ℕ). 16 ^ k) next),
     )
@@ -318,9 +282,7 @@ prefixed_ascii n = IsAscii-cons 48 (120 ∷ last_digits 6 n) (omega arith) (IsAs
 
 -- with `Tag: ` before them too
 pub tagged_ascii : (n : ℕ) → IsAscii (84 ∷ 97 ∷ 103 ∷ 58 ∷ 32 ∷ 48 ∷ 120 ∷ last_digits 6 n)
-tagged_ascii n = IsAscii-append (84 ∷ 97 ∷ 103 ∷ 58 ∷ 32 ∷ []) (48 ∷ 120 ∷ last_digits 6 n) front (prefixed_ascii n)
-  where
-    front : IsAscii (84 ∷ 97 ∷ 103 ∷ 58 ∷ 32 ∷ [])
-    front = IsAscii-cons 84 (97 ∷ 103 ∷ 58 ∷ 32 ∷ []) (omega arith)
-        (IsAscii-cons 97 (103 ∷ 58 ∷ 32 ∷ []) (omega arith)
-        (IsAscii-cons 103 (58 ∷ 32 ∷ []) (omega arith) (IsAscii-cons 58 (32 ∷ []) (omega arith) (IsAscii-cons 32 [] (omega arith) IsAscii-nil))))
+tagged_ascii n = IsAscii-append (84 ∷ 97 ∷ 103 ∷ 58 ∷ 32 ∷ []) (48 ∷ 120 ∷ last_digits 6 n)
+    (IsAscii-cons 84 (97 ∷ 103 ∷ 58 ∷ 32 ∷ []) (omega arith) (IsAscii-cons 97 (103 ∷ 58 ∷ 32 ∷ []) (omega arith)
+    (IsAscii-cons 103 (58 ∷ 32 ∷ []) (omega arith) (IsAscii-cons 58 (32 ∷ []) (omega arith) (IsAscii-cons 32 [] (omega arith) IsAscii-nil)))))
+    (prefixed_ascii n)

@@ -15,24 +15,11 @@ letter_by c n t u o is more = by (eqb c n) refl
 
 -- a type's letter, from the type that it has
 pub letter_type : (c : ℕ) (t : TtlvType) → type_of_letter c ≡ Some t → c ≡ letter t
-letter_type c t = letter_by c 91 t Structure _ refl
-    (letter_by c 105 t Integer _ refl
-    (letter_by c 108 t LongInteger _ refl
-    (letter_by c 73 t BigInteger _ refl
-    (letter_by c 101 t Enumeration _ refl
-    (letter_by c 98 t Boolean _ refl
-    (letter_by c 116 t TextString _ refl
+letter_type c t = letter_by c 91 t Structure _ refl (letter_by c 105 t Integer _ refl (letter_by c 108 t LongInteger _ refl
+    (letter_by c 73 t BigInteger _ refl (letter_by c 101 t Enumeration _ refl (letter_by c 98 t Boolean _ refl (letter_by c 116 t TextString _ refl
     (letter_by c 111 t ByteString _ refl (letter_by c 100 t DateTime _ refl (letter_by c 110 t Interval None refl (λ k. absurd cc))))))))))
 
 -- a letter's type, from the type's letter
 pub letter_back : (t : TtlvType) → type_of_letter (letter t) ≡ Some t
 letter_back Structure = refl
-letter_back Integer = refl
-letter_back LongInteger = refl
-letter_back BigInteger = refl
-letter_back Enumeration = refl
-letter_back Boolean = refl
-letter_back TextString = refl
-letter_back ByteString = refl
-letter_back DateTime = refl
-letter_back Interval = refl
+letter_back typ = refl

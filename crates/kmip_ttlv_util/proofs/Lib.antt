@@ -1,4 +1,3 @@
-pub mod Appending
 pub mod Ends
 pub mod Entries
 pub mod Firm
@@ -11,7 +10,6 @@ pub mod Longest
 pub mod Loop
 pub mod MapClones
 pub mod Message
-pub mod Padding
 pub mod Parts
 pub mod PrefixNumbers
 pub mod PrettyTexts

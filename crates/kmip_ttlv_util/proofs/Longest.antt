@@ -1,27 +1,19 @@
 -- Any text is read back as its longest list of parts.
 use Rattle.std.proofs.Common.{◌≡◌, ◌≢◌, ℕ, zero, suc, ◌+◌, ◌<◌, Bool, true, false, not, ◌&&◌, cond, eqb, ltb, List, [], ◌∷◌, ◌++◌, length, take, drop, Option}
 use Rattle.std.proofs.Common.{Some, None, refl, sym, ap, subst, ◌∙◌, arith, append_assoc, length-append}
-use Rattle.std.specs.Prelude.{Result, Ok, Err, IfOk, string_bytes}
-use Rattle.std.proofs.Common.{String}
 use Rattle.std.specs.List.{prefix_len}
 use Rattle.std.proofs.lemmas.Bool.{ne_eqb, eqb-true, eqb-false, lt-ltb, ltb-true}
 use Rattle.std.proofs.lemmas.List.{take-append-drop, length-take-le}
-use Rattle.kmip_ttlv_types.specs.declared.typ.TtlvType.{TtlvType}
-use Rattle.kmip_ttlv_types.specs.declared.typ.TtlvType.TheVariants.{Structure, Integer, LongInteger, BigInteger, Enumeration, Boolean, TextString, ByteString}
-use Rattle.kmip_ttlv_types.specs.declared.typ.TtlvType.TheVariants.{DateTime, Interval}
+use Rattle.kmip_ttlv_types.specs.declared.typ.TtlvType.{TtlvType, TheVariants.Structure, TheVariants.Enumeration}
 use Rattle.kmip_ttlv_types.specs.Names.{tag_of}
-use Rattle.kmip_ttlv_util.specs.Letters.{letter}
-use Rattle.kmip_ttlv_util.specs.Lines.{tag_part, typ_part}
-use Rattle.kmip_ttlv_util.specs.Letters.{is_hex, type_of_letter}
-use Rattle.kmip_ttlv_util.specs.Lines.{line, hidden}
+use Rattle.kmip_ttlv_util.specs.Letters.{letter, is_hex, type_of_letter}
+use Rattle.kmip_ttlv_util.specs.Lines.{tag_part, typ_part, line, hidden}
 use Rattle.kmip_ttlv_util.specs.Undiag.{Step, reads_on, stops_with, close_step, value_step, data_step, type_step, letter_step, tag_step, digits_step, step}
-use Rattle.kmip_ttlv_util.specs.Undiag.{undiag_from, undiag_lines, undiag}
-use Rattle.kmip_ttlv_util.specs.ReadBack.{close_part, item_part}
-use Rattle.kmip_ttlv_util.specs.ReadBack.{Part, NoColon, IsPartTail, tag_in_front, typ_in_front, IsPartAt, depth_behind, part_line, part_lines, unfinished}
-use Rattle.kmip_ttlv_util.specs.ReadBack.{Longest, ReadsLongest}
-use Rattle.kmip_ttlv_util.proofs.Reading.{Shorter, step_shorter, lines_of}
-use Rattle.kmip_ttlv_util.proofs.ReadBack.{letter_back}
-use Rattle.kmip_ttlv_util.proofs.Letters.{letter_type}
+use Rattle.kmip_ttlv_util.specs.Undiag.{undiag_lines, undiag}
+use Rattle.kmip_ttlv_util.specs.ReadBack.{close_part, item_part, Part, NoColon, IsPartTail, tag_in_front, typ_in_front, IsPartAt, depth_behind, part_line}
+use Rattle.kmip_ttlv_util.specs.ReadBack.{part_lines, unfinished, Longest, ReadsLongest}
+use Rattle.kmip_ttlv_util.proofs.Reading.{Shorter, step_shorter, lines_of, text_at, part_read}
+use Rattle.kmip_ttlv_util.proofs.Letters.{letter_type, letter_back}
 
 -- ---- a value before a colon
 
@@ -70,35 +62,30 @@ module _ (beginning : ℕ → ℕ → List ℕ) (prefix : List ℕ) where
     abbrev digits_end : ℕ
     digits_end = prefix_len is_hex s
 
+    -- only items may be parts
+    only_items : ((tag : ℕ) (typ : TtlvType) (shown more : List ℕ) → IsPartAt prefix depth s (item_part tag typ shown) more → ⊥)
+        → (p : Part) (more : List ℕ) → IsPartAt prefix depth s p more → ⊥
+    only_items never close_part more h = open_ more h.1
+    only_items never (item_part tag typ shown) more h = never tag typ shown more h
+
     no_tag : tag_in_front prefix s ≡ None → StepIs depth s (stops_with [])
-    no_tag none = (by, rw none refl)
-      where
-        by : (p : Part) (more : List ℕ) → IsPartAt prefix depth s p more → ⊥
-        by close_part more h = open_ more h.1
-        by (item_part tag typ shown) more h = let k = h.1 in absurd cc
+    no_tag none = (only_items (λ tag typ shown more h. let k = h.1 in absurd cc), rw none refl)
 
     no_letter : (tag : ℕ) → tag_in_front prefix s ≡ Some tag → typ_in_front (drop digits_end s) ≡ None → StepIs depth s (stops_with (beginning depth tag))
-    no_letter tag some none = (by, rw (some, none) refl)
-      where
-        by : (p : Part) (more : List ℕ) → IsPartAt prefix depth s p more → ⊥
-        by close_part more h = open_ more h.1
-        by (item_part t typ shown) more h =
-            let k : typ_in_front (drop digits_end s) ≡ Some typ = ap typ_in_front h.2 ∙ letter_back beginning typ in
-            absurd cc
+    no_letter tag some none = (only_items (λ t typ shown more h. let k = ap typ_in_front h.2 ∙ letter_back typ in absurd cc), rw (some, none) refl)
 
     no_data : (tag : ℕ) (typ : TtlvType) (c : ℕ) (r : List ℕ) → tag_in_front prefix s ≡ Some tag → drop digits_end s ≡ c ∷ r → type_of_letter c ≡ Some typ
         → ((shown more : List ℕ) → IsPartTail typ r shown more → ⊥) → StepIs depth s (stops_with (typ_part beginning depth tag typ))
-    no_data tag typ c r some at is never = (by, rw (some, at, is) refl)
+    no_data tag typ c r some at is never = (only_items item, rw (some, at, is) refl)
       where
-        by : (p : Part) (more : List ℕ) → IsPartAt prefix depth s p more → ⊥
-        by close_part more h = open_ more h.1
-        by (item_part t u shown) more h =
+        item : (t : ℕ) (u : TtlvType) (shown more : List ℕ) → IsPartAt prefix depth s (item_part t u shown) more → ⊥
+        item t u shown more h =
             let both : c ∷ r ≡ letter u ∷ h.0 = sym at ∙ h.2 in
             let first : c ≡ letter u = cc in
             let left : h.0 ≡ r = cc in
-            let known : type_of_letter c ≡ Some u = ap type_of_letter first ∙ letter_back beginning u in
+            let known : type_of_letter c ≡ Some u = ap type_of_letter first ∙ letter_back u in
             let same : u ≡ typ = cc in
-            never shown more (subst (λ (v : TtlvType). IsPartTail v r shown more) same (subst (λ (a : List ℕ). IsPartTail u a shown more) left h.3))
+            never shown more (rw (← same, ← left) h.3)
 
     whole : (tag : ℕ) (typ : TtlvType) (c : ℕ) (r shown more : List ℕ) (d : ℕ) → tag_in_front prefix s ≡ Some tag → drop digits_end s ≡ c ∷ r
         → type_of_letter c ≡ Some typ → IsPartTail typ r shown more → d ≡ depth_behind depth (item_part tag typ shown)
@@ -112,16 +99,8 @@ module _ (beginning : ℕ → ℕ → List ℕ) (prefix : List ℕ) where
 
     -- at the end of the text nothing follows a letter
     none_behind : (typ : TtlvType) (shown more : List ℕ) → IsPartTail typ [] shown more → ⊥
-    none_behind Structure shown more h = omega (arith, ap length h.1, h.2)
     none_behind Enumeration shown more h = omega (arith, ap length h.2, length-append shown (58 ∷ more))
-    none_behind Integer shown more h = omega (arith, ap length h.1, h.2)
-    none_behind LongInteger shown more h = omega (arith, ap length h.1, h.2)
-    none_behind BigInteger shown more h = omega (arith, ap length h.1, h.2)
-    none_behind Boolean shown more h = omega (arith, ap length h.1, h.2)
-    none_behind TextString shown more h = omega (arith, ap length h.1, h.2)
-    none_behind ByteString shown more h = omega (arith, ap length h.1, h.2)
-    none_behind DateTime shown more h = omega (arith, ap length h.1, h.2)
-    none_behind Interval shown more h = omega (arith, ap length h.1, h.2)
+    none_behind typ shown more h = omega (arith, ap length h.1, h.2)
 
     -- no value of an enumeration
     no_value : (r : List ℕ) → (ltb 0 (prefix_len other r) && ltb (prefix_len other r) (length r)) ≡ false → (shown more : List ℕ)
@@ -155,32 +134,15 @@ module _ (beginning : ℕ → ℕ → List ℕ) (prefix : List ℕ) where
         by true true e f = whole tag Enumeration c r (take (prefix_len other r) r) (drop (prefix_len other r + 1) r) depth some at is
             (some_value r (ltb-true _ _ e) (ltb-true _ _ f)) refl
         by true false e f = stop (rw (e, f) refl)
-        by false true e f = stop (rw e refl)
-        by false false e f = stop (rw e refl)
+        by false b e f = stop (rw e refl)
 
     data_determines : (tag : ℕ) (typ : TtlvType) (c : ℕ) (r : List ℕ) → tag_in_front prefix s ≡ Some tag → drop digits_end s ≡ c ∷ r
         → type_of_letter c ≡ Some typ
         → StepIs depth s (data_step beginning depth tag typ r)
-    data_determines tag Structure c [] some at is = no_data tag Structure c [] some at is (none_behind Structure)
-    data_determines tag Integer c [] some at is = no_data tag Integer c [] some at is (none_behind Integer)
-    data_determines tag LongInteger c [] some at is = no_data tag LongInteger c [] some at is (none_behind LongInteger)
-    data_determines tag BigInteger c [] some at is = no_data tag BigInteger c [] some at is (none_behind BigInteger)
-    data_determines tag Enumeration c [] some at is = no_data tag Enumeration c [] some at is (none_behind Enumeration)
-    data_determines tag Boolean c [] some at is = no_data tag Boolean c [] some at is (none_behind Boolean)
-    data_determines tag TextString c [] some at is = no_data tag TextString c [] some at is (none_behind TextString)
-    data_determines tag ByteString c [] some at is = no_data tag ByteString c [] some at is (none_behind ByteString)
-    data_determines tag DateTime c [] some at is = no_data tag DateTime c [] some at is (none_behind DateTime)
-    data_determines tag Interval c [] some at is = no_data tag Interval c [] some at is (none_behind Interval)
     data_determines tag Structure c (e ∷ r) some at is = whole tag Structure c (e ∷ r) [] (e ∷ r) (suc depth) some at is (refl, refl, omega arith) refl
-    data_determines tag Integer c (e ∷ r) some at is = whole tag Integer c (e ∷ r) hidden (e ∷ r) depth some at is (refl, refl, omega arith) refl
-    data_determines tag LongInteger c (e ∷ r) some at is = whole tag LongInteger c (e ∷ r) hidden (e ∷ r) depth some at is (refl, refl, omega arith) refl
-    data_determines tag BigInteger c (e ∷ r) some at is = whole tag BigInteger c (e ∷ r) hidden (e ∷ r) depth some at is (refl, refl, omega arith) refl
     data_determines tag Enumeration c (e ∷ r) some at is = value_determines tag c (e ∷ r) some at is
-    data_determines tag Boolean c (e ∷ r) some at is = whole tag Boolean c (e ∷ r) hidden (e ∷ r) depth some at is (refl, refl, omega arith) refl
-    data_determines tag TextString c (e ∷ r) some at is = whole tag TextString c (e ∷ r) hidden (e ∷ r) depth some at is (refl, refl, omega arith) refl
-    data_determines tag ByteString c (e ∷ r) some at is = whole tag ByteString c (e ∷ r) hidden (e ∷ r) depth some at is (refl, refl, omega arith) refl
-    data_determines tag DateTime c (e ∷ r) some at is = whole tag DateTime c (e ∷ r) hidden (e ∷ r) depth some at is (refl, refl, omega arith) refl
-    data_determines tag Interval c (e ∷ r) some at is = whole tag Interval c (e ∷ r) hidden (e ∷ r) depth some at is (refl, refl, omega arith) refl
+    data_determines tag typ c [] some at is = no_data tag typ c [] some at is (none_behind typ)
+    data_determines tag typ c (e ∷ r) some at is = whole tag typ c (e ∷ r) hidden (e ∷ r) depth some at is (refl, refl, omega arith) refl
 
     letter_determines : (tag : ℕ) (rest : List ℕ) → tag_in_front prefix s ≡ Some tag → drop digits_end s ≡ rest
         → StepIs depth s (letter_step beginning depth tag rest)
@@ -247,32 +209,19 @@ module _ (beginning : ℕ → ℕ → List ℕ) (prefix : List ℕ) where
       }
 
   -- what is written are the lines of the longest list of parts
-  longest : (most depth : ℕ) (s : List ℕ) → length s < most → Longest beginning prefix depth s (undiag_from beginning most prefix depth s)
+  longest : (most depth : ℕ) (s : List ℕ) → length s < most → Longest beginning prefix depth s (text_at beginning prefix depth s)
   longest zero depth s lt = absurd (omega arith)
   longest (suc most) depth s lt = by (step beginning prefix depth s) refl (step_is depth s) (step_shorter beginning prefix depth s)
       (λ d r le. longest most d r le)
     where
       by : (t : Step) → step beginning prefix depth s ≡ t → StepIs depth s t → Shorter beginning depth s t
-          → ((d : ℕ) (r : List ℕ) → length r < most → Longest beginning prefix d r (undiag_from beginning most prefix d r))
-          → Longest beginning prefix depth s (undiag_from beginning (suc most) prefix depth s)
-      by (reads_on w d r) e t sh more = subst (λ (x : List ℕ). Longest beginning prefix depth s x)
-          (sym (lines_of beginning most prefix depth s (reads_on w d r) e)) (more_parts depth s w d r (undiag_from beginning most prefix d r) t
-          (more d r (omega (arith, sh.0))))
-      by (stops_with w) e t sh more = subst (λ (x : List ℕ). Longest beginning prefix depth s x) (sym (lines_of beginning most prefix depth s (stops_with w) e))
+          → ((d : ℕ) (r : List ℕ) → length r < most → Longest beginning prefix d r (text_at beginning prefix d r))
+          → Longest beginning prefix depth s (text_at beginning prefix depth s)
+      by (reads_on w d r) e t sh more = rw (part_read beginning prefix depth s e) (more_parts depth s w d r _ t (more d r (omega (arith, sh.0))))
+      by (stops_with w) e t sh more = rw (lines_of beginning (length s) prefix depth s _ e)
           record { parts = []; deep = depth; rest = s; stand = (refl, refl); no_more = t.0; written = t.1 }
 
 -- so is the trimmed result
-reads_longest : (names : ℕ → Option (List ℕ)) (prefix s answer : List ℕ) → answer ≡ undiag names prefix s → ReadsLongest names prefix s answer
+pub reads_longest : (names : ℕ → Option (List ℕ)) (prefix s answer : List ℕ) → answer ≡ undiag names prefix s → ReadsLongest names prefix s answer
 unfolding undiag undiag_lines
-reads_longest names prefix s answer is = (
-  undiag_from (tag_part names) (suc (length s)) prefix 0 s,
-  longest (tag_part names) prefix (suc (length s)) 0 s
-      (omega arith),
-  is,
-)
-
--- and what a call returns
-pub longest_ok : {A E : Type 0} (names : ℕ → Option (List ℕ)) (prefix given s : List ℕ) (r : Result (String A) E) → given ≡ prefix
-    → IfOk r (λ x. string_bytes x ≡ undiag names given s) → IfOk r (λ x. ReadsLongest names prefix s (string_bytes x))
-longest_ok names prefix given s (Ok x) same is = reads_longest names prefix s (string_bytes x) (is ∙ ap (λ (p : List ℕ). undiag names p s) same)
-longest_ok names prefix given s (Err e) same is = tt
+reads_longest names prefix s answer is = (_, longest (tag_part names) prefix (suc (length s)) 0 s (omega arith), is)

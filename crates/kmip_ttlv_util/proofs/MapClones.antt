@@ -1,10 +1,6 @@
 -- A clone of a map of names has the same names.
 use Rattle.std.proofs.Common.{◌≡◌, ℕ, Bor, List, [], ◌∷◌, refl, ap}
-use Rattle.std.specs.Prelude.{◌==◌}
-use Rattle.std.specs.Option.{option_map}
-use Rattle.std.specs.List.{AllZip}
-use Rattle.std.specs.HashMap.{IsClone}
-use Rattle.std.specs.Map.{lookup}
+use Rattle.std.specs.{Prelude.◌==◌, Option.option_map, List.AllZip, HashMap.IsClone, Map.lookup}
 use Rattle.kmip_ttlv_util.specs.TagNames.{NameMap, name_in}
 
 -- equal entries make equal lists

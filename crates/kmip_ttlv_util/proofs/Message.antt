@@ -1,49 +1,30 @@
 -- The diagnostic of a well-formed message.
-use Rattle.std.proofs.Common.{◌≡◌, ℕ, suc, ◌+◌, ◌-◌, ◌<◌, ◌≤◌, ◌^◌, Bool, true, false, List, [], ◌∷◌, ◌++◌, length, get_or, None, refl, sym, ap, subst, ◌∙◌}
-use Rattle.std.proofs.Common.{arith}
-use Rattle.std.proofs.Common.{◌⊎◌, inl, inr}
-use Rattle.std.specs.Prelude.{◌↔◌, Result, Ok, Err, IfOk, string_bytes}
-use Rattle.std.proofs.Common.{String}
-use Rattle.std.specs.Int.{w32, from_be_bytes}
+use Rattle.std.proofs.Common.{◌≡◌, ℕ, suc, ◌+◌, ◌-◌, ◌<◌, ◌^◌, Bool, true, false, List, [], ◌∷◌, ◌++◌, length, get_or, None, refl, sym, ap, subst, ◌∙◌, arith}
+use Rattle.std.proofs.Common.{inl, inr}
+use Rattle.std.specs.{Prelude.◌↔◌, Int.w32, Int.from_be_bytes}
 use Rattle.std.proofs.lemmas.List.{get_or_append_left, get_or-append_right, get_or_past}
 use Rattle.std.proofs.lemmas.Bool.{cases_lt}
-use Rattle.kmip_ttlv_types.specs.declared.typ.TtlvType.{TtlvType}
-use Rattle.kmip_ttlv_types.specs.declared.typ.TtlvType.TheVariants.{Structure, Integer, LongInteger, BigInteger, Enumeration, Boolean, TextString, ByteString}
-use Rattle.kmip_ttlv_types.specs.declared.typ.TtlvType.TheVariants.{DateTime, Interval}
-use Rattle.kmip_ttlv_types.specs.Items.{Raw, IsTextOf}
-use Rattle.kmip_ttlv_types.specs.Leaves.{is_valid}
+use Rattle.kmip_ttlv_types.specs.{declared.typ.TtlvType.TtlvType, declared.typ.TtlvType.TheVariants.Structure, declared.typ.TtlvType.TheVariants.Enumeration}
+use Rattle.kmip_ttlv_types.specs.{Items.Raw, Items.IsTextOf, Leaves.is_valid}
 use Rattle.kmip_ttlv_types.specs.Trees.{Tree, Trees, leaf, node, no_trees, tree, IsTreeText, AreTreeTexts, HasNoEmpty, IsStructure}
 use Rattle.kmip_ttlv_util.specs.Outlines.{IsShown, IsOutline, AreOutlines, value_of, outline_of, outlines_of, mark, diag, diag_all}
-use Rattle.kmip_ttlv_util.specs.Traces.{trace}
+use Rattle.kmip_ttlv_util.specs.{Traces.trace, Diagnostics.diag_style, Diagnostics.hostile, declared.item.Item.Item, PrintResults.IsExact, Walks.IsItem}
 use Rattle.kmip_ttlv_util.specs.Entries.{entry_at, detail_value, detail_of}
-use Rattle.kmip_ttlv_util.specs.Diagnostics.{diag_style, hostile}
-use Rattle.kmip_ttlv_util.specs.declared.item.Item.{Item}
-use Rattle.kmip_ttlv_util.specs.PrintResults.{IsExact}
-use Rattle.kmip_ttlv_util.specs.Walks.{IsItem}
-use Rattle.kmip_ttlv_util.proofs.Unique.{diag_one}
+use Rattle.kmip_ttlv_util.proofs.{Unique.diag_one, Entries.shown_enumeration}
 use Rattle.kmip_ttlv_types.proofs.PlaceLemmas.{raw_with, header_of}
-use Rattle.kmip_ttlv_util.proofs.Entries.{shown_enumeration}
 use Rattle.kmip_ttlv_util.proofs.Walked.{Drawing, Draws, drawn, drawn_all, message_determined, leaf_not}
 
 -- what is kept of a leaf is its value in the outline
 shown_is : (typ : TtlvType) (content : List ℕ) → is_valid typ content ≡ true → detail_value typ (detail_of typ content) ≡ value_of typ content
-shown_is Structure content valid = refl
-shown_is Integer content valid = refl
-shown_is LongInteger content valid = refl
-shown_is BigInteger content valid = refl
 shown_is Enumeration content valid = shown_enumeration content valid
-shown_is Boolean content valid = refl
-shown_is TextString content valid = refl
-shown_is ByteString content valid = refl
-shown_is DateTime content valid = refl
-shown_is Interval content valid = refl
+shown_is typ content valid = refl
 
 -- ---- the text
 
 -- an item's mark is what the style writes for its entry
-pub item_mark : (prefix bytes : List ℕ) (depth p : ℕ) (i : Item) → IsItem bytes p i → mark prefix i.tag i.typ i.value ≡ (diag_style prefix).item depth p
-    (entry_at bytes p) i.typ
-item_mark prefix bytes depth p i item = rw (item.tag, item.value) refl
+pub item_mark : {prefix given bytes : List ℕ} {p : ℕ} {i : Item} → given ≡ prefix → IsItem bytes p i
+    → mark given i.tag i.typ i.value ≡ (diag_style prefix).item 0 p (entry_at bytes p) i.typ
+item_mark same item = rw (same, item.tag, item.value) refl
 
 -- what a diagnostic has for leaves and for openings of structures
 diag_drawing : List ℕ → Drawing
@@ -68,13 +49,12 @@ mutual
   -- which is the text of the outline
   drawn_diag : (prefix : List ℕ) (depth : ℕ) (t : Tree) → drawn (diag_drawing prefix) (93 ∷ []) depth t ≡ diag prefix (outline_of t)
   drawn_diag prefix depth (leaf tag typ content) = refl
-  drawn_diag prefix depth (node tag below) = ap (λ (r : List ℕ). mark prefix tag Structure None ++ (r ++ (93 ∷ []))) (drawn_diags prefix (suc depth) below)
+  drawn_diag prefix depth (node tag below) = rw (drawn_diags prefix (suc depth) below) refl
 
   -- and of several outlines
   drawn_diags : (prefix : List ℕ) (depth : ℕ) (ts : Trees) → drawn_all (diag_drawing prefix) (93 ∷ []) depth ts ≡ diag_all prefix (outlines_of ts)
   drawn_diags prefix depth no_trees = refl
-  drawn_diags prefix depth (tree t ts) = ap (λ (r : List ℕ). r ++ drawn_all (diag_drawing prefix) (93 ∷ []) depth ts) (drawn_diag prefix depth t)
-      ∙ ap (λ (r : List ℕ). diag prefix (outline_of t) ++ r) (drawn_diags prefix depth ts)
+  drawn_diags prefix depth (tree t ts) = rw (drawn_diag prefix depth t, drawn_diags prefix depth ts) refl
 
 -- the diagnostic of a well-formed message is that of its outline
 pub message_text : (prefix : List ℕ) (closed : Bool) (w : List ℕ) (t : Tree) → IsTreeText t w → IsStructure t → (closed ≡ false → HasNoEmpty t)
@@ -90,20 +70,17 @@ AreBytes bs = (i : ℕ) → get_or bs i 0 < 256
 
 -- a beginning of bytes is bytes
 bytes_left : (xs ys : List ℕ) → AreBytes (xs ++ ys) → AreBytes xs
-bytes_left xs ys all i = by (cases_lt i (length xs))
-  where
-    by : (i < length xs) ⊎ (length xs ≤ i) → get_or xs i 0 < 256
-    by (inl lt) = let e : get_or (xs ++ ys) i 0 ≡ get_or xs i 0 = get_or_append_left xs ys 0 i lt in omega (arith, all i, e)
-    by (inr le) = let e : get_or xs i 0 ≡ 0 = get_or_past xs i 0 le in omega (arith, e)
+bytes_left xs ys all i = elim (cases_lt i (length xs)) [
+  | inl lt ↦ omega (arith, all i, get_or_append_left xs ys 0 i lt)
+  | inr le ↦ omega (arith, get_or_past xs i 0 le)
+]
 
 -- and so is what follows
 bytes_right : (xs ys : List ℕ) → AreBytes (xs ++ ys) → AreBytes ys
 bytes_right xs ys all i =
-    let e : get_or (xs ++ ys) (length xs + i) 0 ≡ get_or ys (length xs + i - length xs) 0 = get_or-append_right xs ys (length xs) (length xs + i) 0 refl
-    (omega arith) in
     let j : length xs + i - length xs ≡ i = omega arith in
-    let k : get_or ys (length xs + i - length xs) 0 ≡ get_or ys i 0 = ap (λ (m : ℕ). get_or ys m 0) j in
-    omega (arith, all (length xs + i), e, k)
+    let e = rw j at (get_or-append_right xs ys (length xs) (length xs + i) 0 refl (omega arith)) in
+    omega (arith, all (length xs + i), e)
 
 -- an item's content is bytes
 content_bytes : (x : Raw) (text : List ℕ) → IsTextOf x text → AreBytes text → AreBytes x.content
@@ -116,15 +93,8 @@ value_small content all = omega (arith, all 0, all 1, all 2, all 3)
 -- what is kept of a leaf fits an outline
 shown_fits : (typ : TtlvType) (content : List ℕ) → is_valid typ content ≡ true → AreBytes content → IsShown typ (value_of typ content)
 shown_fits Structure content valid all = leaf_not Structure content valid refl
-shown_fits Integer content valid all = tt
-shown_fits LongInteger content valid all = tt
-shown_fits BigInteger content valid all = tt
 shown_fits Enumeration content valid all = value_small content all
-shown_fits Boolean content valid all = tt
-shown_fits TextString content valid all = tt
-shown_fits ByteString content valid all = tt
-shown_fits DateTime content valid all = tt
-shown_fits Interval content valid all = tt
+shown_fits typ content valid all = tt
 
 mutual
   -- a message's outline is an outline
@@ -149,20 +119,9 @@ exact prefix closed w text all is t h root none =
       only = λ o io. ((λ f. diag_one prefix o (outline_of t) io (is_outline t w h all) (sym f ∙ e)), (λ f. e ∙ ap (diag prefix) (sym f)));
     }
 
--- so is what a call returns
-pub exact_ok : {A E : Type 0} (prefix given : List ℕ) (closed : Bool) (w : List ℕ) (r : Result (String A × ℕ) E) → AreBytes w → given ≡ prefix
-    → IfOk r (λ x. string_bytes x.0 ≡ hostile given closed (length w) (trace closed w)) → IfOk r (λ x. IsExact prefix closed w (string_bytes x.0))
-exact_ok prefix given closed w (Ok x) all same is =
-    exact prefix closed w (string_bytes x.0) all (is ∙ ap (λ (p : List ℕ). hostile p closed (length w) (trace closed w)) same)
-exact_ok prefix given closed w (Err e) all same is = tt
-
 -- if every number is below 256, the list is bytes
 pub each_byte : (bs : List ℕ) → ((i : ℕ) → i < length bs → get_or bs i 0 < 256) → AreBytes bs
-each_byte bs each i = by (cases_lt i (length bs))
-  where
-    by : (i < length bs) ⊎ (length bs ≤ i) → get_or bs i 0 < 256
-    by (inl lt) = each i lt
-    by (inr le) = let e : get_or bs i 0 ≡ 0 = get_or_past bs i 0 le in omega (arith, e)
+each_byte bs each i = elim (cases_lt i (length bs)) [ inl lt ↦ each i lt | inr le ↦ omega (arith, get_or_past bs i 0 le) ]
 
 -- two messages' diagnostics
 pub determine_outlines : (prefix : List ℕ) (closed : Bool) (a b : List ℕ) (t u : Tree) → AreBytes a → AreBytes b → IsTreeText t a → IsTreeText u b

@@ -3,13 +3,10 @@ use Rattle.std.proofs.Common.{◌≡◌, ◌≢◌, ℕ, zero, suc, ◌-◌, ◌
 use Rattle.std.proofs.Common.{arith}
 use Rattle.std.specs.List.{prefix_len}
 use Rattle.std.proofs.lemmas.Bool.{eqb-true}
-use Rattle.kmip_ttlv_types.specs.declared.typ.TtlvType.{TtlvType}
-use Rattle.kmip_ttlv_types.specs.declared.typ.TtlvType.TheVariants.{Enumeration}
-use Rattle.kmip_ttlv_util.specs.Letters.{is_hex, type_of_letter}
+use Rattle.kmip_ttlv_types.specs.declared.typ.TtlvType.{TtlvType, TheVariants.Enumeration}
+use Rattle.kmip_ttlv_util.specs.{Letters.is_hex, Letters.type_of_letter, Lines.line, Lines.typ_part, ReadBack.tag_in_front}
 use Rattle.kmip_ttlv_util.specs.Undiag.{with_rest, front_type, front_value, Step, reads_on, stops_with, close_step, data_step, type_step, letter_step, tag_step}
 use Rattle.kmip_ttlv_util.specs.Undiag.{step}
-use Rattle.kmip_ttlv_util.specs.Lines.{line, typ_part}
-use Rattle.kmip_ttlv_util.specs.ReadBack.{tag_in_front}
 
 module _ (beginning : ℕ → ℕ → List ℕ) where
   -- a value and what follows it, or none

@@ -1,25 +1,22 @@
 -- Prefixes of tags as numbers.
 use Rattle.std.proofs.Common.{◌≡◌, ◌≢◌, ℕ, zero, suc, ◌+◌, ◌-◌, ◌*◌, ◌/◌, ◌%◌, ◌^◌, ◌<◌, ◌≤◌, List, [], ◌∷◌, ◌++◌, length, drop, refl, sym, ap, ◌∙◌, arith}
-use Rattle.std.proofs.Common.{true, Bool, cond, false, ltb}
+use Rattle.std.proofs.Common.{true, take}
 use Rattle.std.specs.Fmt.{digit_glyph}
-use Rattle.std.proofs.Math.Nat.{pow-suc, mul_assoc, le_refl}
+use Rattle.std.proofs.{lemmas.List.take_at, lemmas.List.drop_at, Math.Nat.pow-suc, Math.Nat.le_refl}
 use Rattle.std.proofs.lemmas.Nat.{pow-add, shr_below, mul-le, div-mul-add}
-use Rattle.std.proofs.lemmas.Bool.{ltb-true, ltb-false}
 use Rattle.kmip_ttlv_types.specs.Digits.{six_digits}
-use Rattle.kmip_ttlv_util.specs.LastDigits.{last_digits}
-use Rattle.kmip_ttlv_util.specs.Outlines.{stripped}
-use Rattle.kmip_ttlv_util.proofs.HexDigits.{last_length, last_drop, last_split}
+use Rattle.kmip_ttlv_util.specs.{LastDigits.last_digits, Outlines.stripped}
+use Rattle.kmip_ttlv_util.proofs.HexDigits.{glyph_cases, last_length, last_drop, last_split, last_add}
 use Rattle.kmip_ttlv_util.proofs.Texts.{stripped_some, stripped_none}
 
 -- a list of six numbers
-six_same : (a b c d e f g h i j k l : ℕ) → a ≡ g → b ≡ h → c ≡ i → d ≡ j → e ≡ k → f ≡ l → a ∷ b ∷ c ∷ d ∷ e ∷ f ∷ [] ≡ g ∷ h ∷ i ∷ j ∷ k ∷ l ∷ []
-six_same a b c d e f g h i j k l p1 p2 p3 p4 p5 p6 = cc
+six_same : {a b c d e f g h i j k l : ℕ} → a ≡ g → b ≡ h → c ≡ i → d ≡ j → e ≡ k → f ≡ l → a ∷ b ∷ c ∷ d ∷ e ∷ f ∷ [] ≡ g ∷ h ∷ i ∷ j ∷ k ∷ l ∷ []
+six_same p1 p2 p3 p4 p5 p6 = cc
 
 -- a tag's digits are its last six
 pub six_last : (n : ℕ) → six_digits n ≡ last_digits 6 n
 unfolding six_digits last_digits
-six_last n =
-    six_same _ _ _ _ _ _ _ _ _ _ _ _ (ap (digit_glyph true) (omega arith)) (ap (digit_glyph true) (omega arith)) (ap (digit_glyph true) (omega arith))
+six_last n = six_same (ap (digit_glyph true) (omega arith)) (ap (digit_glyph true) (omega arith)) (ap (digit_glyph true) (omega arith))
     (ap (digit_glyph true) (omega arith)) (ap (digit_glyph true) (omega arith)) (ap (digit_glyph true) (omega arith))
 
 -- the digits after those that are omitted
@@ -31,28 +28,19 @@ behind r tag n text few is h =
 
 -- equal digits, equal values
 glyph_same : (a b : ℕ) → a < 16 → b < 16 → digit_glyph true a ≡ digit_glyph true b → a ≡ b
-glyph_same a b ha hb = by (ltb a 10) (ltb b 10) refl refl
-  where
-    by : (x y : Bool) → ltb a 10 ≡ x → ltb b 10 ≡ y → cond x (48 + a) (55 + a) ≡ cond y (48 + b) (55 + b) → a ≡ b
-    by true true p q e = omega arith
-    by true false p q e = omega (arith, ltb-true _ _ p, ltb-false _ _ q, e)
-    by false true p q e = omega (arith, ltb-false _ _ p, ltb-true _ _ q, e)
-    by false false p q e = omega arith
+glyph_same a b ha hb =
+    glyph_cases (λ c. c ≡ digit_glyph true b → a ≡ b) a (λ la. glyph_cases (λ c. 48 + a ≡ c → a ≡ b) b (λ lb e. omega arith) (λ lb e. omega arith))
+    (λ la. glyph_cases (λ c. 55 + a ≡ c → a ≡ b) b (λ lb e. omega arith) (λ lb e. omega arith))
 
 -- lists whose beginnings have the same length
 front_same : (xs ys ends more : List ℕ) → length xs ≡ length ys → xs ++ ends ≡ ys ++ more → (xs ≡ ys) × (ends ≡ more)
-front_same [] [] ends more n e = (refl, e)
-front_same [] (y ∷ ys) ends more n e = absurd (omega arith)
-front_same (x ∷ xs) [] ends more n e = absurd (omega arith)
-front_same (x ∷ xs) (y ∷ ys) ends more n e =
-    let heads : x ≡ y = cc in
-    let tails : xs ++ ends ≡ ys ++ more = cc in
-    let both = front_same xs ys ends more (omega arith) tails in
-    let same : xs ≡ ys = both.0 in
-    (cc, both.1)
+front_same xs ys ends more n e = (
+  sym (take_at xs ends (length xs) refl) ∙ ap (take (length xs)) e ∙ take_at ys more (length xs) (sym n),
+  sym (drop_at xs ends (length xs) refl) ∙ ap (drop (length xs)) e ∙ drop_at ys more (length xs) (sym n),
+)
 
 -- equal digits, equal numbers
-last_one : (k a b : ℕ) → a < 16 ^ k → b < 16 ^ k → last_digits k a ≡ last_digits k b → a ≡ b
+pub last_one : (k a b : ℕ) → a < 16 ^ k → b < 16 ^ k → last_digits k a ≡ last_digits k b → a ≡ b
 unfolding last_digits
 last_one zero a b ha hb e = omega arith
 last_one (suc k) a b ha hb e =
@@ -80,19 +68,17 @@ module _ (text : List ℕ) (count number shift tag : ℕ) (few : count ≤ 6) (i
       let power : 16 ^ (6 - count) ≡ 2 ^ shift = sym (ap (λ (n : ℕ). 2 ^ n) shifts ∙ four_bits (6 - count)) in
       let end : last_digits (6 - count) tag ≡ drop count (six_digits tag) = sym (last_drop 6 (6 - count) tag (omega arith))
       ∙ ap (λ (n : ℕ). drop n (last_digits 6 tag)) others ∙ ap (drop count) (sym (six_last tag)) in
-      six_last tag ∙ last_split 6 (6 - count) tag (omega arith) ∙ ap (λ (n : ℕ). last_digits n (tag / 16 ^ (6 - count)) ++ last_digits (6 - count) tag) others
-      ∙ ap (λ (n : ℕ). last_digits count (tag / n) ++ last_digits (6 - count) tag) power ∙ ap (λ (s : List ℕ). last_digits count (tag / 2 ^ shift) ++ s) end
+      rw (← end, ← power, six_last tag) (last_split 6 (6 - count) tag (omega arith) ∙ ap (λ (n : ℕ). last_digits n (tag / 16 ^ (6 - count))
+      ++ last_digits (6 - count) tag) others)
 
   -- if the quotient is the prefix's number, its digits are omitted
   pub left_prefix : tag / 2 ^ shift ≡ number → drop count (six_digits tag) ≡ stripped text (six_digits tag)
-  left_prefix e =
-      stripped_some text (six_digits tag) count (sym (ap length is ∙ last_length count number))
+  left_prefix e = stripped_some text (six_digits tag) count (sym (ap length is ∙ last_length count number))
       (first_digits ∙ ap (λ (n : ℕ). last_digits count n ++ drop count (six_digits tag)) e ∙ ap (λ (s : List ℕ). s ++ drop count (six_digits tag)) (sym is))
 
   -- if it isn't, nothing is omitted
   pub left_nothing : tag / 2 ^ shift ≢ number → six_digits tag ≡ stripped text (six_digits tag)
-  left_nothing ne =
-      stripped_none text (six_digits tag) (λ rest e.
+  left_nothing ne = stripped_none text (six_digits tag) (λ rest e.
       let sizes : length (last_digits count (tag / 2 ^ shift)) ≡ length text = last_length count (tag / 2 ^ shift)
       ∙ sym (ap length is ∙ last_length count number) in
       let same = (front_same (last_digits count (tag / 2 ^ shift)) text (drop count (six_digits tag)) rest sizes (sym first_digits ∙ e)).0 in
@@ -101,22 +87,8 @@ module _ (text : List ℕ) (count number shift tag : ℕ) (few : count ≤ 6) (i
       below : tag / 2 ^ shift < 16 ^ count
       below =
           let sum : 4 * count + shift ≡ 24 = omega arith in
-          let all : 2 ^ (4 * count + shift) ≡ 2 ^ 24 = ap (λ (n : ℕ). 2 ^ n) sum in
-          let bound : tag < 2 ^ (4 * count + shift) = omega (arith, all, fits) in
-          let quotient : tag / 2 ^ shift < 2 ^ (4 * count) = shr_below tag (4 * count) shift bound in
+          let quotient = shr_below tag (4 * count) shift (rw sum fits) in
           omega (arith, quotient, four_bits count)
-
--- a number before the last digits doesn't change them
-last_add : (k a b : ℕ) → last_digits k (a * 16 ^ k + b) ≡ last_digits k b
-unfolding last_digits
-last_add zero a b = refl
-last_add (suc k) a b =
-    let e : a * 16 ^ suc k ≡ (a * 16 ^ k) * 16 = ap (λ (n : ℕ). a * n) (pow-suc 16 k) ∙ sym (mul_assoc a (16 ^ k) 16) in
-    let front : (a * 16 ^ suc k + b) / 16 ≡ a * 16 ^ k + b / 16 = omega (arith, e) in
-    let end : (a * 16 ^ suc k + b) % 16 ≡ b % 16 = omega (arith, e) in
-    ap (λ (n : ℕ). last_digits k n ++ (digit_glyph true ((a * 16 ^ suc k + b) % 16) ∷ [])) front
-    ∙ ap (λ (s : List ℕ). s ++ (digit_glyph true ((a * 16 ^ suc k + b) % 16) ∷ [])) (last_add k a (b / 16))
-    ∙ ap (λ (d : ℕ). last_digits k (b / 16) ++ (digit_glyph true d ∷ [])) end
 
 -- the tag made of a prefix's digits and others
 module _ (text : List ℕ) (count number others low : ℕ) (six : count + others ≡ 6) (is : text ≡ last_digits count number) (small : number < 16 ^ count)
@@ -135,7 +107,6 @@ module _ (text : List ℕ) (count number others low : ℕ) (six : count + others
   joined_digits =
       let t = number * 16 ^ others + low in
       let left : 6 - others ≡ count = omega arith in
-      ap (λ (s : List ℕ). s ++ last_digits others low) is ∙ ap (λ (s : List ℕ). last_digits count number ++ s) (sym (last_add others number low))
-      ∙ ap (λ (n : ℕ). last_digits count n ++ last_digits others t) (sym (div-mul-add number (16 ^ others) low few))
-      ∙ ap (λ (k : ℕ). last_digits k (t / 16 ^ others) ++ last_digits others t) (sym left)
-      ∙ sym (last_split 6 others t (omega arith)) ∙ sym (six_last t) ∙ ap (λ (n : ℕ). six_digits (number * n + low)) (sym (four_bits others))
+      rw (is, ← last_add others number low, four_bits others, six_last t)
+      (ap (λ (n : ℕ). last_digits count n ++ last_digits others t) (sym (div-mul-add number (16 ^ others) low few))
+      ∙ ap (λ (k : ℕ). last_digits k (t / 16 ^ others) ++ last_digits others t) (sym left) ∙ sym (last_split 6 others t (omega arith)))

@@ -1,35 +1,14 @@
 -- The loop that reads a diagnostic.
-use Rattle.std.proofs.Common.{◌≡◌, ℕ, zero, suc, ◌+◌, ◌<◌, ◌≤◌, Bool, true, false, cond, eqb, Bor, List, [], ◌∷◌, ◌++◌, length, take, drop, Option, Some, None}
-use Rattle.std.proofs.Common.{refl, sym, ap, ◌∙◌, arith, append_assoc}
+use Rattle.std.proofs.Common.{◌≡◌, ℕ, zero, suc, ◌+◌, ◌<◌, ◌≤◌, Bool, true, false, cond, eqb, List, [], ◌∷◌, ◌++◌, length, take, drop, Option, Some, None, refl}
+use Rattle.std.proofs.Common.{sym, ap, subst, ◌∙◌, arith, append_assoc}
 use Rattle.std.specs.List.{prefix_len, position_or_len}
 use Rattle.std.proofs.lemmas.List.{length-drop}
-use Rattle.kmip_ttlv_types.specs.declared.typ.TtlvType.{TtlvType}
-use Rattle.kmip_ttlv_types.specs.declared.typ.TtlvType.TheVariants.{Structure, Integer, LongInteger, BigInteger, Enumeration, Boolean, TextString, ByteString}
-use Rattle.kmip_ttlv_types.specs.declared.typ.TtlvType.TheVariants.{DateTime, Interval}
-use Rattle.kmip_ttlv_types.specs.Names.{tag_of}
+use Rattle.kmip_ttlv_types.specs.{declared.typ.TtlvType.TtlvType, declared.typ.TtlvType.TheVariants.Enumeration, Names.tag_of}
 use Rattle.kmip_ttlv_util.specs.Letters.{is_hex, type_of_letter}
 use Rattle.kmip_ttlv_util.specs.Undiag.{Step, reads_on, stops_with, close_step, data_step, type_step, letter_step, tag_step, step, written_by, undiag_from}
 use Rattle.kmip_ttlv_util.specs.Undiag.{undiag_lines}
 
--- what was written with a part, the depth and the rest of the text
-abbrev pub Reads : Step → List ℕ → List ℕ → Option (ℕ × Bor (List ℕ)) → Type 0
-Reads (reads_on w d r) before now (Some x) = (now ≡ before ++ w) × (x.0 ≡ d) × (x.1.now ≡ r)
-Reads (reads_on w d r) before now None = ⊥
-Reads (stops_with w) before now (Some x) = ⊥
-Reads (stops_with w) before now None = now ≡ before ++ w
-
 module _ (beginning : ℕ → ℕ → List ℕ) where
-  -- what is written, and the lines that are left
-  pub record Reading (prefix s out : List ℕ) (depth : ℕ) (rest : List ℕ) : Type 0 where
-    pub most : ℕ
-    pub enough : length rest < most
-    pub lines : out ++ undiag_from beginning most prefix depth rest ≡ undiag_from beginning (suc (length s)) prefix 0 s
-    pub shallow : depth + length rest ≤ length s
-
-  -- before the first part
-  pub reading_start : (prefix s : List ℕ) → Reading prefix s [] 0 s
-  reading_start prefix s = record { most = suc (length s); enough = omega arith; lines = refl; shallow = omega arith }
-
   -- a part is not empty, and opens at most one structure
   abbrev pub Shorter : ℕ → List ℕ → Step → Type 0
   Shorter depth s (reads_on w d r) = (length r < length s) × (d + length r ≤ depth + length s)
@@ -47,26 +26,9 @@ module _ (beginning : ℕ → ℕ → List ℕ) where
 
   -- nor is what follows a type
   data_shorter : (depth tag c : ℕ) (typ : TtlvType) (s : List ℕ) → Shorter depth (c ∷ s) (data_step beginning depth tag typ s)
-  data_shorter depth tag c Structure [] = tt
-  data_shorter depth tag c Integer [] = tt
-  data_shorter depth tag c LongInteger [] = tt
-  data_shorter depth tag c BigInteger [] = tt
-  data_shorter depth tag c Enumeration [] = tt
-  data_shorter depth tag c Boolean [] = tt
-  data_shorter depth tag c TextString [] = tt
-  data_shorter depth tag c ByteString [] = tt
-  data_shorter depth tag c DateTime [] = tt
-  data_shorter depth tag c Interval [] = tt
-  data_shorter depth tag c Structure (a ∷ s) = (omega arith, omega arith)
-  data_shorter depth tag c Integer (a ∷ s) = (omega arith, omega arith)
-  data_shorter depth tag c LongInteger (a ∷ s) = (omega arith, omega arith)
-  data_shorter depth tag c BigInteger (a ∷ s) = (omega arith, omega arith)
+  data_shorter depth tag c typ [] = tt
   data_shorter depth tag c Enumeration (a ∷ s) = value_shorter depth tag c (position_or_len (λ b. eqb b 58) (a ∷ s) + 1) (a ∷ s) _ _ _
-  data_shorter depth tag c Boolean (a ∷ s) = (omega arith, omega arith)
-  data_shorter depth tag c TextString (a ∷ s) = (omega arith, omega arith)
-  data_shorter depth tag c ByteString (a ∷ s) = (omega arith, omega arith)
-  data_shorter depth tag c DateTime (a ∷ s) = (omega arith, omega arith)
-  data_shorter depth tag c Interval (a ∷ s) = (omega arith, omega arith)
+  data_shorter depth tag c typ (a ∷ s) = (omega arith, omega arith)
 
   -- nor a type
   type_shorter : (depth tag c : ℕ) (s : List ℕ) (o : Option TtlvType) → Shorter depth (c ∷ s) (type_step beginning depth tag s o)
@@ -99,8 +61,7 @@ module _ (beginning : ℕ → ℕ → List ℕ) where
   step_shorter prefix depth [] = tt
   step_shorter prefix depth (c ∷ s) =
       let n = prefix_len is_hex (c ∷ s) in
-      either depth (c ∷ s) (eqb c 93) _ _ (close_shorter depth c s)
-      (longer depth (drop n (c ∷ s)) (c ∷ s) _ (omega (arith, length-drop n (c ∷ s)))
+      either depth (c ∷ s) (eqb c 93) _ _ (close_shorter depth c s) (longer depth (drop n (c ∷ s)) (c ∷ s) _ (omega (arith, length-drop n (c ∷ s)))
       (tag_shorter depth (drop n (c ∷ s)) (tag_of (48 ∷ 120 ∷ (prefix ++ take n (c ∷ s))))))
 
   -- the lines, given the first part
@@ -109,60 +70,56 @@ module _ (beginning : ℕ → ℕ → List ℕ) where
   unfolding undiag_from
   lines_of most prefix depth s t e = ap (λ (u : Step). written_by u (λ d r. undiag_from beginning most prefix d r)) e
 
-  pub record Gone (prefix s now : List ℕ) (x : ℕ × Bor (List ℕ)) (rest : List ℕ) : Type 0 where
-    pub reading : Reading prefix s now x.0 x.1.now
-    pub shorter : length x.1.now < length rest
+  -- more turns than characters change nothing
+  enough : (f g : ℕ) (prefix : List ℕ) (depth : ℕ) (s : List ℕ) → length s < f → length s < g
+      → undiag_from beginning f prefix depth s ≡ undiag_from beginning g prefix depth s
+  unfolding undiag_from
+  enough zero g prefix depth s p q = absurd (omega arith)
+  enough (suc f) zero prefix depth s p q = absurd (omega arith)
+  enough (suc f) (suc g) prefix depth s p q =
+      by (step beginning prefix depth s) (step_shorter prefix depth s) (λ d r h. enough f g prefix d r (omega arith) (omega arith))
+    where
+      by : (t : Step) → Shorter depth s t
+          → ((d : ℕ) (r : List ℕ) → length r < length s → undiag_from beginning f prefix d r ≡ undiag_from beginning g prefix d r)
+          → written_by t (λ d r. undiag_from beginning f prefix d r) ≡ written_by t (λ d r. undiag_from beginning g prefix d r)
+      by (reads_on w d r) h more = ap (λ (l : List ℕ). w ++ l) (more d r h.0)
+      by (stops_with w) h more = refl
+
+  -- what is written of a text
+  abbrev pub text_at : List ℕ → ℕ → List ℕ → List ℕ
+  text_at prefix depth s = undiag_from beginning (suc (length s)) prefix depth s
+
+  -- a part and the rest
+  pub part_read : {w r : List ℕ} {d : ℕ} (prefix : List ℕ) (depth : ℕ) (s : List ℕ) → step beginning prefix depth s ≡ reads_on w d r
+      → text_at prefix depth s ≡ w ++ text_at prefix d r
+  part_read {w} {r} {d} prefix depth s is =
+      let less : Shorter depth s (reads_on w d r) = subst (Shorter depth s) is (step_shorter prefix depth s) in
+      lines_of (length s) prefix depth s _ is ∙ ap (λ (l : List ℕ). w ++ l) (enough (length s) (suc (length r)) prefix d r less.0 (omega arith))
+
+-- what is written, and the lines that are left
+pub record Reading (beginning : ℕ → ℕ → List ℕ) (prefix s out : List ℕ) (depth : ℕ) (rest : List ℕ) : Type 0 where
+  pub lines : out ++ text_at beginning prefix depth rest ≡ undiag_lines beginning prefix s
+  pub shallow : depth + length rest ≤ length s
+
+module _ {beginning : ℕ → ℕ → List ℕ} {prefix s : List ℕ} where
+  -- before the first part
+  pub reading_start : Reading beginning prefix s [] 0 s
+  unfolding undiag_lines
+  reading_start = record { lines = refl; shallow = omega arith }
 
   -- a part is read
-  goes_by : (prefix s out now : List ℕ) (depth : ℕ) (rest : List ℕ) (x : ℕ × Bor (List ℕ)) (t : Step) (m : ℕ) → step beginning prefix depth rest ≡ t
-      → Shorter depth rest t → length rest < suc m → out ++ undiag_from beginning (suc m) prefix depth rest ≡ undiag_from beginning (suc (length s)) prefix 0 s
-      → depth + length rest ≤ length s → Reads t out now (Some x) → Gone prefix s now x rest
-  goes_by prefix s out now depth rest x (stops_with w) m e sh lt lines shallow reads = absurd reads
-  goes_by prefix s out now depth rest x (reads_on w d r) m e sh lt lines shallow reads =
-      let len : length x.1.now ≡ length r = ap length reads.2 in
-      let next : undiag_from beginning m prefix d r ≡ undiag_from beginning m prefix x.0 x.1.now = ap (λ (k : ℕ). undiag_from beginning m prefix k r)
-      (sym reads.1) ∙ ap (undiag_from beginning m prefix x.0) (sym reads.2) in
-      record {
-        reading = record {
-          most = m;
-          enough = omega (arith, sh.0);
-          lines = ap (λ (o : List ℕ). o ++ undiag_from beginning m prefix x.0 x.1.now) reads.0 ∙ append_assoc out w (undiag_from beginning m prefix x.0 x.1.now)
-              ∙ ap (λ (l : List ℕ). out ++ (w ++ l)) (sym next) ∙ ap (λ (l : List ℕ). out ++ l) (sym (lines_of m prefix depth rest (reads_on w d r) e)) ∙ lines;
-          shallow = omega (arith, sh.1, reads.1);
-        };
-        shorter = omega (arith, sh.0);
-      }
-
-  -- so the loop goes on
-  pub reading_goes : (prefix s out now : List ℕ) (depth : ℕ) (rest : List ℕ) (x : ℕ × Bor (List ℕ)) → Reading prefix s out depth rest
-      → Reads (step beginning prefix depth rest) out now (Some x) → Gone prefix s now x rest
-  reading_goes prefix s out now depth rest x w reads = by w.most w.enough w.lines
-    where
-      by : (most : ℕ) → length rest < most → out ++ undiag_from beginning most prefix depth rest ≡ undiag_from beginning (suc (length s)) prefix 0 s
-          → Gone prefix s now x rest
-      by zero lt lines = absurd (omega arith)
-      by (suc m) lt lines = goes_by prefix s out now depth rest x (step beginning prefix depth rest) m refl (step_shorter prefix depth rest) lt lines
-          w.shallow reads
+  pub reading_goes : {out w rest r : List ℕ} {depth d : ℕ} → Reading beginning prefix s out depth rest → step beginning prefix depth rest ≡ reads_on w d r
+      → Reading beginning prefix s (out ++ w) d r × (length r < length rest)
+  reading_goes {out} {w} {rest} {r} {depth} {d} k is =
+      let less = subst (Shorter beginning depth rest) is (step_shorter beginning prefix depth rest) in (
+        record {
+          lines = append_assoc out w _ ∙ ap (λ (l : List ℕ). out ++ l) (sym (part_read beginning prefix depth rest is)) ∙ k.lines;
+          shallow = omega (arith, less.1, k.shallow);
+        },
+        less.0,
+      )
 
   -- there is no whole part
-  stops_by : (prefix s out now : List ℕ) (depth : ℕ) (rest : List ℕ) (t : Step) (m : ℕ) → step beginning prefix depth rest ≡ t
-      → out ++ undiag_from beginning (suc m) prefix depth rest ≡ undiag_from beginning (suc (length s)) prefix 0 s → Reads t out now None
-      → now ≡ undiag_from beginning (suc (length s)) prefix 0 s
-  stops_by prefix s out now depth rest (reads_on w d r) m e lines reads = absurd reads
-  stops_by prefix s out now depth rest (stops_with w) m e lines reads = reads
-      ∙ ap (λ (l : List ℕ). out ++ l) (sym (lines_of m prefix depth rest (stops_with w) e)) ∙ lines
-
-  -- so the loop ends
-  pub reading_stops : (prefix s out now : List ℕ) (depth : ℕ) (rest : List ℕ) → Reading prefix s out depth rest
-      → Reads (step beginning prefix depth rest) out now None → now ≡ undiag_from beginning (suc (length s)) prefix 0 s
-  reading_stops prefix s out now depth rest w reads = by w.most w.enough w.lines
-    where
-      by : (most : ℕ) → length rest < most → out ++ undiag_from beginning most prefix depth rest ≡ undiag_from beginning (suc (length s)) prefix 0 s
-          → now ≡ undiag_from beginning (suc (length s)) prefix 0 s
-      by zero lt lines = absurd (omega arith)
-      by (suc m) lt lines = stops_by prefix s out now depth rest (step beginning prefix depth rest) m refl lines reads
-
-  -- all that was written
-  pub whole : (prefix s now : List ℕ) → now ≡ undiag_from beginning (suc (length s)) prefix 0 s → now ≡ undiag_lines beginning prefix s
-  unfolding undiag_lines
-  whole prefix s now e = e
+  pub reading_stops : {out w rest : List ℕ} {depth : ℕ} → Reading beginning prefix s out depth rest → step beginning prefix depth rest ≡ stops_with w
+      → out ++ w ≡ undiag_lines beginning prefix s
+  reading_stops {out} {w} {rest} {depth} k is = ap (λ (l : List ℕ). out ++ l) (sym (lines_of beginning (length rest) prefix depth rest _ is)) ∙ k.lines

@@ -1,9 +1,8 @@
 -- The text and the count of the rest of a walk.
 use Rattle.std.proofs.Common.{◌≡◌, ◌≢◌, ℕ, zero, suc, ◌+◌, ◌<◌, ◌≤◌, Bool, true, false, cond, eqb, List, [], ◌∷◌, ◌++◌, length, Option, Some, None, refl, ap}
-use Rattle.std.proofs.Common.{◌∙◌, arith, append_assoc, append-nil}
+use Rattle.std.proofs.Common.{arith, append_assoc, append-nil}
 use Rattle.std.proofs.lemmas.Bool.{eq-eqb, ne_eqb, lt-ltb, le-ltb}
-use Rattle.kmip_ttlv_types.specs.declared.typ.TtlvType.{TtlvType}
-use Rattle.kmip_ttlv_types.specs.Places.{length_at}
+use Rattle.kmip_ttlv_types.specs.{declared.typ.TtlvType.TtlvType, Places.length_at}
 use Rattle.kmip_ttlv_util.specs.Walks.{Ready}
 use Rattle.kmip_ttlv_util.specs.Traces.{closes, entries_by, entries_from, trace, Style, end_text, printed_from, printed_text}
 use Rattle.kmip_ttlv_util.specs.WalkPlaces.{Place, left_at, Turn, turn_left, all_closed, end_passed, entry_follows, turn, after, start}
@@ -83,28 +82,25 @@ module _ (style : Style) (closed : Bool) (bytes : List ℕ) where
   unfolding entries_from
   reads_entries f s o turns is = rw (turns, is) refl
 
-  -- one entry and the others
-  pub count_reads : (f : ℕ) (s : Place) (t : TtlvType) → Ready s → type_read (length bytes) s.pos (entry_at bytes s.pos) ≡ Some t
-      → count_from (suc f) s ≡ suc (count_from f (after closed s t (length_at (entry_at bytes s.pos).header 0)))
-  unfolding count_from
-  count_reads f s t ready is = ap length (reads_entries f s (Some t) ready.turns is)
+  -- what is written for an entry and for the others, and how many they are
+  pub turn_reads : (f : ℕ) (s : Place) (t : TtlvType) → Ready s → type_read (length bytes) s.pos (entry_at bytes s.pos) ≡ Some t
+      → (text_from (suc f) s ≡ style.item (s.endless + length s.ends) s.pos (entry_at bytes s.pos) t ++ text_from f
+      (after closed s t (length_at (entry_at bytes s.pos).header 0)))
+      × (count_from (suc f) s ≡ suc (count_from f (after closed s t (length_at (entry_at bytes s.pos).header 0))))
+  unfolding text_from printed_from count_from
+  turn_reads f s t ready is = (
+    rw (reads_entries f s (Some t) ready.turns is) (rw (ready_closes style.close s.pos s.ends ready.left, is, ready.left) refl),
+    ap length (reads_entries f s (Some t) ready.turns is),
+  )
 
   -- an unreadable entry is the last
-  pub count_unreadable : (f : ℕ) (s : Place) → Ready s → type_read (length bytes) s.pos (entry_at bytes s.pos) ≡ None → count_from (suc f) s ≡ 1
-  unfolding count_from
-  count_unreadable f s ready is = ap length (reads_entries f s None ready.turns is)
-
-  -- what is written for an entry and for the others
-  pub text_reads : (f : ℕ) (s : Place) (t : TtlvType) → Ready s → type_read (length bytes) s.pos (entry_at bytes s.pos) ≡ Some t
-      → text_from (suc f) s ≡ style.item (s.endless + length s.ends) s.pos (entry_at bytes s.pos) t ++ text_from f
-      (after closed s t (length_at (entry_at bytes s.pos).header 0))
-  unfolding text_from printed_from
-  text_reads f s t ready is = rw (reads_entries f s (Some t) ready.turns is) (rw (ready_closes style.close s.pos s.ends ready.left, is, ready.left) refl)
-
-  -- for an unreadable one
-  pub text_unreadable : (f : ℕ) (s : Place) → Ready s → type_read (length bytes) s.pos (entry_at bytes s.pos) ≡ None → text_from (suc f) s ≡ style.unreadable
-  unfolding text_from printed_from
-  text_unreadable f s ready is = rw (reads_entries f s None ready.turns is) (rw (ready_closes style.close s.pos s.ends ready.left, is) refl)
+  pub turn_unreadable : (f : ℕ) (s : Place) → Ready s → type_read (length bytes) s.pos (entry_at bytes s.pos) ≡ None
+      → (text_from (suc f) s ≡ style.unreadable) × (count_from (suc f) s ≡ 1)
+  unfolding text_from printed_from count_from
+  turn_unreadable f s ready is = (
+    rw (reads_entries f s None ready.turns is) (rw (ready_closes style.close s.pos s.ends ready.left, is) refl),
+    ap length (reads_entries f s None ready.turns is),
+  )
 
   -- ---- an end is reached
 
@@ -138,16 +134,12 @@ module _ (style : Style) (closed : Bool) (bytes : List ℕ) where
       (end_text style (turn (place p (e ∷ es) k z))))
   same_outline p e es k z (x ∷ xs) = rw (more_closes p (e ∷ es), same_left p (e ∷ es)) (append_assoc style.close (closes style.close p (e ∷ es)) _)
 
-  -- so it has when a structure closes
-  pub text_closes : (f p e : ℕ) (es : List ℕ) (k : ℕ) (z : Bool) → text_from f (place p (p ∷ e ∷ es) k z) ≡ style.close ++ text_from f (place p (e ∷ es) k z)
-  unfolding text_from
-  text_closes f p e es k z = ap (printed_from style closed (length bytes) (place p (p ∷ e ∷ es) k z)) (same_entries f p e es k z)
-      ∙ same_outline p e es k z (entries_from f closed bytes (place p (e ∷ es) k z))
-
-  -- the count is unchanged
-  pub count_closes : (f p e : ℕ) (es : List ℕ) (k : ℕ) (z : Bool) → count_from f (place p (p ∷ e ∷ es) k z) ≡ count_from f (place p (e ∷ es) k z)
-  unfolding count_from
-  count_closes f p e es k z = ap length (same_entries f p e es k z)
+  -- so it has when a structure closes, and the count is unchanged
+  pub turn_closes : (f p e : ℕ) (es : List ℕ) (k : ℕ) (z : Bool)
+      → (text_from f (place p (p ∷ e ∷ es) k z) ≡ style.close ++ text_from f (place p (e ∷ es) k z))
+      × (count_from f (place p (p ∷ e ∷ es) k z) ≡ count_from f (place p (e ∷ es) k z))
+  unfolding text_from count_from
+  turn_closes f p e es k z = (rw (same_entries f p e es k z) (same_outline p e es k z _), ap length (same_entries f p e es k z))
 
   -- ---- the walk ends
 
@@ -168,30 +160,23 @@ module _ (style : Style) (closed : Bool) (bytes : List ℕ) where
   unfolding turn left_at
   last_turn p k z = rw (eq-eqb p p refl) refl
 
-  -- the last close
-  pub text_over : (f p k : ℕ) (z : Bool) → text_from f (place p (p ∷ []) k z) ≡ style.close
-  unfolding text_from printed_from closes
-  text_over f p k z = rw (no_entries f (place p (p ∷ []) k z) (λ h. let m = last_turn p k z in cc))
-      (rw (last_turn p k z, eq-eqb p p refl) (append-nil (style.close ++ []) ∙ append-nil style.close))
-
-  -- no more entries
-  pub count_over : (f p k : ℕ) (z : Bool) → count_from f (place p (p ∷ []) k z) ≡ 0
-  unfolding count_from
-  count_over f p k z = ap length (no_entries f (place p (p ∷ []) k z) (λ h. let m = last_turn p k z in cc))
+  -- the last close, and no more entries
+  pub turn_over : (f p k : ℕ) (z : Bool) → (text_from f (place p (p ∷ []) k z) ≡ style.close) × (count_from f (place p (p ∷ []) k z) ≡ 0)
+  unfolding text_from printed_from count_from closes
+  turn_over f p k z =
+      let none = no_entries f (place p (p ∷ []) k z) (λ h. let m = last_turn p k z in cc) in
+      (rw none (rw (last_turn p k z, eq-eqb p p refl, append-nil, append-nil) refl), ap length none)
 
   -- an end was passed
   pub past_turn : (p e : ℕ) (es : List ℕ) (k : ℕ) → e < p → turn (place p (e ∷ es) k false) ≡ end_passed
   unfolding turn left_at
   past_turn p e es k lt = let ne : e ≢ p = omega arith in rw (ne_eqb e p ne, lt-ltb e p lt) refl
 
-  -- what is written then
-  pub text_past : (f p e : ℕ) (es : List ℕ) (k : ℕ) → e < p → text_from f (place p (e ∷ es) k false) ≡ style.passed
-  unfolding text_from printed_from closes
-  text_past f p e es k lt =
+  -- what is written then, and no more entries either
+  pub turn_past : (f p e : ℕ) (es : List ℕ) (k : ℕ) → e < p
+      → (text_from f (place p (e ∷ es) k false) ≡ style.passed) × (count_from f (place p (e ∷ es) k false) ≡ 0)
+  unfolding text_from printed_from count_from closes
+  turn_past f p e es k lt =
       let ne : e ≢ p = omega arith in
-      rw (no_entries f (place p (e ∷ es) k false) (λ h. let m = past_turn p e es k lt in cc)) (rw (past_turn p e es k lt, ne_eqb e p ne) refl)
-
-  -- no more entries either
-  pub count_past : (f p e : ℕ) (es : List ℕ) (k : ℕ) → e < p → count_from f (place p (e ∷ es) k false) ≡ 0
-  unfolding count_from
-  count_past f p e es k lt = ap length (no_entries f (place p (e ∷ es) k false) (λ h. let m = past_turn p e es k lt in cc))
+      let none = no_entries f (place p (e ∷ es) k false) (λ h. let m = past_turn p e es k lt in cc) in
+      (rw none (rw (past_turn p e es k lt, ne_eqb e p ne) refl), ap length none)

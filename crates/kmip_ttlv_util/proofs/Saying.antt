@@ -1,8 +1,7 @@
 -- The loop of a printer over any sink, and its result.
-use Rattle.std.proofs.Common.{◌≡◌, ℕ, List, [], ◌++◌, sym, ap, subst, ◌∙◌}
+use Rattle.std.proofs.Common.{◌≡◌, ℕ, List, [], ◌++◌, append-nil, sym, ap, subst, ◌∙◌}
 use Rattle.std.specs.Prelude.{Option, Result, Ok, Err, OnOk, OnErr}
-use Rattle.std.specs.Borrow.{GName}
-use Rattle.std.specs.Io.KnownBytes.{Appends}
+use Rattle.std.specs.{Borrow.GName, Io.KnownBytes.Appends}
 use Rattle.std.proofs.KnownBytes.{Appends-trans}
 use Rattle.kmip_ttlv_types.specs.Streams.{AppendsFront}
 use Rattle.kmip_ttlv_types.proofs.Taken.{AppendsFront-second}
@@ -11,20 +10,14 @@ use Rattle.kmip_ttlv_util.specs.Pieces.{SomeText, WritesText, Moves}
 -- a text of this kind, with this property, by cases
 module _ {T E : Type 0} where
   -- if the call succeeds
-  pub ok_some : (r : Result T E) (kind said said' : List ℕ → Type 0) (t : List ℕ) → OnOk r (said t) → kind t → ((s : List ℕ) → said s → said' s)
-      → OnOk r (SomeText kind said')
-  ok_some (Ok x) kind said said' t h is f = record { text = t; is = is; holds = f t h }
-  ok_some (Err e) kind said said' t h is f = tt
+  pub ok_text : (r : Result T E) (kind said : List ℕ → Type 0) (t : List ℕ) → OnOk r (said t) → kind t → OnOk r (SomeText kind said)
+  ok_text (Ok x) kind said t h is = record { text = t; is = is; holds = h }
+  ok_text (Err e) kind said t h is = tt
 
   -- if it fails
-  pub err_some : (r : Result T E) (kind said said' : List ℕ → Type 0) (t : List ℕ) → OnErr r (said t) → kind t → ((s : List ℕ) → said s → said' s)
-      → OnErr r (SomeText kind said')
-  err_some (Ok x) kind said said' t h is f = tt
-  err_some (Err e) kind said said' t h is f = record { text = t; is = is; holds = f t h }
-
-  pub ok_map : (r : Result T E) (P Q : Type 0) → OnOk r P → (P → Q) → OnOk r Q
-  ok_map (Ok x) P Q h f = f h
-  ok_map (Err e) P Q h f = tt
+  pub err_text : (r : Result T E) (kind said : List ℕ → Type 0) (t : List ℕ) → OnErr r (said t) → kind t → OnErr r (SomeText kind said)
+  err_text (Ok x) kind said t h is = tt
+  err_text (Err e) kind said t h is = record { text = t; is = is; holds = h }
 
   pub err_map : (r : Result T E) (P Q : Type 0) → OnErr r P → (P → Q) → OnErr r Q
   err_map (Ok x) P Q h f = tt
@@ -72,6 +65,40 @@ module _ {X : Type 0} (adds breaks : X → List ℕ → X → Type 0) where
         → OnErr r (breaks b t c) → OnErr r (breaks a (s ++ t) c)
     err_then second (Ok x) a b c s t p q = tt
     err_then second (Err e) a b c s t p q = second a b c s t p q
+
+-- what a text begins with
+pub record Begins (front text : List ℕ) : Type 0 where
+  pub more : List ℕ
+  pub is : text ≡ front ++ more
+
+pub begins_equal : {s t : List ℕ} → s ≡ t → Begins s t
+begins_equal {s} is = record { more = []; is = sym is ∙ sym (append-nil s) }
+
+-- the call failed, and a beginning of a text was appended
+pub err_front : {X T E : Type 0} {breaks : X → List ℕ → X → Type 0} {a b : X} {s t : List ℕ}
+    → ((a b : X) (s t : List ℕ) → breaks a s b → breaks a (s ++ t) b) → (r : Result T E) → breaks a s b → Begins s t → OnErr r (breaks a t b)
+err_front first (Ok x) h k = tt
+err_front first (Err e) h k = rw k.is (first _ _ _ k.more h)
+
+-- what a call that appends a text does
+pub record Does {X T E : Type 0} (adds breaks : X → List ℕ → X → Type 0) (r : Result T E) (a : X) (t : List ℕ) (b : X) : Type 0 where
+  pub ok : OnOk r (adds a t b)
+  pub err : OnErr r (breaks a t b)
+
+-- an equal text
+pub does_same : {X T E : Type 0} {adds breaks : X → List ℕ → X → Type 0} {r : Result T E} {a b : X} {s t : List ℕ} → Does adds breaks r a s b → s ≡ t
+    → Does adds breaks r a t b
+does_same {adds = adds} {breaks = breaks} {r = r} {a = a} {b = b} d is = subst (λ (t : List ℕ). Does adds breaks r a t b) is d
+
+-- after a text that was appended
+pub does_then : {X T E : Type 0} {adds breaks : X → List ℕ → X → Type 0} {a b c : X} {s : List ℕ}
+    → ((a b c : X) (s t : List ℕ) → adds a s b → adds b t c → adds a (s ++ t) c)
+    → ((a b c : X) (s t : List ℕ) → adds a s b → breaks b t c → breaks a (s ++ t) c) → (r : Result T E) (t : List ℕ) → adds a s b
+    → Does adds breaks r b t c → Does adds breaks r a (s ++ t) c
+does_then {adds = adds} {breaks = breaks} both second r t h d = record {
+  ok = ok_then adds breaks both r _ _ _ _ t h d.ok;
+  err = err_then adds breaks second r _ _ _ _ t h d.err;
+}
 
 -- an empty string becomes the text that was appended
 pub from_none : (kind : List ℕ → Type 0) (old new : List ℕ) → SomeText kind (λ t. new ≡ old ++ t) → old ≡ [] → kind new

@@ -1,18 +1,12 @@
 -- A stack as a list, from its last element to its first.
 use Rattle.std.proofs.Common.{◌≡◌, ◌≢◌, ℕ, suc, ◌+◌, ◌-◌, ◌<◌, ◌≤◌, Bool, true, false, List, [], ◌∷◌, ◌++◌, length, take, get_or, Some, None, refl, sym, ap}
-use Rattle.std.proofs.Common.{◌∙◌, arith}
-use Rattle.std.specs.Prelude.{reverse}
-use Rattle.std.specs.List.{slice_get}
-use Rattle.std.proofs.lemmas.List.{reverse-append, take_more, take_all}
+use Rattle.std.proofs.Common.{◌∙◌, arith, ◌⊎◌, inl, inr}
+use Rattle.std.specs.{Prelude.reverse, List.slice_get}
+use Rattle.std.proofs.lemmas.List.{reverse-append, take_more, take_all, length-reverse}
 use Rattle.std.proofs.lemmas.Option.{slice_get_within, slice_get-get_or, get_or_from_slice_get}
 use Rattle.kmip_ttlv_util.specs.WalkPlaces.{Place, has_end, opened, onward, after}
-use Rattle.kmip_ttlv_util.specs.Walks.{Ready, Closed}
-use Rattle.std.proofs.lemmas.List.{length-reverse}
-use Rattle.std.proofs.Common.{◌⊎◌, inl, inr}
-use Rattle.kmip_ttlv_types.specs.declared.typ.TtlvType.{TtlvType}
-use Rattle.kmip_ttlv_types.specs.declared.typ.TtlvType.TheVariants.{Structure, Integer, LongInteger, BigInteger, Enumeration, Boolean, TextString, ByteString}
-use Rattle.kmip_ttlv_types.specs.declared.typ.TtlvType.TheVariants.{DateTime, Interval}
-use Rattle.kmip_ttlv_util.specs.Entries.{extent}
+use Rattle.kmip_ttlv_util.specs.{Walks.Ready, Walks.Closed, Entries.extent}
+use Rattle.kmip_ttlv_types.specs.declared.typ.TtlvType.{TtlvType, TheVariants.Structure}
 use Rattle.kmip_ttlv_util.proofs.Rest.{place, ready_root, ready_before, ready_loose}
 
 -- an empty stack has no last
@@ -30,8 +24,7 @@ last_some xs e is =
     let one : length xs - 1 + 1 ≡ length xs = omega arith in
     let all : xs ≡ take (length xs - 1) xs ++ (get_or xs (length xs - 1) 0 ∷ []) = sym (take_all (length xs) xs (omega arith))
     ∙ ap (λ (n : ℕ). take n xs) (sym one) ∙ take_more xs (length xs - 1) 0 lt in
-    ap reverse all ∙ reverse-append (take (length xs - 1) xs) (get_or xs (length xs - 1) 0 ∷ []) ∙ ap (λ (x : ℕ). x ∷ reverse (take (length xs - 1) xs))
-    (get_or_from_slice_get xs (length xs - 1) e 0 is)
+    ap reverse all ∙ reverse-append (take (length xs - 1) xs) _ ∙ rw (get_or_from_slice_get xs (length xs - 1) e 0 is) refl
 
 -- an end that is pushed
 pub pushed : (xs : List ℕ) (e : ℕ) → reverse (xs ++ (e ∷ [])) ≡ e ∷ reverse xs
@@ -66,15 +59,7 @@ step_leaf closed s t n next ready ne is = rw ready.left (by t ne is)
   where
     by : (t : TtlvType) → t ≢ Structure → next ≡ s.pos + extent t n → place next s.ends s.endless s.loose ≡ onward closed s.pos s.ends s.endless s.loose t n
     by Structure ne is = absurd (ne refl)
-    by Integer ne is = ap (λ (q : ℕ). place q s.ends s.endless s.loose) is
-    by LongInteger ne is = ap (λ (q : ℕ). place q s.ends s.endless s.loose) is
-    by BigInteger ne is = ap (λ (q : ℕ). place q s.ends s.endless s.loose) is
-    by Enumeration ne is = ap (λ (q : ℕ). place q s.ends s.endless s.loose) is
-    by Boolean ne is = ap (λ (q : ℕ). place q s.ends s.endless s.loose) is
-    by TextString ne is = ap (λ (q : ℕ). place q s.ends s.endless s.loose) is
-    by ByteString ne is = ap (λ (q : ℕ). place q s.ends s.endless s.loose) is
-    by DateTime ne is = ap (λ (q : ℕ). place q s.ends s.endless s.loose) is
-    by Interval ne is = ap (λ (q : ℕ). place q s.ends s.endless s.loose) is
+    by typ ne is = ap (λ (q : ℕ). place q s.ends s.endless s.loose) is
 
 -- past the opening of a structure with an end
 pub step_opens : (closed : Bool) (s : Place) (t : TtlvType) (n next : ℕ) (ends : List ℕ) → Ready s → t ≡ Structure → next ≡ s.pos + extent t n
@@ -82,7 +67,7 @@ pub step_opens : (closed : Bool) (s : Place) (t : TtlvType) (n next : ℕ) (ends
 unfolding after
 step_opens closed s t n next ends ready is to own ends-are =
     let at : next ≡ s.pos + 8 = to ∙ ap (λ (u : TtlvType). s.pos + extent u n) is in
-    rw (is, ready.left, own) (ap (λ (l : List ℕ). place next l s.endless s.loose) ends-are ∙ ap (λ (q : ℕ). place q ((q + n) ∷ s.ends) s.endless s.loose) at)
+    rw (is, ready.left, own, ends-are, at) refl
 
 -- an empty structure in others stays open as long as the innermost of them
 pub step_empty : (closed : Bool) (s : Place) (t : TtlvType) (n next : ℕ) (xs : List ℕ) (e : ℕ) → Ready s → t ≡ Structure → next ≡ s.pos + extent t n
@@ -94,7 +79,7 @@ step_empty closed s t n next xs e ready is to none ends-are top =
     let below = reverse (take (length xs - 1) xs) in
     let old : s.ends ≡ e ∷ below = ends-are ∙ last_some xs e top in
     let new : reverse (xs ++ (e ∷ [])) ≡ e ∷ e ∷ below = pushed xs e ∙ ap (λ (l : List ℕ). e ∷ l) (last_some xs e top) in
-    rw (is, ready.left, none, old) (ap (λ (l : List ℕ). place next l s.endless true) new ∙ ap (λ (q : ℕ). place q (e ∷ e ∷ below) s.endless true) at)
+    rw (is, ready.left, none, old, new, at) refl
 
 -- one that is in no structure with an end stays open to the end of the input
 pub step_endless : (closed : Bool) (s : Place) (t : TtlvType) (n next k : ℕ) (xs : List ℕ) → Ready s → t ≡ Structure → next ≡ s.pos + extent t n
@@ -105,8 +90,7 @@ step_endless closed s t n next k xs ready is to none ends-are top more =
     let at : next ≡ s.pos + 8 = to ∙ ap (λ (u : TtlvType). s.pos + extent u n) is in
     let old : s.ends ≡ [] = ends-are ∙ ap reverse (last_none xs top) in
     let one : k ≡ suc s.endless = omega arith in
-    rw (is, ready.left, none, old) (ap (λ (l : List ℕ). place next l k true) (ap reverse (last_none xs top)) ∙ ap (λ (q : ℕ). place q [] k true) at
-    ∙ ap (λ (m : ℕ). place (s.pos + 8) [] m true) one)
+    rw (is, ready.left, none, old, last_none xs top, at, one) refl
 
 -- the depth after a step
 pub deeper : (closed : Bool) (s : Place) (t : TtlvType) (n : ℕ) → Ready s → (after closed s t n).endless + length (after closed s t n).ends ≤ s.endless
@@ -123,12 +107,4 @@ deeper closed s t n ready = rw ready.left (by t)
     by : (t : TtlvType) → (onward closed s.pos s.ends s.endless s.loose t n).endless + length (onward closed s.pos s.ends s.endless s.loose t n).ends
         ≤ s.endless + length s.ends + 1
     by Structure = inside (has_end closed n) s.ends
-    by Integer = omega arith
-    by LongInteger = omega arith
-    by BigInteger = omega arith
-    by Enumeration = omega arith
-    by Boolean = omega arith
-    by TextString = omega arith
-    by ByteString = omega arith
-    by DateTime = omega arith
-    by Interval = omega arith
+    by typ = omega arith

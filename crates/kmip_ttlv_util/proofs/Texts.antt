@@ -1,9 +1,7 @@
 -- Tags with and without a prefix.
 use Rattle.std.proofs.Common.{◌≡◌, ℕ, List, ◌++◌, Bool, true, false, drop, length, refl, ap}
-use Rattle.std.specs.Prelude.{nat_eq}
-use Rattle.std.specs.List.{starts_with}
-use Rattle.std.proofs.lemmas.Slice.Eq.{starts_is}
-use Rattle.std.proofs.lemmas.Bool.Decides.{Decides-eqb}
+use Rattle.std.specs.{Prelude.nat_eq, List.starts_with}
+use Rattle.std.proofs.lemmas.{Slice.Eq.starts_is, Bool.Decides.Decides-eqb}
 use Rattle.kmip_ttlv_util.specs.Outlines.{stripped}
 
 -- a text that begins with the prefix

@@ -1,25 +1,18 @@
 -- Lines trimmed at the end: after a visible last character, trimming drops only the line feed.
-use Rattle.std.proofs.Common.{◌≡◌, ◌≢◌, ℕ, zero, suc, ◌+◌, ◌-◌, ◌/◌, ◌%◌, ◌<◌, ◌≤◌, Bool, true, false, ◌&&◌, cond, eqb, ltb, List, [], ◌∷◌, ◌++◌, length}
-use Rattle.std.proofs.Common.{get_or, Option, Some, None, refl, sym, ap, subst, ◌∙◌, arith, append_assoc, append-nil, length-append}
+use Rattle.std.proofs.Common.{◌≡◌, ◌≢◌, ℕ, zero, suc, ◌-◌, ◌<◌, ◌≤◌, Bool, true, false, ◌&&◌, cond, eqb, List, [], ◌∷◌, ◌++◌, length, get_or, Option, Some}
+use Rattle.std.proofs.Common.{None, refl, sym, ap, subst, ◌∙◌, arith, append_assoc, append-nil, length-append, String}
 use Rattle.std.specs.Prelude.{codes, Result, Ok, Err, IfOk, string_bytes}
-use Rattle.std.proofs.Common.{String}
-use Rattle.std.specs.List.{AllByRecursion}
-use Rattle.std.specs.Char.{is_whitespace}
-use Rattle.std.specs.Fmt.{digit_glyph, digits, digits_onto}
+use Rattle.std.specs.{List.AllByRecursion, Char.is_whitespace, Fmt.digit_glyph}
 use Rattle.std.specs.Str.{IsUtf8, IsAscii, chars, drop_trailing_whitespace, trim_end, encode_utf8_all}
-use Rattle.std.proofs.lemmas.Str.{IsUtf8-take, IsUtf8-append, IsUtf8-from_ascii, IsCharBoundary-before_ascii, chars-append, chars-IsAscii, encodes-chars}
+use Rattle.std.proofs.lemmas.Str.{IsUtf8-take, IsCharBoundary-before_ascii, chars-append, chars-IsAscii, encodes-chars, encodes-append}
 use Rattle.std.proofs.lemmas.Bool.{ne_eqb, lt-ltb, le-ltb}
 use Rattle.std.proofs.lemmas.List.{take_at, get_or-append_right}
-use Rattle.kmip_ttlv_types.specs.declared.typ.TtlvType.{TtlvType}
-use Rattle.kmip_ttlv_types.specs.declared.typ.TtlvType.TheVariants.{Structure, Integer, LongInteger, BigInteger, Enumeration, Boolean, TextString, ByteString}
-use Rattle.kmip_ttlv_types.specs.declared.typ.TtlvType.TheVariants.{DateTime, Interval}
+use Rattle.kmip_ttlv_types.specs.declared.typ.TtlvType.{TtlvType, TheVariants.Structure, TheVariants.Enumeration}
 use Rattle.kmip_ttlv_util.specs.Outlines.{Outline, Outlines, leaf_outline, node_outline, no_outlines, outline, IsShown, IsOutline, AreOutlines, diag, hex_upper}
-use Rattle.kmip_ttlv_util.specs.Lines.{tag_part, typ_part}
-use Rattle.kmip_ttlv_util.specs.Lines.{line, hidden}
-use Rattle.kmip_ttlv_util.specs.ReadBack.{shown, lines, AllBegin, IsNode, NoneEmpty, AllNoneEmpty, IsReadBack}
+use Rattle.kmip_ttlv_util.specs.Lines.{tag_part, typ_part, line, hidden}
+use Rattle.kmip_ttlv_util.specs.ReadBack.{shown, lines, AllBegin, IsNode, NoneEmpty, AllNoneEmpty, IsReadBack, lines_all}
 use Rattle.kmip_ttlv_util.specs.Undiag.{undiag, undiag_lines}
-use Rattle.kmip_ttlv_util.specs.ReadBack.{lines_all}
-use Rattle.kmip_ttlv_util.proofs.ReadBack.{undiag_message, hex_some}
+use Rattle.kmip_ttlv_util.proofs.{ReadBack.undiag_message, ReadBack.hex_some, HexDigits.glyph_cases, Unique.hex_each}
 
 -- ---- a visible character before a line feed
 
@@ -30,69 +23,31 @@ pub record Visible (c : ℕ) : Type 0 where
 
 -- a visible character is no white space
 pub visible_dark : (c : ℕ) → Visible c → is_whitespace c ≡ false
-visible_dark c v = rw (
-  le-ltb c 14 (omega (arith, v.above)),
-  lt-ltb 8 c (omega (arith, v.above)),
-  ne_eqb c 32 (omega (arith, v.above)),
-  ne_eqb c 133 (omega (arith, v.below)),
-  ne_eqb c 160 (omega (arith, v.below)),
-  ne_eqb c 5760 (omega (arith, v.below)),
-  le-ltb 8191 c (omega (arith, v.below)),
-  ne_eqb c 8232 (omega (arith, v.below)),
-  ne_eqb c 8233 (omega (arith, v.below)),
-  ne_eqb c 8239 (omega (arith, v.below)),
-  ne_eqb c 8287 (omega (arith, v.below)),
-  ne_eqb c 12288 (omega (arith, v.below)),
-) refl
+visible_dark c v =
+    rw (le-ltb c 14 (omega arith), lt-ltb 8 c (omega arith), ne_eqb c 32 (omega arith), ne_eqb c 133 (omega arith), ne_eqb c 160 (omega arith))
+    (rw (ne_eqb c 5760 (omega arith), le-ltb 8191 c (omega arith), ne_eqb c 8232 (omega arith), ne_eqb c 8233 (omega arith))
+    (rw (ne_eqb c 8239 (omega arith), ne_eqb c 8287 (omega arith), ne_eqb c 12288 (omega arith)) refl))
 
 -- a character that others follow is kept
 pub stays_on : (b : Bool) (n z : ℕ) (rest : List ℕ) → n ≢ 0 → cond (b && eqb n 0) [] (z ∷ rest) ≡ z ∷ rest
 stays_on true n z rest ne = rw (ne_eqb n 0 ne) refl
 stays_on false n z rest ne = refl
 
--- dropping white space drops only the line feed
-drop_end : (zs : List ℕ) (c : ℕ) → Visible c → drop_trailing_whitespace (zs ++ (c ∷ 10 ∷ [])) ≡ zs ++ (c ∷ [])
-drop_end [] c v = rw (visible_dark c v) refl
-drop_end (z ∷ zs) c v =
-    let k = drop_end zs c v in
-    let some : length (drop_trailing_whitespace (zs ++ (c ∷ 10 ∷ []))) ≢ 0 = λ h. omega (arith, h, ap length k, length-append zs (c ∷ [])) in
-    stays_on (is_whitespace z) (length (drop_trailing_whitespace (zs ++ (c ∷ 10 ∷ [])))) z (drop_trailing_whitespace (zs ++ (c ∷ 10 ∷ []))) some
-    ∙ ap (λ (r : List ℕ). z ∷ r) k
-
 -- one ASCII character
 pub ascii_one : (c : ℕ) → c < 128 → IsAscii (c ∷ [])
 ascii_one c lt zero = lt
 ascii_one c lt (suc i) = omega arith
 
--- and a line feed
-ascii_two : (c : ℕ) → c < 128 → IsAscii (c ∷ 10 ∷ [])
-ascii_two c lt zero = lt
-ascii_two c lt (suc zero) = omega arith
-ascii_two c lt (suc (suc i)) = omega arith
-
 -- what precedes an ASCII character is UTF-8
-pub front_utf8 : (xs : List ℕ) (c : ℕ) → IsUtf8 (xs ++ (c ∷ 10 ∷ [])) → c < 128 → IsUtf8 xs
-front_utf8 xs c utf8 lt =
-    let bs = xs ++ (c ∷ 10 ∷ []) in
+pub front_utf8 : (xs : List ℕ) (c : ℕ) (ys : List ℕ) → IsUtf8 (xs ++ (c ∷ ys)) → c < 128 → IsUtf8 xs
+front_utf8 xs c ys utf8 lt =
+    let bs = xs ++ (c ∷ ys) in
     let none : length xs - length xs ≡ 0 = omega arith in
-    let is : get_or bs (length xs) 0 ≡ c = get_or-append_right xs (c ∷ 10 ∷ []) (length xs) (length xs) 0 refl (omega arith)
-    ∙ ap (λ (n : ℕ). get_or (c ∷ 10 ∷ []) n 0) none in
+    let is : get_or bs (length xs) 0 ≡ c = get_or-append_right xs (c ∷ ys) (length xs) (length xs) 0 refl (omega arith)
+    ∙ ap (λ (n : ℕ). get_or (c ∷ ys) n 0) none in
     let cell : get_or bs (length xs) 0 < 128 = omega (arith, is) in
-    subst IsUtf8 (take_at xs (c ∷ 10 ∷ []) (length xs) refl)
-    (IsUtf8-take bs (length xs) utf8 (IsCharBoundary-before_ascii bs (length xs) (omega (arith, length-append xs (c ∷ 10 ∷ []))) cell))
-
--- trimming drops only the line feed
-trim_line : (xs : List ℕ) (c : ℕ) → IsUtf8 (xs ++ (c ∷ 10 ∷ [])) → Visible c → trim_end (xs ++ (c ∷ 10 ∷ [])) ≡ xs ++ (c ∷ [])
-unfolding trim_end
-trim_line xs c utf8 v =
-    let front = front_utf8 xs c utf8 v.below in
-    let spelt : chars (xs ++ (c ∷ 10 ∷ [])) ≡ chars xs ++ (c ∷ 10 ∷ []) = chars-append xs (c ∷ 10 ∷ []) front
-    ∙ ap (λ (s : List ℕ). chars xs ++ s) (chars-IsAscii (c ∷ 10 ∷ []) (ascii_two c v.below)) in
-    let detail_value : chars xs ++ (c ∷ []) ≡ chars (xs ++ (c ∷ [])) = ap (λ (s : List ℕ). chars xs ++ s) (sym (chars-IsAscii (c ∷ []) (ascii_one c v.below)))
-    ∙ sym (chars-append xs (c ∷ []) front) in
-    ap (λ (s : List ℕ). encode_utf8_all (drop_trailing_whitespace s)) spelt
-    ∙ ap encode_utf8_all (drop_end (chars xs) c v ∙ detail_value)
-    ∙ encodes-chars (xs ++ (c ∷ [])) (IsUtf8-append xs (c ∷ []) front (IsUtf8-from_ascii (c ∷ []) (ascii_one c v.below)))
+    subst IsUtf8 (take_at xs (c ∷ ys) (length xs) refl)
+    (IsUtf8-take bs (length xs) utf8 (IsCharBoundary-before_ascii bs (length xs) (omega (arith, length-append xs (c ∷ ys))) cell))
 
 -- ---- how lines end
 
@@ -117,28 +72,33 @@ AllVisible cs = AllByRecursion Visible cs
 
 -- a digit is visible
 glyph_visible : (d : ℕ) → d < 16 → Visible (digit_glyph true d)
-glyph_visible d small = by (ltb d 10) refl
-  where
-    by : (b : Bool) → ltb d 10 ≡ b → Visible (cond b (48 + d) (55 + d))
-    by true e = record { above = omega arith; below = omega arith }
-    by false e = record { above = omega arith; below = omega arith }
-
--- one of two lists
-pick : (b : Bool) (xs ys : List ℕ) → AllVisible xs → AllVisible ys → AllVisible (cond b xs ys)
-pick true xs ys p q = p
-pick false xs ys p q = q
-
--- digits before visible characters
-onto_visible : (k n : ℕ) (acc : List ℕ) → AllVisible acc → AllVisible (digits_onto k 16 true n acc)
-onto_visible zero n acc all = all
-onto_visible (suc k) n acc all =
-    let more : AllVisible (digit_glyph true (n % 16) ∷ acc) = (glyph_visible (n % 16) (omega arith), all) in
-    pick (eqb (n / 16) 0) _ _ more (onto_visible k (n / 16) _ more)
+glyph_visible d small =
+    glyph_cases Visible d (λ lt. record { above = omega arith; below = omega arith }) (λ le. record { above = omega arith; below = omega arith })
 
 -- digits are visible
 pub hex_visible : (n : ℕ) → AllVisible (hex_upper n)
-unfolding digits
-hex_visible n = onto_visible 64 n [] tt
+hex_visible n = hex_each Visible glyph_visible n
+
+-- a visible character stays, with everything before it
+drop_keeps : (zs : List ℕ) (c : ℕ) (ys : List ℕ) → Visible c → drop_trailing_whitespace (zs ++ (c ∷ ys)) ≡ zs ++ (c ∷ drop_trailing_whitespace ys)
+drop_keeps [] c ys v = rw (visible_dark c v) refl
+drop_keeps (z ∷ zs) c ys v =
+    let k = drop_keeps zs c ys v in
+    let some : length (drop_trailing_whitespace (zs ++ (c ∷ ys))) ≢ 0 =
+    λ h. omega (arith, h, ap length k, length-append zs (c ∷ drop_trailing_whitespace ys)) in
+    stays_on (is_whitespace z) (length (drop_trailing_whitespace (zs ++ (c ∷ ys)))) z (drop_trailing_whitespace (zs ++ (c ∷ ys))) some
+    ∙ ap (λ (r : List ℕ). z ∷ r) k
+
+-- trimming leaves what ends with a visible character
+pub keeps : (q more : List ℕ) → Ends q → IsUtf8 q → trim_end (q ++ more) ≡ q ++ trim_end more
+unfolding trim_end
+keeps q more e utf8 =
+    let c = e.last in
+    let front : IsUtf8 e.front = front_utf8 e.front c [] (subst IsUtf8 e.is utf8) e.visible.below in
+    let spelt : chars q ≡ chars e.front ++ (c ∷ []) =
+    rw (e.is, chars-append e.front (c ∷ []) front, chars-IsAscii (c ∷ []) (ascii_one c e.visible.below)) refl in
+    rw (chars-append q more utf8, spelt, append_assoc, drop_keeps (chars e.front) c (chars more) e.visible, ← append_assoc (chars e.front) (c ∷ []))
+    (rw (← spelt, encodes-append, encodes-chars q utf8) refl)
 
 -- a list of visible characters ends with one
 pub last_visible : (d : ℕ) (ds : List ℕ) → AllVisible (d ∷ ds) → Ends (d ∷ ds)
@@ -159,54 +119,33 @@ shown_ends : (typ : TtlvType) (v : Option ℕ) → IsShown typ v → Ends (shown
 shown_ends Structure v k = absurd k
 shown_ends Enumeration None k = absurd k
 shown_ends Enumeration (Some n) k = some_visible (hex_upper n) (hex_some n k) (hex_visible n)
-shown_ends Integer None k = hidden_ends
-shown_ends Integer (Some n) k = absurd k
-shown_ends LongInteger None k = hidden_ends
-shown_ends LongInteger (Some n) k = absurd k
-shown_ends BigInteger None k = hidden_ends
-shown_ends BigInteger (Some n) k = absurd k
-shown_ends Boolean None k = hidden_ends
-shown_ends Boolean (Some n) k = absurd k
-shown_ends TextString None k = hidden_ends
-shown_ends TextString (Some n) k = absurd k
-shown_ends ByteString None k = hidden_ends
-shown_ends ByteString (Some n) k = absurd k
-shown_ends DateTime None k = hidden_ends
-shown_ends DateTime (Some n) k = absurd k
-shown_ends Interval None k = hidden_ends
-shown_ends Interval (Some n) k = absurd k
+shown_ends typ None k = hidden_ends
+shown_ends typ (Some n) k = absurd k
+
+-- trimming a line feed leaves nothing
+trim_feed : trim_end (10 ∷ []) ≡ []
+unfolding trim_end
+trim_feed = ap (λ (s : List ℕ). encode_utf8_all (drop_trailing_whitespace s)) (chars-IsAscii (10 ∷ []) (ascii_one 10 (omega arith)))
 
 -- a text ends with a visible character and a line feed
 record EndsLine (text : List ℕ) : Type 0 where
   front : List ℕ
-  last : ℕ
-  is : text ≡ front ++ (last ∷ 10 ∷ [])
-  visible : Visible last
+  is : text ≡ front ++ (10 ∷ [])
+  ends : Ends front
 
 -- a line after other text
 line_behind : (xs text : List ℕ) → EndsLine text → EndsLine (xs ++ text)
 line_behind xs text e = record {
   front = xs ++ e.front;
-  last = e.last;
-  is = ap (λ (s : List ℕ). xs ++ s) e.is
-      ∙ sym (append_assoc xs e.front (e.last ∷ 10 ∷ []));
-  visible = e.visible;
-}
-
--- a line feed after a visible character
-fed : (text : List ℕ) → Ends text → EndsLine (text ++ (10 ∷ []))
-fed text e = record {
-  front = e.front;
-  last = e.last;
-  is = ap (λ (s : List ℕ). s ++ (10 ∷ [])) e.is ∙ append_assoc e.front (e.last ∷ []) (10 ∷ []);
-  visible =
-      e.visible;
+  is = ap (λ (s : List ℕ). xs ++ s) e.is ∙ sym (append_assoc xs e.front (10 ∷ []));
+  ends = ends_behind xs e.front e.ends;
 }
 
 module _ (beginning : ℕ → ℕ → List ℕ) where
   line_ends : (depth tag : ℕ) (typ : TtlvType) (text : List ℕ) → Ends text → EndsLine (line beginning depth tag typ text)
   unfolding line
-  line_ends depth tag typ text e = line_behind (typ_part beginning depth tag typ) _ (line_behind (codes ", Data: ") _ (fed text e))
+  line_ends depth tag typ text e =
+      line_behind (typ_part beginning depth tag typ) _ (line_behind (codes ", Data: ") _ record { front = text; is = refl; ends = e })
 
   mutual
     lines_end : (depth : ℕ) (o : Outline) → IsOutline o → NoneEmpty o → EndsLine (lines beginning depth o)
@@ -222,9 +161,9 @@ module _ (beginning : ℕ → ℕ → List ℕ) where
 
   -- trimming and a line feed give the lines back
   trimmed_line : (text : List ℕ) → IsUtf8 text → EndsLine text → trim_end text ++ (10 ∷ []) ≡ text
-  trimmed_line text utf8 e =
-      ap (λ (s : List ℕ). trim_end s ++ (10 ∷ [])) e.is ∙ ap (λ (s : List ℕ). s ++ (10 ∷ [])) (trim_line e.front e.last (subst IsUtf8 e.is utf8) e.visible)
-      ∙ append_assoc e.front (e.last ∷ []) (10 ∷ []) ∙ sym e.is
+  trimmed_line text utf8 e = ap (λ (s : List ℕ). trim_end s ++ (10 ∷ [])) e.is
+      ∙ ap (λ (s : List ℕ). s ++ (10 ∷ [])) (keeps e.front (10 ∷ []) e.ends (front_utf8 e.front 10 [] (subst IsUtf8 e.is utf8) (omega arith))
+      ∙ ap (λ (s : List ℕ). e.front ++ s) trim_feed ∙ append-nil e.front) ∙ sym e.is
 
   -- what is read back of an outline's diagnostic
   redacted_lines : (prefix text answer : List ℕ) → answer ≡ trim_end (undiag_lines beginning prefix text) → IsUtf8 (undiag_lines beginning prefix text)

@@ -3,20 +3,16 @@ use Rattle.std.proofs.Common.{◌≡◌, ◌≢◌, ℕ, zero, suc, ◌+◌, ◌
 use Rattle.std.proofs.Common.{append_assoc, append-nil, length-append}
 use Rattle.std.proofs.lemmas.List.{drop_at, length-drop, drop-drop}
 use Rattle.std.proofs.lemmas.Bool.{lt-ltb}
-use Rattle.kmip_ttlv_types.specs.declared.typ.TtlvType.{TtlvType}
-use Rattle.kmip_ttlv_types.specs.declared.typ.TtlvType.TheVariants.{Structure}
-use Rattle.kmip_ttlv_types.specs.Items.{Raw, IsTextOf}
-use Rattle.kmip_ttlv_types.specs.ItemTypes.{type_of}
-use Rattle.kmip_ttlv_types.specs.Leaves.{is_valid}
+use Rattle.kmip_ttlv_types.specs.{declared.typ.TtlvType.TtlvType, declared.typ.TtlvType.TheVariants.Structure, Items.Raw, Items.IsTextOf, ItemTypes.type_of}
+use Rattle.kmip_ttlv_types.specs.{Leaves.is_valid}
 use Rattle.kmip_ttlv_types.specs.Places.{tag_at, length_at, size}
 use Rattle.kmip_ttlv_types.specs.Trees.{Tree, Trees, leaf, node, no_trees, tree, IsTreeText, AreTreeTexts, HasNoEmpty, HaveNoEmpty, IsStructure}
 use Rattle.kmip_ttlv_util.specs.Traces.{trace, Style, printed_text}
-use Rattle.kmip_ttlv_util.specs.WalkPlaces.{start, has_end, after}
+use Rattle.kmip_ttlv_util.specs.{WalkPlaces.has_end, WalkPlaces.after, Walks.Ready}
 use Rattle.kmip_ttlv_util.specs.Entries.{Entry, entry_at, detail_of, extent}
-use Rattle.kmip_ttlv_util.specs.Walks.{Ready}
 use Rattle.kmip_ttlv_types.proofs.PlaceLemmas.{raw_with, header_of, item_at_text, text_length, type_of-code}
 use Rattle.kmip_ttlv_util.proofs.Entries.{entry_tag, entry_length, detail_here, read_leaf, read_structure, extent_leaf}
-use Rattle.kmip_ttlv_util.proofs.Rest.{place, ready_root, ready_before, text_from, text_start, text_reads, text_closes, text_over}
+use Rattle.kmip_ttlv_util.proofs.Rest.{place, ready_root, ready_before, text_from, text_start, turn_reads, turn_closes, turn_over}
 use Rattle.kmip_ttlv_util.proofs.Stack.{step_leaf, step_opens}
 
 -- how many turns a tree takes, in addition to f
@@ -103,9 +99,8 @@ within_at w p a rest le e = omega (arith, ap length e, length-append a rest, len
 content_at_text : (w : List ℕ) (p : ℕ) (x : Raw) (text rest : List ℕ) (t : IsTextOf x text) → drop p w ≡ text ++ rest
     → drop (p + 8) w ≡ x.content ++ (t.pad ++ rest)
 content_at_text w p x text rest t e =
-    let r : drop p w ≡ (header_of x ++ x.content ++ t.pad) ++ rest = e ∙ ap (λ (s : List ℕ). s ++ rest) t.parts in
-    let grouped : (header_of x ++ x.content ++ t.pad) ++ rest ≡ header_of x ++ (x.content ++ (t.pad ++ rest)) = simp append_assoc in
-    sym (drop-drop 8 p w) ∙ ap (drop 8) (r ∙ grouped) ∙ drop_at (header_of x) (x.content ++ (t.pad ++ rest)) 8 refl
+    let r : drop p w ≡ header_of x ++ (x.content ++ (t.pad ++ rest)) = e ∙ ap (λ (s : List ℕ). s ++ rest) t.parts ∙ simp append_assoc in
+    sym (drop-drop 8 p w) ∙ ap (drop 8) r ∙ drop_at (header_of x) (x.content ++ (t.pad ++ rest)) 8 refl
 
 -- ---- what a style writes for a tree
 
@@ -128,7 +123,6 @@ abbrev mutual
 pub record LeafHere (w : List ℕ) (p : ℕ) (x : Entry) (tag : ℕ) (typ : TtlvType) (content : List ℕ) : Type 0 where
   pub valid : is_valid typ content ≡ true
   pub tag_is : tag_at x.header 0 ≡ tag
-  pub len_is : length_at x.header 0 ≡ length content
   pub content_is : take (length_at x.header 0) (drop (p + 8) w) ≡ content
   pub detail_is : x.detail ≡ detail_of typ content
 
@@ -158,15 +152,14 @@ module _ (style : Style) (d : Drawing) (closed : Bool) (w : List ℕ) (draws : D
       let here : LeafHere w p (entry_at w p) tag typ content = record {
         valid = h.0;
         tag_is = entry_tag w p ∙ sym item.tag;
-        len_is = entry_length w p ∙ sym item.len;
         content_is = ap (λ (q : ℕ). take q (drop (p + 8) w)) (entry_length w p) ∙ sym item.content;
         detail_is = detail_here w p typ n (ap type_of (sym item.typ) ∙ type_of-code typ) refl item.there ∙ ap (detail_of typ) (sym item.content);
       } in
-      let size-is : p + length text ≡ p + extent typ m = ap (λ (q : ℕ). p + q) (text_length (raw_with tag typ content) text h.1
-      ∙ ap (size typ) (item.len ∙ sym (entry_length w p)) ∙ sym (extent_leaf typ m ne)) in
+      let size-is : p + length text ≡ p + extent typ m =
+      rw (text_length (raw_with tag typ content) text h.1, extent_leaf typ m ne, entry_length w p, ← item.len) refl in
       let goes : after closed (place p es k z) typ m ≡ place (p + length text) es k z =
       sym (step_leaf closed (place p es k z) typ m (p + length text) ready ne size-is) in
-      text_reads style closed w f (place p es k z) typ ready reads ∙ rw (draws.leafs (k + length es) p tag typ content here, goes) refl
+      (turn_reads style closed w f (place p es k z) typ ready reads).0 ∙ rw (draws.leafs (k + length es) p tag typ content here, goes) refl
 
   -- a structure's opening
   node_step : (tag : ℕ) (ts : Trees) (p f : ℕ) (es : List ℕ) (k : ℕ) (z : Bool) (text rest : List ℕ) (h : IsTreeText (node tag ts) text)
@@ -183,7 +176,7 @@ module _ (style : Style) (d : Drawing) (closed : Bool) (w : List ℕ) (draws : D
       let goes : after closed (place p es k z) Structure n ≡ place (p + 8) ((p + 8 + length h.0) ∷ es) k z =
       sym (step_opens closed (place p es k z) Structure n (p + 8) ((p + 8 + length h.0) ∷ es) ready refl refl own
       (ap (λ (m : ℕ). (p + 8 + m) ∷ es) (sym n-is))) in
-      text_reads style closed w f (place p es k z) Structure ready reads ∙ rw (draws.nodes (k + length es) p tag here, goes) refl
+      (turn_reads style closed w f (place p es k z) Structure ready reads).0 ∙ rw (draws.nodes (k + length es) p tag here, goes) refl
 
   mutual
     tree_text : (t : Tree) (p e f : ℕ) (es : List ℕ) (k : ℕ) (z : Bool) (text rest : List ℕ) → IsTreeText t text → (closed ≡ false → HasNoEmpty t)
@@ -201,16 +194,7 @@ module _ (style : Style) (d : Drawing) (closed : Bool) (w : List ℕ) (draws : D
         let first = node_step tag ts p (more_all ts f) (e ∷ es) k z text rest h none at le ready in
         let second = trees_text ts (p + 8) q f (e ∷ es) k z h.0 (h.1.pad ++ rest) h.2 (λ c. inner tag ts (none c))
         (content_at_text w p (raw_with tag Structure h.0) text rest h.1 at) long (omega arith) in
-        let third = text_closes style closed w f q e es k z in
-        let front = d.of_node (k + length (e ∷ es)) tag in
-        let below = drawn_all d style.close (suc (k + length (e ∷ es))) ts in
-        let more = text_from style closed w f (place (p + length text) (e ∷ es) k z) in
-        first ∙ ap (λ (r : List ℕ). front ++ r) (second ∙ ap (λ (m : ℕ). drawn_all d style.close m ts ++ text_from style closed w f (place q (q ∷ e ∷ es) k z))
-        deep ∙ ap (λ (r : List ℕ). below ++ r) (third ∙ ap (λ (m : ℕ). style.close ++ text_from style closed w f (place m (e ∷ es) k z)) q-is))
-        ∙ regroup front below style.close more
-      where
-        regroup : (a b c r : List ℕ) → a ++ (b ++ (c ++ r)) ≡ (a ++ (b ++ c)) ++ r
-        regroup a b c r = simp append_assoc refl
+        rw (first, second, deep, ((turn_closes style closed w f q e es k z).0), q-is) (simp append_assoc)
 
     trees_text : (ts : Trees) (p e f : ℕ) (es : List ℕ) (k : ℕ) (z : Bool) (text rest : List ℕ) → AreTreeTexts ts text → (closed ≡ false → HaveNoEmpty ts)
         → drop p w ≡ text ++ rest → p ≤ length w → p + length text ≤ e
@@ -228,10 +212,7 @@ module _ (style : Style) (d : Drawing) (closed : Bool) (w : List ℕ) (draws : D
         let second = trees_text ts (p + length a) e f es k z b rest h.4 (λ c. (none c).1) (next_at w p a (b ++ rest) here) (within_at w p a (b ++ rest) le here)
         (omega arith) in
         let sum : p + length a + length b ≡ p + length text = omega arith in
-        let one = drawn d style.close (k + length (e ∷ es)) t in
-        let others = drawn_all d style.close (k + length (e ∷ es)) ts in
-        first ∙ ap (λ (r : List ℕ). one ++ r) (second ∙ ap (λ (m : ℕ). others ++ text_from style closed w f (place m (e ∷ es) k z)) sum)
-        ∙ sym (append_assoc one others (text_from style closed w f (place (p + length text) (e ∷ es) k z)))
+        rw (first, second, sum) (simp append_assoc)
 
   -- a whole message
   pub message_determined : (t : Tree) → IsTreeText t w → IsStructure t → (closed ≡ false → HasNoEmpty t) → printed_text style closed (length w) (trace closed w)
@@ -243,6 +224,4 @@ module _ (style : Style) (d : Drawing) (closed : Bool) (w : List ℕ) (draws : D
       let first = node_step tag ts 0 (more_all ts t.left) [] 0 false w [] h none at (omega arith) (ready_root 0 0 false) in
       let second = trees_text ts (0 + 8) (0 + 8 + length h.0) t.left [] 0 false h.0 (h.1.pad ++ []) h.2 (λ c. inner tag ts (none c))
       (content_at_text w 0 (raw_with tag Structure h.0) w [] h.1 at) (omega (arith, node_length tag ts w h)) (omega arith) in
-      sym (text_start style closed w) ∙ ap (λ (n : ℕ). text_from style closed w n start) t.is
-      ∙ first ∙ ap (λ (r : List ℕ). d.of_node 0 tag ++ r) (second ∙ ap (λ (r : List ℕ). drawn_all d style.close 1 ts ++ r)
-      (text_over style closed w t.left (0 + 8 + length h.0) 0 false))
+      rw (← text_start style closed w, t.is, first, second, (turn_over style closed w t.left (0 + 8 + length h.0) 0 false).0) refl

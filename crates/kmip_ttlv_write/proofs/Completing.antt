@@ -1,22 +1,18 @@
 -- The items of trees fit, and a list of lines is that of one list of trees.
-use Rattle.std.proofs.Common.{◌≡◌, ◌≢◌, inl, inr, ℕ, zero, suc, ◌+◌, ◌<◌, ◌≤◌, ◌^◌, Bool, false, List, [], ◌∷◌, ◌++◌, length, map, Some, refl, ap, sym, subst}
-use Rattle.std.proofs.Common.{◌∙◌, arith, ◌==◌, if◌then◌else◌}
+use Rattle.std.proofs.Common.{◌≡◌, ◌≢◌, inl, inr, ℕ, zero, suc, ◌+◌, ◌<◌, ◌≤◌, ◌^◌, Bool, List, [], ◌∷◌, ◌++◌, length, map, Some, refl, ap, sym, subst, ◌∙◌}
+use Rattle.std.proofs.Common.{arith, ◌==◌, if◌then◌else◌}
 use Rattle.std.specs.List.{AllByRecursion}
 use Rattle.std.proofs.lemmas.Bool.{ne_eqb}
-use Rattle.kmip_ttlv_types.specs.declared.typ.TtlvType.{TtlvType}
-use Rattle.kmip_ttlv_types.specs.declared.typ.TtlvType.TheVariants.{Structure}
-use Rattle.kmip_ttlv_types.specs.ItemTypes.{code, type_of}
-use Rattle.kmip_ttlv_types.specs.Leaves.{is_valid}
-use Rattle.kmip_ttlv_types.specs.Places.{size}
+use Rattle.kmip_ttlv_types.specs.{declared.typ.TtlvType.TtlvType, declared.typ.TtlvType.TheVariants.Structure, ItemTypes.code, ItemTypes.type_of}
+use Rattle.kmip_ttlv_types.specs.{Leaves.is_valid, Places.size}
 use Rattle.kmip_ttlv_types.specs.Trees.{Tree, Trees, leaf, node, no_trees, tree, IsTreeText, AreTreeTexts}
 use Rattle.kmip_ttlv_types.proofs.PlaceLemmas.{type_of-code, code_one}
 use Rattle.kmip_ttlv_items.specs.FoundItems.{span, span_all}
 use Rattle.kmip_ttlv_items.proofs.Spans.{leaf_not, texts_span}
-use Rattle.kmip_ttlv_write.specs.declared.given.GivenItem.{GivenItem}
-use Rattle.kmip_ttlv_write.specs.declared.judge.Reach.{Reach}
+use Rattle.kmip_ttlv_write.specs.declared.{given.GivenItem.GivenItem, judge.Reach.Reach}
 use Rattle.kmip_ttlv_write.specs.GivenItems.{Line, line, lines, lines_below, line_of, given_content, IsInside, IsWritten}
-use Rattle.kmip_ttlv_write.specs.FlatWrites.{taken, opened, start, advanced, after, after_all, HasValue, Fits, AllFit}
-use Rattle.kmip_ttlv_write.proofs.Stands.{typ_is, content_len}
+use Rattle.kmip_ttlv_write.specs.FlatWrites.{taken, opened, start, advanced, after, after_all, Fits, AllFit}
+use Rattle.kmip_ttlv_write.proofs.Stands.{typ_is, content_len, content_deep}
 use Rattle.kmip_ttlv_write.proofs.Fitting.{after_append, fit_append}
 
 -- items follow in a state and at a depth, and take n bytes
@@ -47,33 +43,20 @@ parts_of : (lent : List ℕ) (xs : List GivenItem) (ls ms : List Line) → map (
 parts_of lent xs [] ms e h = record { first = []; rest = xs; are = refl; first-are = refl; rest-are = e; first-in = tt; rest-in = h }
 parts_of lent [] (l ∷ ls) ms e h = absurd cc
 parts_of lent (x ∷ xs) (l ∷ ls) ms e h =
-    let head : line_of lent x ≡ l = cc in
     let tail : map (line_of lent) xs ≡ ls ++ ms = cc in
     let k = parts_of lent xs ls ms tail h.1 in
-    record {
-      first = x ∷ k.first;
-      rest = k.rest;
-      are = ap (λ (s : List GivenItem). x ∷ s) k.are;
-      first-are = ap (λ (m : Line). m ∷ map (line_of lent) k.first) head ∙ ap (λ (s : List Line). l ∷ s) k.first-are;
-      rest-are = k.rest-are;
-      first-in = (h.0, k.first-in);
-      rest-in = k.rest-in;
-    }
+    record { first = x ∷ k.first; rest = k.rest; are = cc; first-are = cc; rest-are = k.rest-are; first-in = (h.0, k.first-in); rest-in = k.rest-in }
 
 -- the content after an item
 content_at_root : (r : Reach) (typ : TtlvType) (i : GivenItem) → i.depth ≡ 0 → (advanced r typ i).content ≡ 0
 content_at_root r typ i e = ap (λ (d : ℕ). if d == 0 then 0 else r.content + taken typ i.length) e
 
-content_deeper : (r : Reach) (typ : TtlvType) (i : GivenItem) → 0 < i.depth → (advanced r typ i).content ≡ r.content + taken typ i.length
-content_deeper r typ i lt = let k : (i.depth == 0) ≡ false = ne_eqb i.depth 0 (omega arith) in
-    ap (λ (b : Bool). if b then 0 else r.content + taken typ i.length) k
-
 content_fits : (r : Reach) (typ : TtlvType) (i : GivenItem) (d n : ℕ) → i.depth ≡ d → taken typ i.length ≤ n → (0 < d → r.content + n < 2 ^ 32)
     → (advanced r typ i).content < 2 ^ 32
 content_fits r typ i zero n e le room = omega (arith, content_at_root r typ i e)
-content_fits r typ i (suc d) n e le room = omega (arith, content_deeper r typ i (omega (arith, e)), room (omega arith), le)
+content_fits r typ i (suc d) n e le room = omega (arith, content_deep r typ i (omega (arith, e)), room (omega arith), le)
 
-taken_leaf : (typ : TtlvType) (n : ℕ) → typ ≢ Structure → taken typ n ≡ size typ n
+pub taken_leaf : (typ : TtlvType) (n : ℕ) → typ ≢ Structure → taken typ n ≡ size typ n
 taken_leaf Structure n ne = absurd (ne refl)
 taken_leaf typ n ne = refl
 
@@ -82,76 +65,35 @@ opened_leaf Structure d ne = absurd (ne refl)
 opened_leaf typ d ne = refl
 
 -- a leaf follows
-leaf_comes : (lent : List ℕ) (r : Reach) (x : GivenItem) (d tag : ℕ) (typ : TtlvType) (content text : List ℕ) → IsTreeText (leaf tag typ content) text
-    → line_of lent x ≡ line d tag (code typ) content → IsInside lent x → Room r d (span (leaf tag typ content))
+leaf_comes : {lent : List ℕ} {r : Reach} (x : GivenItem) (d tag : ℕ) (typ : TtlvType) (content text : List ℕ)
+    → IsTreeText (leaf tag typ content) text → line_of lent x ≡ line d tag (code typ) content → IsInside lent x → Room r d (span (leaf tag typ content))
     → Comes lent r (x ∷ []) d (span (leaf tag typ content))
-leaf_comes lent r x d tag typ content text h is within room = record {
-  fit = (
-    record {
+leaf_comes {lent} {r} x d tag typ content text h is within room =
+    let ne : typ ≢ Structure = leaf_not typ content h.0 in
+    let depth : x.depth ≡ d = ap (λ (l : Line). l.depth) is in
+    let code-is : x.typ ≡ code typ = ap (λ (l : Line). l.code) is in
+    let typed : type_of x.typ ≡ Some typ = ap type_of code-is ∙ type_of-code typ in
+    let not-one : x.typ ≢ 1 = λ one. ne (code_one typ Structure (sym code-is ∙ one)) in
+    let given : given_content lent x ≡ content =
+    sym (ap (λ (b : Bool). if b then [] else given_content lent x) (ne_eqb x.typ 1 not-one)) ∙ ap (λ (l : Line). l.content) is in
+    let inside : x.offset + 8 + x.length ≤ length lent = elim within [ inl one ↦ absurd (not-one one) | inr le ↦ le ] in
+    let len : x.length ≡ length content = sym (content_len lent x inside) ∙ ap length given in
+    let took : taken typ x.length ≡ span (leaf tag typ content) = taken_leaf typ x.length ne ∙ ap (size typ) len in
+    let next : after r x ≡ advanced r typ x = ap (λ (t : TtlvType). advanced r t x) (typ_is x typ typed) in
+    let fits : Fits lent r x = record {
       depth = omega (arith, depth, room.depth);
-      tag = omega (arith, tag-is, h.1.tag_fits);
+      tag = omega (arith, ap (λ (l : Line). l.tag) is, h.1.tag_fits);
       typ = typ;
       typed = typed;
-      value = λ _. value;
-      room = record {
-        content = content_fits r typ x d (span (leaf tag typ content)) depth (omega (arith, took)) room.content;
-        total =
-            omega (arith, took, room.total);
-      };
-    },
-    tt,
-  );
-  depth = omega (arith, depth-then, opened_leaf typ x.depth ne, depth);
-  size = omega (arith, size-then, took);
-  content = λ lt. content-then lt;
-}
-  where
-    ne : typ ≢ Structure
-    ne = leaf_not typ content h.0
-
-    depth : x.depth ≡ d
-    depth = ap (λ (l : Line). l.depth) is
-
-    tag-is : x.tag ≡ tag
-    tag-is = ap (λ (l : Line). l.tag) is
-
-    code-is : x.typ ≡ code typ
-    code-is = ap (λ (l : Line). l.code) is
-
-    typed : type_of x.typ ≡ Some typ
-    typed = ap type_of code-is ∙ type_of-code typ
-
-    not-one : x.typ ≢ 1
-    not-one one = ne (code_one typ Structure (sym code-is ∙ one))
-
-    given : given_content lent x ≡ content
-    given = let k : (x.typ == 1) ≡ false = ne_eqb x.typ 1 not-one in
-        sym (ap (λ (b : Bool). if b then [] else given_content lent x) k) ∙ ap (λ (l : Line). l.content) is
-
-    inside : IsInside lent x → x.offset + 8 + x.length ≤ length lent
-    inside (inl one) = absurd (not-one one)
-    inside (inr le) = le
-
-    len : x.length ≡ length content
-    len = sym (content_len lent x (inside within)) ∙ ap length given
-
-    value : HasValue lent typ x
-    value = record { short = omega (arith, len, h.1.length_fits); inside = inside within; valid = ap (is_valid typ) given ∙ h.0 }
-
-    took : taken typ x.length ≡ span (leaf tag typ content)
-    took = taken_leaf typ x.length ne ∙ ap (size typ) len
-
-    next : after r x ≡ advanced r typ x
-    next = ap (λ (t : TtlvType). advanced r t x) (typ_is x typ typed)
-
-    depth-then : (after r x).depth ≡ opened typ x.depth
-    depth-then = ap (λ (s : Reach). s.depth) next
-
-    size-then : (after r x).size ≡ r.size + taken typ x.length
-    size-then = ap (λ (s : Reach). s.size) next
-
-    content-then : 0 < d → (after r x).content ≡ r.content + span (leaf tag typ content)
-    content-then lt = ap (λ (s : Reach). s.content) next ∙ content_deeper r typ x (omega (arith, depth)) ∙ ap (λ (n : ℕ). r.content + n) took
+      value = λ _. record { short = omega (arith, len, h.1.length_fits); inside = inside; valid = ap (is_valid typ) given ∙ h.0 };
+      room = record { content = content_fits r typ x d _ depth (omega (arith, took)) room.content; total = omega (arith, took, room.total) };
+    } in
+    record {
+      fit = (fits, tt);
+      depth = omega (arith, ap (λ (s : Reach). s.depth) next, opened_leaf typ x.depth ne, depth);
+      size = omega (arith, ap (λ (s : Reach). s.size) next, took);
+      content = λ lt. ap (λ (s : Reach). s.content) next ∙ content_deep r typ x (omega (arith, depth)) ∙ ap (λ (n : ℕ). r.content + n) took;
+    }
 
 -- a structure begins
 record Begins (lent : List ℕ) (r : Reach) (x : GivenItem) (d : ℕ) : Type 0 where
@@ -161,90 +103,66 @@ record Begins (lent : List ℕ) (r : Reach) (x : GivenItem) (d : ℕ) : Type 0 w
   root : d ≡ 0 → (after r x).content ≡ 0
   content : 0 < d → (after r x).content ≡ r.content + 8
 
-node_begins : (lent : List ℕ) (r : Reach) (x : GivenItem) (d tag n : ℕ) → tag < 2 ^ 24 → line_of lent x ≡ line d tag 1 [] → Room r d (8 + n) → Begins lent r x d
-node_begins lent r x d tag n tag-fits is room = record {
-  fits = record {
-    depth = omega (arith, depth, room.depth);
-    tag = omega (arith, tag-is, tag-fits);
-    typ = Structure;
-    typed = typed;
-    value = λ ne. absurd (ne refl);
-    room = record { content = content_fits r Structure x d (8 + n) depth (omega arith) room.content; total = omega (arith, room.total) };
-  };
-  depth = ap (λ (s : Reach). s.depth) next ∙ ap (λ (m : ℕ). m + 1) depth;
-  size = ap (λ (s : Reach). s.size) next;
-  root = λ e. ap (λ (s : Reach). s.content) next ∙ content_at_root r Structure x (depth ∙ e);
-  content = λ lt. ap (λ (s : Reach). s.content) next ∙ content_deeper r Structure x (omega (arith, depth));
-}
-  where
-    depth : x.depth ≡ d
-    depth = ap (λ (l : Line). l.depth) is
+node_begins : {lent : List ℕ} {r : Reach} (x : GivenItem) {d tag : ℕ} (n : ℕ) → tag < 2 ^ 24 → line_of lent x ≡ line d tag 1 [] → Room r d (8 + n)
+    → Begins lent r x d
+node_begins {r = r} x {d} n tag-fits is room =
+    let depth : x.depth ≡ d = ap (λ (l : Line). l.depth) is in
+    let typed : type_of x.typ ≡ Some Structure = ap (λ (l : Line). type_of l.code) is in
+    let next : after r x ≡ advanced r Structure x = ap (λ (t : TtlvType). advanced r t x) (typ_is x Structure typed) in
+    record {
+      fits = record {
+        depth = omega (arith, depth, room.depth);
+        tag = omega (arith, ap (λ (l : Line). l.tag) is, tag-fits);
+        typ = Structure;
+        typed = typed;
+        value = λ ne. absurd (ne refl);
+        room = record { content = content_fits r Structure x d (8 + n) depth (omega arith) room.content; total = omega (arith, room.total) };
+      };
+      depth = ap (λ (s : Reach). s.depth) next ∙ ap (λ (m : ℕ). m + 1) depth;
+      size = ap (λ (s : Reach). s.size) next;
+      root = λ e. ap (λ (s : Reach). s.content) next ∙ content_at_root r Structure x (depth ∙ e);
+      content = λ lt. ap (λ (s : Reach). s.content) next ∙ content_deep r Structure x (omega (arith, depth));
+    }
 
-    tag-is : x.tag ≡ tag
-    tag-is = ap (λ (l : Line). l.tag) is
-
-    typed : type_of x.typ ≡ Some Structure
-    typed = ap (λ (l : Line). type_of l.code) is
-
-    next : after r x ≡ advanced r Structure x
-    next = ap (λ (t : TtlvType). advanced r t x) (typ_is x Structure typed)
-
-inner_room : (r s : Reach) (d n : ℕ) → n < 2 ^ 32 → Room r d (8 + n) → s.depth ≡ d + 1 → s.size ≡ r.size + 8 → (d ≡ 0 → s.content ≡ 0)
-    → (0 < d → s.content ≡ r.content + 8) → Room s (suc d) n
-inner_room r s zero n lt room depth size root content = record {
-  depth = omega (arith, depth);
-  total = omega (arith, size, room.total);
-  content =
-      λ _. omega (arith, root refl);
-}
-inner_room r s (suc d) n lt room depth size root content = record {
-  depth = omega (arith, depth);
-  total = omega (arith, size, room.total);
-  content =
-      λ _. omega (arith, content (omega arith), room.content (omega arith));
-}
-
-first_room : (r : Reach) (d n m : ℕ) → Room r d (n + m) → Room r d n
-first_room r d n m room = record { depth = room.depth; total = omega (arith, room.total); content = λ lt. omega (arith, room.content lt) }
+inner_room : {lent : List ℕ} {r : Reach} {x : GivenItem} (d n : ℕ) → n < 2 ^ 32 → Room r d (8 + n) → Begins lent r x d → Room (after r x) (suc d) n
+inner_room zero n lt room b =
+    record { depth = omega (arith, b.depth); total = omega (arith, b.size, room.total); content = λ _. omega (arith, b.root refl) }
+inner_room (suc d) n lt room b =
+    let content = b.content (omega arith) in
+    record { depth = omega (arith, b.depth); total = omega (arith, b.size, room.total); content = λ _. omega (arith, content, room.content (omega arith)) }
 
 mutual
-  tree_comes : (lent : List ℕ) (t : Tree) (text : List ℕ) → IsTreeText t text → (r : Reach) (d : ℕ) (xs : List GivenItem) → map (line_of lent) xs ≡ lines d t
+  tree_comes : {lent : List ℕ} (t : Tree) (text : List ℕ) → IsTreeText t text → {r : Reach} (d : ℕ) (xs : List GivenItem) → map (line_of lent) xs ≡ lines d t
       → AllByRecursion (IsInside lent) xs → Room r d (span t) → Comes lent r xs d (span t)
-  tree_comes lent (leaf tag typ content) text h r d [] is within room = absurd cc
-  tree_comes lent (leaf tag typ content) text h r d (x ∷ y ∷ ys) is within room = absurd cc
-  tree_comes lent (leaf tag typ content) text h r d (x ∷ []) is within room =
+  tree_comes {lent} (leaf tag typ content) text h d (x ∷ []) is within room =
       let l : line_of lent x ≡ line d tag (code typ) content = cc in
-      leaf_comes lent r x d tag typ content text h l within.0 room
-  tree_comes lent (node tag below) text h r d [] is within room = absurd cc
-  tree_comes lent (node tag below) text h r d (x ∷ xs) is within room =
+      leaf_comes x d tag typ content text h l within.0 room
+  tree_comes {lent} (node tag below) text h {r} d (x ∷ xs) is within room =
       let l : line_of lent x ≡ line d tag 1 [] = cc in
       let ls : map (line_of lent) xs ≡ lines_below (suc d) below = cc in
-      let b = node_begins lent r x d tag (span_all below) h.1.tag_fits l room in
+      let b = node_begins {lent = lent} {r = r} x (span_all below) h.1.tag_fits l room in
       let short : span_all below < 2 ^ 32 = omega (arith, texts_span below h.0 h.2, h.1.length_fits) in
-      let k = trees_come lent below h.0 h.2 (after r x) (suc d) xs ls within.1
-      (inner_room r (after r x) d (span_all below) short room b.depth b.size b.root b.content) in
+      let k = trees_come below h.0 h.2 (suc d) xs ls within.1 (inner_room d (span_all below) short room b) in
       record {
         fit = (b.fits, k.fit);
         depth = omega (arith, k.depth);
         size = omega (arith, k.size, b.size);
         content = λ lt. omega (arith, k.content (omega arith), b.content lt);
       }
+  tree_comes _ text h d _ is within room = absurd cc
 
-  trees_come : (lent : List ℕ) (ts : Trees) (text : List ℕ) → AreTreeTexts ts text → (r : Reach) (d : ℕ) (xs : List GivenItem)
+  trees_come : {lent : List ℕ} (ts : Trees) (text : List ℕ) → AreTreeTexts ts text → {r : Reach} (d : ℕ) (xs : List GivenItem)
       → map (line_of lent) xs ≡ lines_below d ts → AllByRecursion (IsInside lent) xs → Room r d (span_all ts) → Comes lent r xs d (span_all ts)
-  trees_come lent no_trees text h r d (x ∷ xs) is within room = absurd cc
-  trees_come lent no_trees text h r d [] is within room = record { fit = tt; depth = room.depth; size = omega arith; content = λ _. omega arith }
-  trees_come lent (tree t ts) text h r d xs is within room =
+  trees_come no_trees text h d (x ∷ xs) is within room = absurd cc
+  trees_come no_trees text h d [] is within room = record { fit = tt; depth = room.depth; size = omega arith; content = λ _. omega arith }
+  trees_come {lent} (tree t ts) text h {r} d xs is within room =
       let p = parts_of lent xs (lines d t) (lines_below d ts) is within in
-      let a = tree_comes lent t h.0 h.3 r d p.first p.first-are p.first-in (first_room r d (span t) (span_all ts) room) in
+      let first : Room r d (span t) = record { depth = room.depth; total = omega (arith, room.total); content = λ lt. omega (arith, room.content lt) } in
+      let a = tree_comes t h.0 h.3 d p.first p.first-are p.first-in first in
       let s = after_all r p.first in
-      let rest-room : Room s d (span_all ts) = record {
-        depth = a.depth;
-        total = omega (arith, a.size, room.total);
-        content =
-            λ lt. omega (arith, a.content lt, room.content lt);
-      } in
-      let b = trees_come lent ts h.1 h.4 s d p.rest p.rest-are p.rest-in rest-room in
+      let rest : Room s d (span_all ts) =
+      record { depth = a.depth; total = omega (arith, a.size, room.total); content = λ lt. omega (arith, a.content lt, room.content lt) } in
+      let b = trees_come ts h.1 h.4 d p.rest p.rest-are p.rest-in rest in
       let end : after_all r xs ≡ after_all s p.rest = ap (after_all r) p.are ∙ after_append r p.first p.rest in
       record {
         fit = subst (AllFit lent r) (sym p.are) (fit_append lent r p.first p.rest a.fit b.fit);
@@ -256,10 +174,6 @@ mutual
 -- what is written fits
 pub written_fit : (xs : List GivenItem) (lent out : List ℕ) → IsWritten xs lent out → AllFit lent start xs
 written_fit xs lent out w =
-    let room : Room start 0 (span_all w.trees) = record {
-      depth = omega arith;
-      total = omega (arith, texts_span w.trees out w.texts, w.total);
-      content =
-          λ lt. absurd (omega (arith, lt));
-    } in
-    (trees_come lent w.trees out w.texts start 0 xs w.are w.inside room).fit
+    let room : Room start 0 (span_all w.trees) =
+    record { depth = omega arith; total = omega (arith, texts_span w.trees out w.texts, w.total); content = λ lt. absurd (omega (arith, lt)) } in
+    (trees_come w.trees out w.texts 0 xs w.are w.inside room).fit

@@ -1,16 +1,11 @@
 -- Items that fit, one after the other.
 use Rattle.std.proofs.Common.{◌≡◌, ◌≢◌, inl, inr, ℕ, ◌≤◌, true, false, List, [], ◌∷◌, ◌++◌, take, Some, None, refl, ap, sym, subst, ◌∙◌, arith}
 use Rattle.std.proofs.lemmas.List.{take-append-drop}
-use Rattle.kmip_ttlv_types.specs.declared.typ.TtlvType.{TtlvType}
-use Rattle.kmip_ttlv_types.specs.declared.typ.TtlvType.TheVariants.{Structure}
-use Rattle.kmip_ttlv_types.specs.ItemTypes.{type_of, fixed_length}
+use Rattle.kmip_ttlv_types.specs.{declared.typ.TtlvType.TtlvType, declared.typ.TtlvType.TheVariants.Structure, ItemTypes.type_of, ItemTypes.fixed_length}
 use Rattle.kmip_ttlv_items.specs.ItemWalks.{has_length}
 use Rattle.kmip_ttlv_items.proofs.Spans.{valid_length}
-use Rattle.kmip_ttlv_write.specs.declared.given.GivenItem.{GivenItem}
-use Rattle.kmip_ttlv_write.specs.declared.given.BadItem.{BadItem}
-use Rattle.kmip_ttlv_write.specs.declared.given.BadKind.{BadKind}
+use Rattle.kmip_ttlv_write.specs.declared.{given.GivenItem.GivenItem, given.BadItem.BadItem, given.BadKind.BadKind, judge.Reach.Reach}
 use Rattle.kmip_ttlv_write.specs.declared.given.BadKind.TheVariants.{NotInside, LongTag, UnknownType, WrongLength, Outside, InvalidValue, TooLong}
-use Rattle.kmip_ttlv_write.specs.declared.judge.Reach.{Reach}
 use Rattle.kmip_ttlv_write.specs.GivenItems.{given_content}
 use Rattle.kmip_ttlv_write.specs.FlatWrites.{start, advanced, typ_of, after, after_all, HasValue, HasRoom, Fits, AllFit, Misfits, IsTooLong, IsFirstBad}
 use Rattle.kmip_ttlv_write.proofs.Stands.{content_len}

@@ -2,12 +2,8 @@
 use Rattle.std.proofs.Common.{◌≡◌, ◌≢◌, ℕ, zero, suc, ◌+◌, ◌-◌, ◌<◌, ◌≤◌, ◌^◌, true, List, [], ◌∷◌, ◌++◌, length, replicate, refl, ap, sym, ◌∙◌, arith}
 use Rattle.std.proofs.Common.{append_assoc, append-nil, length-append}
 use Rattle.std.proofs.Math.ListN.{length-replicate}
-use Rattle.kmip_ttlv_types.specs.declared.typ.TtlvType.{TtlvType}
-use Rattle.kmip_ttlv_types.specs.declared.typ.TtlvType.TheVariants.{Structure, Integer, LongInteger, BigInteger, Enumeration, Boolean, TextString, ByteString}
-use Rattle.kmip_ttlv_types.specs.declared.typ.TtlvType.TheVariants.{DateTime, Interval}
-use Rattle.kmip_ttlv_types.specs.ItemTypes.{pad_len, padding}
-use Rattle.kmip_ttlv_types.specs.Items.{header}
-use Rattle.kmip_ttlv_types.specs.Leaves.{is_valid}
+use Rattle.kmip_ttlv_types.specs.{declared.typ.TtlvType.TtlvType, declared.typ.TtlvType.TheVariants.Structure, ItemTypes.pad_len, ItemTypes.padding}
+use Rattle.kmip_ttlv_types.specs.{Items.header, Leaves.is_valid}
 use Rattle.kmip_ttlv_types.specs.Trees.{Tree, Trees, leaf, node, no_trees, tree, leaf_bytes, node_bytes, bytes, bytes_below, IsTreeText, AreTreeTexts}
 use Rattle.kmip_ttlv_write.specs.GivenItems.{Line, line, lines, lines_below}
 use Rattle.kmip_ttlv_write.specs.OpenStructures.{add_last, Opened, outside, within, depth_of, link, spine, IsTop, since, add, close_one, close_by, leave}
@@ -44,43 +40,22 @@ texts_last (tree u us) t h k = (h.0, texts_last us t h.1 k)
 
 pub node_text : (tag : ℕ) (us : Trees) → tag < 2 ^ 24 → length (bytes_below us) < 2 ^ 32 → AllTexts us → IsTreeText (node tag us) (bytes (node tag us))
 unfolding node_bytes
-node_text tag us fits short h = (
-  bytes_below us,
-  record {
-    tag_fits = fits;
-    length_fits = short;
-    pad = [];
-    pad_length = refl;
-    parts = sym (append-nil (header tag Structure (length (bytes_below us)) ++ bytes_below us));
-  },
-  texts_all us h,
-)
+node_text tag us fits short h =
+    let parts = sym (append-nil (header tag Structure (length (bytes_below us)) ++ bytes_below us)) in
+    (bytes_below us, record { tag_fits = fits; length_fits = short; pad = []; pad_length = refl; parts = parts }, texts_all us h)
 
 pub padding_is : (t : TtlvType) (n : ℕ) → t ≢ Structure → padding t n ≡ pad_len n
 padding_is Structure n h = absurd (h refl)
-padding_is Integer n h = refl
-padding_is LongInteger n h = refl
-padding_is BigInteger n h = refl
-padding_is Enumeration n h = refl
-padding_is Boolean n h = refl
-padding_is TextString n h = refl
-padding_is ByteString n h = refl
-padding_is DateTime n h = refl
-padding_is Interval n h = refl
+padding_is _ n h = refl
 
 pub leaf_text : (tag : ℕ) (typ : TtlvType) (c : List ℕ) → tag < 2 ^ 24 → typ ≢ Structure → length c < 2 ^ 32 → is_valid typ c ≡ true
     → IsTreeText (leaf tag typ c) (bytes (leaf tag typ c))
 unfolding leaf_bytes
-leaf_text tag typ c fits ne short valid = (
-  valid,
-  record {
-    tag_fits = fits;
-    length_fits = short;
-    pad = replicate (pad_len (length c)) 0;
-    pad_length = length-replicate (pad_len (length c)) 0 ∙ sym (padding_is typ (length c) ne);
-    parts = sym (append_assoc (header tag typ (length c)) c (replicate (pad_len (length c)) 0));
-  },
-)
+leaf_text tag typ c fits ne short valid =
+    let n = pad_len (length c) in
+    let long = length-replicate n 0 ∙ sym (padding_is typ (length c) ne) in
+    let parts = sym (append_assoc (header tag typ (length c)) c (replicate n 0)) in
+    (valid, record { tag_fits = fits; length_fits = short; pad = replicate n 0; pad_length = long; parts = parts })
 
 -- the same of all trees in open structures, whose tags have three bytes
 abbrev pub AllSound : Opened → Type 0
@@ -95,18 +70,11 @@ lines_so_far (within around tag done) = lines_so_far around ++ (line (depth_of a
 -- one more tree
 pub add_lines_so_far : (t : Tree) (o : Opened) → lines_so_far (add t o) ≡ lines_so_far o ++ lines (depth_of o) t
 add_lines_so_far t (outside done) = lines_last 0 done t
-add_lines_so_far t (within around tag done) =
-    let l = line (depth_of around) tag 1 [] in
-    let d = suc (depth_of around) in
-    ap (λ (s : List Line). lines_so_far around ++ (l ∷ s)) (lines_last d done t) ∙ sym (append_assoc (lines_so_far around) (l ∷ lines_below d done) (lines d t))
+add_lines_so_far t (within around tag done) = rw (lines_last (suc (depth_of around)) done t) (simp append_assoc)
 
 pub add_spine : (t : Tree) (o : Opened) → spine (add t o) ≡ spine o ++ bytes t
 add_spine t (outside done) = below_last done t
-add_spine t (within around tag done) =
-    let h = header tag Structure (link around) in
-    ap (λ (s : List ℕ). spine around ++ (h ++ s)) (below_last done t)
-    ∙ ap (λ (s : List ℕ). spine around ++ s) (sym (append_assoc h (bytes_below done) (bytes t)))
-    ∙ sym (append_assoc (spine around) (h ++ bytes_below done) (bytes t))
+add_spine t (within around tag done) = rw (below_last done t) (simp append_assoc)
 
 pub add_depth : (t : Tree) (o : Opened) → depth_of (add t o) ≡ depth_of o
 add_depth t (outside done) = refl
@@ -152,13 +120,8 @@ pub close_since : (o : Opened) → since 0 (close_one o) ≤ since 0 o
 close_since (outside done) = omega arith
 close_since (within (outside us) tag done) = omega arith
 close_since (within (within a t us) tag done) =
-    omega (
-      arith,
-      add_since (node tag done) a t us,
-      node_len tag (bytes_below done),
-      since_more 0 (8 + length (bytes_below done))
-          (0 + 8 + length (bytes_below done)) a t us (omega arith),
-    )
+    let n = length (bytes_below done) in
+    omega (arith, add_since (node tag done) a t us, node_len tag (bytes_below done), since_more 0 (8 + n) (0 + 8 + n) a t us (omega arith))
 
 close_sound : (o : Opened) → since 0 o < 2 ^ 32 + 8 → AllSound o → AllSound (close_one o)
 close_sound (outside done) small h = h
@@ -169,13 +132,9 @@ close_length : (o : Opened) → length (spine (close_one o)) ≡ length (spine o
 close_length (outside done) = refl
 close_length (within around tag done) =
     let h = header tag Structure (link around) in
-    ap length (add_spine (node tag done) around) ∙ omega (
-      arith,
-      length-append (spine around) (bytes (node tag done)),
-      node_len tag (bytes_below done),
-      length-append (spine around) (h ++ bytes_below done),
-      length-append h (bytes_below done),
-    )
+    let whole = length-append (spine around) (h ++ bytes_below done) in
+    ap length (add_spine (node tag done) around)
+    ∙ omega (arith, whole, length-append (spine around) (bytes (node tag done)), node_len tag (bytes_below done), length-append h (bytes_below done))
 
 -- several end
 pub record Closes (o c : Opened) : Type 0 where

@@ -3,9 +3,7 @@ use Rattle.std.proofs.Common.{◌≡◌, ℕ, ◌+◌, ◌<◌, ◌^◌, List, [
 use Rattle.std.proofs.lemmas.List.{take_at, drop_at, get_or-drop, take-append-drop}
 use Rattle.std.proofs.lemmas.Nat.{from_be_bytes-to_be_bytes_4}
 use Rattle.std.specs.Int.{w32, to_be_bytes, from_be_bytes, bytes_high_first}
-use Rattle.kmip_ttlv_types.specs.declared.typ.TtlvType.{TtlvType}
-use Rattle.kmip_ttlv_types.specs.ItemTypes.{code}
-use Rattle.kmip_ttlv_types.specs.Places.{length_at}
+use Rattle.kmip_ttlv_types.specs.{declared.typ.TtlvType.TtlvType, ItemTypes.code, Places.length_at}
 
 -- the four bytes of a header before its length
 abbrev pub lead : ℕ → TtlvType → List ℕ
@@ -48,10 +46,8 @@ module _ (out s h l d : List ℕ) (top at : ℕ) (s-is : length s ≡ top) (h-is
   pub length_read : (n : ℕ) → n < 2 ^ 32 → l ≡ to_be_bytes w32 n → length_at out top ≡ n
   length_read n lt is =
       number_read (get_or out (top + 4) 0) (get_or out (top + 5) 0) (get_or out (top + 6) 0) (get_or out (top + 7) 0) n lt
-      (ap (λ (k : ℕ). get_or out k 0) (omega arith) ∙ cell 0)
-      (ap (λ (k : ℕ). get_or out k 0) (omega arith) ∙ cell 1)
-      (ap (λ (k : ℕ). get_or out k 0) (omega arith) ∙ cell 2)
-      (ap (λ (k : ℕ). get_or out k 0) (omega arith) ∙ cell 3)
+      (cell 0 4 (omega arith)) (cell 1 5 (omega arith)) (cell 2 6 (omega arith)) (cell 3 7 (omega arith))
     where
-      cell : (i : ℕ) → get_or out (top + 4 + i) 0 ≡ get_or (to_be_bytes w32 n ++ (d ++ drop at out)) i 0
-      cell i = sym (get_or-drop (top + 4) out i 0) ∙ ap (λ (x : List ℕ). get_or x i 0) (field ∙ ap (λ (x : List ℕ). x ++ (d ++ drop at out)) is)
+      cell : (i k : ℕ) → k ≡ 4 + i → get_or out (top + k) 0 ≡ get_or (to_be_bytes w32 n ++ (d ++ drop at out)) i 0
+      cell i k e = ap (λ (m : ℕ). get_or out m 0) (omega arith) ∙ sym (get_or-drop (top + 4) out i 0)
+          ∙ ap (λ (x : List ℕ). get_or x i 0) (field ∙ ap (λ (x : List ℕ). x ++ (d ++ drop at out)) is)

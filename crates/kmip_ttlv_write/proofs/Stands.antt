@@ -4,20 +4,16 @@ use Rattle.std.proofs.Common.{sym, subst, ◌∙◌, arith, append_assoc, append
 use Rattle.std.specs.List.{AllByRecursion}
 use Rattle.std.proofs.lemmas.Bool.{ne_eqb}
 use Rattle.std.proofs.lemmas.List.{map_push, length-take-le, length-drop}
-use Rattle.kmip_ttlv_types.specs.declared.typ.TtlvType.{TtlvType}
-use Rattle.kmip_ttlv_types.specs.declared.typ.TtlvType.TheVariants.{Structure}
+use Rattle.kmip_ttlv_types.specs.{declared.typ.TtlvType.TtlvType, declared.typ.TtlvType.TheVariants.Structure, Items.header}
 use Rattle.kmip_ttlv_types.specs.ItemTypes.{code, type_of, pad_len}
-use Rattle.kmip_ttlv_types.specs.Items.{header}
 use Rattle.kmip_ttlv_types.specs.Trees.{Tree, leaf, no_trees, bytes}
 use Rattle.kmip_ttlv_items.proofs.Spans.{code_is}
-use Rattle.kmip_ttlv_write.specs.declared.given.GivenItem.{GivenItem}
-use Rattle.kmip_ttlv_write.specs.declared.judge.Reach.{Reach}
+use Rattle.kmip_ttlv_write.specs.declared.{given.GivenItem.GivenItem, judge.Reach.Reach}
 use Rattle.kmip_ttlv_write.specs.GivenItems.{Line, line, line_of, given_content, IsInside, IsWritten}
 use Rattle.kmip_ttlv_write.specs.FlatWrites.{taken, opened, start, advanced, typ_of, after, after_all, HasValue, HasRoom, Fits, AllFit}
 use Rattle.kmip_ttlv_write.specs.OpenStructures.{Opened, outside, within, depth_of, link, spine, since, add, leave, entered_as, entered, Small}
 use Rattle.kmip_ttlv_write.proofs.Opens.{AllSound, lines_so_far, texts_all, leaf_text, leaf_len, add_lines_so_far, add_depth, add_sound, add_spine, since_more}
-use Rattle.kmip_ttlv_write.proofs.Opens.{add_since}
-use Rattle.kmip_ttlv_write.proofs.Opens.{Closes, closes_by, leave_depth}
+use Rattle.kmip_ttlv_write.proofs.Opens.{add_since, Closes, closes_by, leave_depth}
 
 -- what is known after items
 pub record Stand (lent : List ℕ) (xs : List GivenItem) (o : Opened) (r : Reach) : Type 0 where
@@ -62,7 +58,7 @@ inside_push lent [] i h k = (k, tt)
 inside_push lent (x ∷ xs) i h k = (h.0, inside_push lent xs i h.1 k)
 
 -- within a structure the depth is not 0
-content_deep : (r : Reach) (typ : TtlvType) (i : GivenItem) → 0 < i.depth → (advanced r typ i).content ≡ r.content + taken typ i.length
+pub content_deep : (r : Reach) (typ : TtlvType) (i : GivenItem) → 0 < i.depth → (advanced r typ i).content ≡ r.content + taken typ i.length
 content_deep r typ i lt = let k : (i.depth == 0) ≡ false = ne_eqb i.depth 0 (omega arith) in
     ap (λ (b : Bool). if b then 0 else r.content + taken typ i.length) k
 
@@ -72,7 +68,7 @@ begun_size c tag n is =
     let h = header tag Structure (link c) in
     omega (arith, is, length-append (spine c) (h ++ []), length-append h [])
 
-module _ (lent : List ℕ) (xs : List GivenItem) (o : Opened) (r : Reach) (s : Stand lent xs o r) (i : GivenItem) (f : Fits lent r i) where
+module _ {lent : List ℕ} {xs : List GivenItem} {o : Opened} {r : Reach} (s : Stand lent xs o r) {i : GivenItem} (f : Fits lent r i) where
   closes : Closes o (leave i.depth o)
   closes = closes_by (depth_of o - i.depth) o
 
@@ -86,13 +82,8 @@ module _ (lent : List ℕ) (xs : List GivenItem) (o : Opened) (r : Reach) (s : S
   small_by : (c : Opened) → depth_of c ≡ i.depth → since 0 c ≤ r.content + 8 → Small (taken f.typ i.length) c
   small_by (outside done) d le = tt
   small_by (within a tag done) d le =
-      omega (
-        arith,
-        since_more 0 (taken f.typ i.length) (taken f.typ i.length) a tag done (omega arith),
-        content_deep r f.typ i (omega arith),
-        f.room.content,
-        le,
-      )
+      let n = taken f.typ i.length in
+      omega (arith, since_more 0 n n a tag done (omega arith), content_deep r f.typ i (omega arith), f.room.content, le)
 
   pub small : Small (taken f.typ i.length) (leave i.depth o)
   small = small_by (leave i.depth o) deep (omega (arith, closes.less, s.since))
@@ -161,16 +152,16 @@ module _ (lent : List ℕ) (xs : List GivenItem) (o : Opened) (r : Reach) (s : S
       (stand_by f.typ f.typed f.value f.room)
 
 -- all items
-stand_all : (lent : List ℕ) (xs ys : List GivenItem) (o : Opened) (r : Reach) → Stand lent xs o r → AllFit lent r ys → (p : Opened)
+stand_all : {lent : List ℕ} (ys : List GivenItem) {xs : List GivenItem} {o : Opened} {r : Reach} → Stand lent xs o r → AllFit lent r ys → (p : Opened)
     × Stand lent (xs ++ ys) p (after_all r ys)
-stand_all lent xs [] o r s h = (o, subst (λ (zs : List GivenItem). Stand lent zs o r) (sym (append-nil xs)) s)
-stand_all lent xs (y ∷ ys) o r s h =
-    let k = stand_all lent (xs ++ y ∷ []) ys (entered lent y o) (after r y) (stand_step lent xs o r s y h.0) h.1 in
+stand_all {lent} [] {xs} {o} {r} s h = (o, subst (λ (zs : List GivenItem). Stand lent zs o r) (sym (append-nil xs)) s)
+stand_all {lent} (y ∷ ys) {xs} {r = r} s h =
+    let k = stand_all ys (stand_step s h.0) h.1 in
     (k.0, subst (λ (zs : List GivenItem). Stand lent zs k.0 (after_all (after r y) ys)) (append_assoc xs (y ∷ []) ys) k.1)
 
 -- what is written of them
-pub stand_written : (lent : List ℕ) (xs : List GivenItem) (o : Opened) (r : Reach) → Stand lent xs o r → IsWritten xs lent (spine (leave 0 o))
-stand_written lent xs o r s = by (leave 0 o) (closes_by (depth_of o - 0) o) (leave_depth 0 o (omega arith))
+pub stand_written : {lent : List ℕ} {xs : List GivenItem} {o : Opened} {r : Reach} → Stand lent xs o r → IsWritten xs lent (spine (leave 0 o))
+stand_written {lent} {xs} {o} s = by (leave 0 o) (closes_by (depth_of o - 0) o) (leave_depth 0 o (omega arith))
   where
     by : (c : Opened) → Closes o c → depth_of c ≡ 0 → IsWritten xs lent (spine c)
     by (within a tag done) k d = absurd (omega (arith, d))
@@ -191,9 +182,5 @@ pub record Text (xs : List GivenItem) (lent : List ℕ) (n : ℕ) : Type 0 where
 
 pub text_of : (lent : List ℕ) (xs : List GivenItem) → AllFit lent start xs → Text xs lent (after_all start xs).size
 text_of lent xs h =
-    let k = stand_all lent [] xs (outside no_trees) start (stand_first lent) h in
-    record {
-      text = spine (leave 0 k.0);
-      written = stand_written lent xs k.0 (after_all start xs) k.1;
-      length = k.1.size ∙ sym (closes_by (depth_of k.0 - 0) k.0).long;
-    }
+    let k = stand_all xs (stand_first lent) h in
+    record { text = spine (leave 0 k.0); written = stand_written k.1; length = k.1.size ∙ sym (closes_by (depth_of k.0 - 0) k.0).long }

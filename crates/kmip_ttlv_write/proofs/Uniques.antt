@@ -1,14 +1,11 @@
 -- A list of lines is that of one list of trees; and the lines of a message's items.
-use Rattle.std.proofs.Common.{◌≡◌, ◌≢◌, inl, inr, ℕ, suc, ◌+◌, ◌<◌, ◌≤◌, Bool, true, false, List, [], ◌∷◌, ◌++◌, length, map, take, drop, refl, ap, sym, subst}
-use Rattle.std.proofs.Common.{◌∙◌, arith, append_assoc, append-nil, length-append, ◌==◌, if◌then◌else◌}
+use Rattle.std.proofs.Common.{◌≡◌, ◌≢◌, inl, inr, ℕ, suc, ◌+◌, ◌<◌, ◌≤◌, true, false, List, [], ◌∷◌, ◌++◌, length, map, take, drop, refl, ap, sym, subst, ◌∙◌}
+use Rattle.std.proofs.Common.{arith, append_assoc, append-nil, length-append, ◌==◌}
 use Rattle.std.specs.List.{AllByRecursion}
 use Rattle.std.proofs.lemmas.Bool.{ne_eqb}
 use Rattle.std.proofs.lemmas.List.{drop_at, drop-drop, length-drop}
-use Rattle.kmip_ttlv_types.specs.declared.typ.TtlvType.{TtlvType}
-use Rattle.kmip_ttlv_types.specs.declared.typ.TtlvType.TheVariants.{Structure}
-use Rattle.kmip_ttlv_types.specs.ItemTypes.{code}
-use Rattle.kmip_ttlv_types.specs.Items.{header, IsTextOf}
-use Rattle.kmip_ttlv_types.specs.Leaves.{is_valid}
+use Rattle.kmip_ttlv_types.specs.{declared.typ.TtlvType.TtlvType, declared.typ.TtlvType.TheVariants.Structure, ItemTypes.code, Items.header, Items.IsTextOf}
+use Rattle.kmip_ttlv_types.specs.{Leaves.is_valid}
 use Rattle.kmip_ttlv_types.specs.Trees.{Tree, Trees, leaf, node, no_trees, tree, bytes, bytes_below, IsTreeText, AreTreeTexts}
 use Rattle.kmip_ttlv_types.proofs.PlaceLemmas.{raw_with, text_length, item_at_text, code_one}
 use Rattle.kmip_ttlv_items.specs.declared.found.FoundItem.{FoundItem}
@@ -31,10 +28,10 @@ low_more d (tree (node tag below) ts) r h = omega arith
 
 -- the next item isn't of this depth
 low_not : (d : ℕ) (u : Tree) (r s : List Line) → r ≡ lines d u ++ s → IsLow d r → ⊥
-low_not d (leaf tag typ content) [] s e h = absurd cc
-low_not d (node tag below) [] s e h = absurd cc
 low_not d (leaf tag typ content) (l ∷ ls) s e h = let k : l ≡ line d tag (code typ) content = cc in omega (arith, h, ap (λ (m : Line). m.depth) k)
 low_not d (node tag below) (l ∷ ls) s e h = let k : l ≡ line d tag 1 [] = cc in omega (arith, h, ap (λ (m : Line). m.depth) k)
+low_not d (leaf tag typ content) [] s e h = absurd cc
+low_not d (node tag below) [] s e h = absurd cc
 
 same_leaf : (a b : ℕ) (t u : TtlvType) (x y : List ℕ) → a ≡ b → t ≡ u → x ≡ y → leaf a t x ≡ leaf b u y
 same_leaf a b t u x y e f g = ap (λ (n : ℕ). leaf n t x) e ∙ ap (λ (v : TtlvType). leaf b v x) f ∙ ap (λ (c : List ℕ). leaf b u c) g
@@ -92,11 +89,9 @@ mutual
   canon : (t : Tree) (text : List ℕ) → IsTreeText t text → Canon t text
   canon (leaf tag typ content) text h =
       let ne = leaf_not typ content h.0 in
-      record {
-        is = leaf_text tag typ content h.1.tag_fits ne h.1.length_fits h.0;
-        len = leaf_len tag typ content ∙ ap (λ (n : ℕ). 8 + length content + n) (sym (padding_is typ (length content) ne))
-            ∙ sym (text_length (raw_with tag typ content) text h.1);
-      }
+      let len : length (bytes (leaf tag typ content)) ≡ length text =
+      omega (arith, leaf_len tag typ content, padding_is typ (length content) ne, text_length (raw_with tag typ content) text h.1) in
+      record { is = leaf_text tag typ content h.1.tag_fits ne h.1.length_fits h.0; len = len }
   canon (node tag below) text h =
       let k = canons below h.0 h.2 in
       record {
@@ -116,27 +111,14 @@ pub record HasLines (w : List ℕ) (xs : List FoundItem) (ls : List Line) : Type
   pub same : map (line_of w) (map given_of xs) ≡ ls
   pub inside : AllByRecursion (IsInside w) (map given_of xs)
 
-both_have_lines : (w : List ℕ) (xs ys : List FoundItem) (ls ms : List Line) → HasLines w xs ls → HasLines w ys ms → HasLines w (xs ++ ys) (ls ++ ms)
-both_have_lines w [] ys ls ms a b = record { same = b.same ∙ ap (λ (s : List Line). s ++ ms) a.same; inside = b.inside }
-both_have_lines w (x ∷ xs) ys ls ms a b =
-    let k = both_have_lines w xs ys (map (line_of w) (map given_of xs)) ms record { same = refl; inside = a.inside.1 } b in
+both_have_lines : {w : List ℕ} (xs : List FoundItem) {ys : List FoundItem} {ls ms : List Line} → HasLines w xs ls → HasLines w ys ms
+    → HasLines w (xs ++ ys) (ls ++ ms)
+both_have_lines [] {ms = ms} a b = record { same = b.same ∙ ap (λ (s : List Line). s ++ ms) a.same; inside = b.inside }
+both_have_lines {w} (x ∷ xs) {ms = ms} a b =
+    let k = both_have_lines xs {ls = map (line_of w) (map given_of xs)} record { same = refl; inside = a.inside.1 } b in
     record { same = ap (λ (s : List Line). line_of w (given_of x) ∷ s) k.same ∙ ap (λ (s : List Line). s ++ ms) a.same; inside = (a.inside.0, k.inside) }
 
 module _ (w : List ℕ) where
-  leaf_has_lines : (p d tag : ℕ) (typ : TtlvType) (content text rest : List ℕ) → p ≤ length w → drop p w ≡ text ++ rest → IsTreeText (leaf tag typ content) text
-      → HasLines w (listed p d (leaf tag typ content)) (lines d (leaf tag typ content))
-  leaf_has_lines p d tag typ content text rest le at h =
-      let here = item_at_text w p (raw_with tag typ content) text rest le at h.1 in
-      let ne = leaf_not typ content h.0 in
-      let not-one : code typ ≢ 1 = λ one. ne (code_one typ Structure one) in
-      let k : (code typ == 1) ≡ false = ne_eqb (code typ) 1 not-one in
-      let there : take (length content) (drop (p + 8) w) ≡ content = ap (λ (n : ℕ). take n (drop (p + 8) w)) here.len ∙ sym here.content in
-      record {
-        same = ap (λ (b : Bool). line d tag (code typ) (if b then [] else take (length content) (drop (p + 8) w)) ∷ []) k
-            ∙ ap (λ (c : List ℕ). line d tag (code typ) c ∷ []) there;
-        inside = (inr (omega (arith, here.there, here.len)), tt);
-      }
-
   inner_at : (p tag : ℕ) (content text rest : List ℕ) → drop p w ≡ text ++ rest → IsTextOf (raw_with tag Structure content) text
       → drop (p + 8) w ≡ content ++ rest
   inner_at p tag content text rest at h =
@@ -152,7 +134,12 @@ module _ (w : List ℕ) where
   mutual
     tree_has_lines : (p d : ℕ) (t : Tree) (text rest : List ℕ) → p ≤ length w → drop p w ≡ text ++ rest → IsTreeText t text
         → HasLines w (listed p d t) (lines d t)
-    tree_has_lines p d (leaf tag typ content) text rest le at h = leaf_has_lines p d tag typ content text rest le at h
+    tree_has_lines p d (leaf tag typ content) text rest le at h =
+        let here = item_at_text w p (raw_with tag typ content) text rest le at h.1 in
+        let not-one : code typ ≢ 1 = λ one. (leaf_not typ content h.0) (code_one typ Structure one) in
+        let k : (code typ == 1) ≡ false = ne_eqb (code typ) 1 not-one in
+        let there : take (length content) (drop (p + 8) w) ≡ content = ap (λ (n : ℕ). take n (drop (p + 8) w)) here.len ∙ sym here.content in
+        record { same = rw (k, there) refl; inside = (inr (omega (arith, here.there, here.len)), tt) }
     tree_has_lines p d (node tag below) text rest le at h =
         let fits : p + 8 ≤ length w = omega (arith, length-drop p w, ap length at, length-append text rest, text_length (raw_with tag Structure h.0) text h.1)
         in
@@ -167,9 +154,7 @@ module _ (w : List ℕ) where
         let long : length h.0 ≡ span t = text_span t h.0 h.3 in
         let next : drop (p + span t) w ≡ h.1 ++ rest = sym (drop-drop (span t) p w) ∙ ap (drop (span t)) here ∙ drop_at h.0 (h.1 ++ rest) (span t) long in
         let fits : p + span t ≤ length w = omega (arith, length-drop p w, ap length here, length-append h.0 (h.1 ++ rest), long) in
-        both_have_lines w (listed p d t) (listed_all (p + span t) d ts) (lines d t) (lines_below d ts)
-        (tree_has_lines p d t h.0 (h.1 ++ rest) le here h.3)
-        (trees_have_lines (p + span t) d ts h.1 rest fits next h.4)
+        both_have_lines (listed p d t) (tree_has_lines p d t h.0 (h.1 ++ rest) le here h.3) (trees_have_lines (p + span t) d ts h.1 rest fits next h.4)
 
 pub message_has_lines : (message : List ℕ) (t : Tree) → IsTreeText t message → HasLines message (listed 0 0 t) (lines 0 t)
 message_has_lines message t h = tree_has_lines message 0 0 t message [] (omega arith) (sym (append-nil message)) h

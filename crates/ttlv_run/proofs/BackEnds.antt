@@ -1,22 +1,14 @@
 -- Reading a line of diagnostics back ends somewhere, so each text has a first line that is not whole, or none.
 use Rattle.std.proofs.Common.{◌≡◌, ℕ, zero, suc, ◌+◌, ◌<◌, List, [], ◌∷◌, ◌++◌, length, take, drop, Option, Some, None, refl, sym, ap, subst, ◌∙◌, arith}
 use Rattle.std.proofs.Common.{append_assoc, length-append}
-use Rattle.std.specs.List.{prefix_len}
-use Rattle.std.specs.Str.{trim_end}
-use Rattle.std.proofs.lemmas.List.{take-append-drop}
-use Rattle.std.proofs.Math.Seq.{drop-append_seam}
-use Rattle.kmip_ttlv_types.specs.declared.typ.TtlvType.{TtlvType}
-use Rattle.kmip_ttlv_types.specs.declared.typ.TtlvType.TheVariants.{Structure, Integer, LongInteger, BigInteger, Enumeration, Boolean, TextString, ByteString}
-use Rattle.kmip_ttlv_types.specs.declared.typ.TtlvType.TheVariants.{DateTime, Interval}
+use Rattle.std.specs.{List.prefix_len, Str.trim_end}
+use Rattle.std.proofs.{lemmas.List.take-append-drop, Math.Seq.drop-append_seam}
+use Rattle.kmip_ttlv_types.specs.declared.typ.TtlvType.{TtlvType, TheVariants.Enumeration}
 use Rattle.kmip_ttlv_util.specs.Letters.{letter, is_hex}
 use Rattle.kmip_ttlv_util.specs.Undiag.{Step, reads_on, stops_with, step}
-use Rattle.kmip_ttlv_util.specs.ReadBack.{close_part, item_part}
-use Rattle.kmip_ttlv_util.specs.ReadBack.{Part, IsPartTail, IsPartAt, StandAll}
-use Rattle.kmip_ttlv_util.proofs.Longest.{StepIs, step_is}
-use Rattle.kmip_ttlv_util.proofs.Reading.{Shorter, step_shorter}
-use Rattle.ttlv_run.specs.declared.back.BackFault.{BackFault}
-use Rattle.ttlv_run.specs.declared.back.BackFaultKind.{BackFaultKind}
-use Rattle.ttlv_run.specs.declared.back.BackFaultKind.TheVariants.{NoPart, LeftOpen}
+use Rattle.kmip_ttlv_util.specs.ReadBack.{close_part, item_part, Part, IsPartTail, IsPartAt, StandAll}
+use Rattle.kmip_ttlv_util.proofs.{Longest.StepIs, Longest.step_is, Reading.Shorter, Reading.step_shorter}
+use Rattle.ttlv_run.specs.declared.back.{BackFault.BackFault, BackFaultKind.BackFaultKind, BackFaultKind.TheVariants.NoPart, BackFaultKind.TheVariants.LeftOpen}
 use Rattle.ttlv_run.specs.Backs.{IsWrong, Breaks, Tries, FirstBreak, all_whole, breaks_here, whole_here}
 
 module _ (prefix : List ℕ) where
@@ -32,16 +24,8 @@ module _ (prefix : List ℕ) where
 
   -- what stands behind a letter ends where the rest begins
   behind_front : (typ : TtlvType) (after shown rest : List ℕ) → IsPartTail typ after shown rest → (f : List ℕ) × (after ≡ f ++ rest)
-  behind_front Structure after shown rest h = ([], sym h.1)
-  behind_front Integer after shown rest h = ([], sym h.1)
-  behind_front LongInteger after shown rest h = ([], sym h.1)
-  behind_front BigInteger after shown rest h = ([], sym h.1)
   behind_front Enumeration after shown rest h = (shown ++ (58 ∷ []), h.2 ∙ sym (append_assoc shown (58 ∷ []) rest))
-  behind_front Boolean after shown rest h = ([], sym h.1)
-  behind_front TextString after shown rest h = ([], sym h.1)
-  behind_front ByteString after shown rest h = ([], sym h.1)
-  behind_front DateTime after shown rest h = ([], sym h.1)
-  behind_front Interval after shown rest h = ([], sym h.1)
+  behind_front typ after shown rest h = ([], sym h.1)
 
   -- so does a part
   part_front : (depth : ℕ) (s : List ℕ) (p : Part) (rest : List ℕ) → IsPartAt prefix depth s p rest → (f : List ℕ) × (s ≡ f ++ rest)
@@ -74,7 +58,7 @@ module _ (prefix : List ℕ) where
   longest : (most depth : ℕ) (s : List ℕ) → length s < most → Longest depth s
   longest zero depth s lt = absurd (omega arith)
   longest (suc most) depth s lt = by (step beginning prefix depth s) (step_is beginning prefix depth s) (step_shorter beginning prefix depth s)
-      (λ d r le. longest most d r le)
+      (longest most)
     where
       by : (t : Step) → StepIs beginning prefix depth s t → Shorter beginning depth s t → ((d : ℕ) (r : List ℕ) → length r < most → Longest d r)
           → Longest depth s
@@ -100,26 +84,15 @@ module _ (prefix : List ℕ) where
       }
 
   line_tried : (at : ℕ) (line : List ℕ) → (o : Option BackFault) × Tries prefix at line o
-  line_tried at line = by (longest (suc (length (trim_end line))) 0 (trim_end line) (omega arith))
+  line_tried at line = by k.deep k.rest refl refl
     where
-      closed : (k : Longest 0 (trim_end line)) (deep : ℕ) (rest : List ℕ) → k.deep ≡ deep → k.rest ≡ rest → (o : Option BackFault) × Tries prefix at line o
-      closed k zero [] d r = (
-        None,
-        (
-          k.parts,
-          subst (λ (q : List ℕ). StandAll prefix 0 (trim_end line) k.parts 0 q) r
-              (subst (λ (n : ℕ). StandAll prefix 0 (trim_end line) k.parts n k.rest) d k.stand),
-        ),
-      )
-      closed k (suc deep) [] d r = (
-        Some (record { offset = at + length k.front; kind = LeftOpen }),
-        breaks_at at line k LeftOpen
-            (ap length r, omega (arith, d)),
-      )
-      closed k deep (c ∷ rest) d r = (Some (record { offset = at + length k.front; kind = NoPart }), breaks_at at line k NoPart (omega (arith, ap length r)))
+      k : Longest 0 (trim_end line)
+      k = longest (suc (length (trim_end line))) 0 (trim_end line) (omega arith)
 
-      by : (k : Longest 0 (trim_end line)) → (o : Option BackFault) × Tries prefix at line o
-      by k = closed k k.deep k.rest refl refl
+      by : (deep : ℕ) (rest : List ℕ) → k.deep ≡ deep → k.rest ≡ rest → (o : Option BackFault) × Tries prefix at line o
+      by zero [] d r = let stand = rw (d, r) at k.stand in (None, (k.parts, stand))
+      by (suc deep) [] d r = (Some (record { offset = at + length k.front; kind = LeftOpen }), breaks_at at line k LeftOpen (ap length r, omega (arith, d)))
+      by deep (c ∷ rest) d r = (Some (record { offset = at + length k.front; kind = NoPart }), breaks_at at line k NoPart (omega (arith, ap length r)))
 
   first_by : (at : ℕ) (line : List ℕ) (more : List (List ℕ)) (o : Option BackFault) → Tries prefix at line o
       → ((next : ℕ) → (f : Option BackFault) × FirstBreak prefix next more f) → (f : Option BackFault) × FirstBreak prefix at (line ∷ more) f

@@ -1,28 +1,22 @@
 -- Lines of diagnostics that come one behind the other: what they are read back as, the first that is not whole, and text.
-use Rattle.std.proofs.Common.{arith, ◌≡◌, ◌⊎◌, inl, inr, ℕ, suc, ◌+◌, ◌-◌, ◌<◌, ◌≤◌, Bool, true, false, not, List, [], ◌∷◌, ◌++◌, length, get_or, take, drop}
+use Rattle.std.proofs.Common.{arith, ◌≡◌, inl, inr, ℕ, suc, ◌+◌, ◌-◌, ◌<◌, ◌≤◌, Bool, true, false, not, List, [], ◌∷◌, ◌++◌, length, get_or, take, drop}
 use Rattle.std.proofs.Common.{take-add, take_all, drop-cons, Option, Some, None, ap, sym, refl, subst, ◌∙◌, append-nil, append_assoc, length-append}
 use Rattle.std.proofs.Common.{take-append-drop}
 use Rattle.std.specs.List.{All, flat_map, position_or_len, before_first, after_first}
-use Rattle.std.specs.Option.{option_or}
-use Rattle.std.specs.Str.{IsUtf8}
+use Rattle.std.specs.{Option.option_or, Str.IsUtf8}
 use Rattle.std.proofs.lemmas.Bool.{ne_eqb, eqb-true, cases_lt}
-use Rattle.std.proofs.lemmas.Grind.{flat_map-append}
-use Rattle.std.proofs.lemmas.List.{drop-drop, length-drop, length-take-le, get_or_append_left, get_or-drop}
-use Rattle.std.proofs.lemmas.List.Concat.{flat_map-cons}
-use Rattle.std.proofs.lemmas.List.Elements.{All-from_get_or}
+use Rattle.std.proofs.lemmas.{Grind.flat_map-append, Str.Ascii.IsAscii-cons, Str.Ascii.IsAscii-nil}
+use Rattle.std.proofs.lemmas.List.{drop-drop, length-drop, length-take-le, get_or_append_left, get_or-drop, Concat.flat_map-cons, Elements.All-from_get_or}
+use Rattle.std.proofs.lemmas.List.{Sums.passes_at_first, Sums.prefix_len-le-length}
 use Rattle.std.proofs.lemmas.List.Splits.{slice_split_at, slice_split_none, slice_split_first}
-use Rattle.std.proofs.lemmas.List.Sums.{passes_at_first, prefix_len-le-length}
 use Rattle.std.proofs.lemmas.Str.{IsUtf8-nil, IsUtf8-append, IsUtf8-take, IsUtf8-drop, IsUtf8-from_ascii, IsCharBoundary-before_ascii, IsCharBoundary-from_take}
-use Rattle.std.proofs.lemmas.Str.Ascii.{IsAscii-cons, IsAscii-nil}
 use Rattle.kmip_ttlv_util.proofs.Firm.{trim_nil}
 use Rattle.kmip_ttlv_names.specs.NameTables.{is_line_feed, lines_of}
 use Rattle.kmip_ttlv_names.proofs.Tables.{last_line}
-use Rattle.ttlv_run.specs.declared.back.BackFault.{BackFault}
-use Rattle.ttlv_run.specs.declared.back.BackReached.{BackReached}
-use Rattle.ttlv_run.specs.declared.back.BackReached.TheVariants.{Behind, NoText}
+use Rattle.ttlv_run.specs.{declared.back.BackFault.BackFault, declared.back.BackReached.BackReached, declared.back.BackReached.TheVariants.Behind}
+use Rattle.ttlv_run.specs.{declared.back.BackReached.TheVariants.NoText, Streaming.Yields, Texts.line_back, Texts.text_back}
 use Rattle.ttlv_run.specs.Backs.{Tries, FirstBreak, breaks_here, whole_here, all_whole, IsOneLine, IsLineAt, AreLines, FirstFrom, Finds, ReadsLines, ReadsBack}
 use Rattle.ttlv_run.specs.Backs.{ReadsFront}
-use Rattle.ttlv_run.specs.Texts.{line_back, text_back}
 use Rattle.ttlv_run.proofs.Backs.{empty_back}
 
 -- a line with its line feed
@@ -39,9 +33,10 @@ pub only_line : (line : List ℕ) → IsOneLine line → lines_of line ≡ line 
 only_line line one = slice_split_none is_line_feed line (no_feed line one)
 
 -- no line feed came
-pub still_one_line : (before after came : List ℕ) → after ≡ before ++ came → IsOneLine before → IsOneLine (drop (length before) after) → IsOneLine after
-still_one_line before after came is a b k lt h = elim (cases_lt k (length before)) [
-  | inl small ↦ a k small (sym (get_or_append_left before came 0 k small) ∙ sym (ap (λ (s : List ℕ). get_or s k 0) is) ∙ h)
+pub still_one_line : {old new : Option (List ℕ)} {before after : List ℕ} → Yields old new before after → IsOneLine before
+    → IsOneLine (drop (length before) after) → IsOneLine after
+still_one_line {before = before} {after} y a b k lt h = elim (cases_lt k (length before)) [
+  | inl small ↦ a k small (sym (get_or_append_left before y.came 0 k small) ∙ sym (ap (λ (s : List ℕ). get_or s k 0) y.are) ∙ h)
   | inr le ↦ there le
 ]
   where
@@ -56,8 +51,8 @@ still_one_line before after came is a b k lt h = elim (cases_lt k (length before
 no_lines : AreLines []
 no_lines = record { lines = []; are = λ more. refl }
 
-pub lines_append : (s t : List ℕ) → AreLines s → AreLines t → AreLines (s ++ t)
-lines_append s t a b = record {
+pub lines_append : {s t : List ℕ} → AreLines s → AreLines t → AreLines (s ++ t)
+lines_append {s} {t} a b = record {
   lines = a.lines ++ b.lines;
   are = λ more. ap lines_of (append_assoc s t more) ∙ a.are (t ++ more) ∙ ap (λ (ls : List (List ℕ)). a.lines ++ ls) (b.are more)
       ∙ sym (append_assoc a.lines b.lines (lines_of more));
@@ -71,15 +66,14 @@ one_line line one = record { lines = line ∷ []; are = λ more. first_of_lines 
 module _ (tags : ℕ → Option (List ℕ)) (prefix : List ℕ) where
   pub nothing_back : text_back tags prefix [] ≡ []
   unfolding text_back
-  nothing_back = flat_map-cons (line_back tags prefix) [] [] ∙ append-nil (line_back tags prefix []) ∙ empty_back tags prefix [] [] (sym trim_nil) refl
+  nothing_back = flat_map-cons (line_back tags prefix) [] [] ∙ append-nil (line_back tags prefix []) ∙ empty_back tags prefix [] (sym trim_nil) refl
 
   lines_back : (s more : List ℕ) (a : AreLines s) → text_back tags prefix (s ++ more) ≡ flat_map (line_back tags prefix) a.lines ++ text_back tags prefix more
   unfolding text_back
   lines_back s more a = ap (flat_map (line_back tags prefix)) (a.are more) ∙ flat_map-append (line_back tags prefix) a.lines (lines_of more)
 
   only_lines_back : (s : List ℕ) (a : AreLines s) → text_back tags prefix s ≡ flat_map (line_back tags prefix) a.lines
-  only_lines_back s a =
-      ap (text_back tags prefix) (sym (append-nil s)) ∙ lines_back s [] a
+  only_lines_back s a = ap (text_back tags prefix) (sym (append-nil s)) ∙ lines_back s [] a
       ∙ ap (λ (t : List ℕ). flat_map (line_back tags prefix) a.lines ++ t) nothing_back ∙ append-nil (flat_map (line_back tags prefix) a.lines)
 
   pub back_append : (s t : List ℕ) → AreLines s → text_back tags prefix (s ++ t) ≡ text_back tags prefix s ++ text_back tags prefix t
@@ -105,8 +99,7 @@ module _ (prefix : List ℕ) where
 
   pub finds_line : (at : ℕ) (line : List ℕ) (found : Option BackFault) → IsOneLine line → Tries prefix at line found → Finds prefix at (with_feed line) found
   finds_line at line (Some f) one tries more first h =
-      subst (λ (ls : List (List ℕ)). FirstBreak prefix at ls first) (sym (first_of_lines line more one))
-      (subst (λ (o : Option BackFault). FirstBreak prefix at (line ∷ lines_of more) o) (sym h) (breaks_here at line (lines_of more) f tries))
+      rw (first_of_lines line more one, h) (breaks_here at line (lines_of more) f tries)
   finds_line at line None one tries more first h =
       let next : at + length (with_feed line) ≡ at + length line + 1 = omega (arith, length-append line (10 ∷ [])) in
       subst (λ (ls : List (List ℕ)). FirstBreak prefix at ls first) (sym (first_of_lines line more one))
@@ -129,10 +122,9 @@ module _ (prefix : List ℕ) where
   -- a line at the end
   pub first_last : (at : ℕ) (line : List ℕ) (found : Option BackFault) → IsOneLine line → Tries prefix at line found
       → FirstBreak prefix at (lines_of line) found
-  first_last at line (Some f) one tries = subst (λ (ls : List (List ℕ)). FirstBreak prefix at ls (Some f)) (sym (only_line line one))
-      (breaks_here at line [] f tries)
-  first_last at line None one tries = subst (λ (ls : List (List ℕ)). FirstBreak prefix at ls None) (sym (only_line line one))
-      (whole_here at (at + length line + 1) line [] None tries refl (all_whole (at + length line + 1)))
+  first_last at line (Some f) one tries = rw (only_line line one) (breaks_here at line [] f tries)
+  first_last at line None one tries =
+      rw (only_line line one) (whole_here at (at + length line + 1) line [] None tries refl (all_whole (at + length line + 1)))
 
 -- ---- text
 
@@ -143,8 +135,7 @@ line_text line u = IsUtf8-append line (10 ∷ []) u (IsUtf8-from_ascii (10 ∷ [
 pub first_text : (s line : List ℕ) (others : List (List ℕ)) → lines_of s ≡ line ∷ others → IsUtf8 s → IsUtf8 line
 first_text s line others is u = elim (cases_lt (position_or_len is_line_feed s) (length s)) [
   | inl lt ↦ inner lt
-  | inr le ↦
-      all (omega (arith, le, prefix_len-le-length (λ c. not (is_line_feed c)) s))
+  | inr le ↦ all (omega (arith, le, prefix_len-le-length (λ c. not (is_line_feed c)) s))
 ]
   where
     inner : position_or_len is_line_feed s < length s → IsUtf8 line
@@ -167,7 +158,7 @@ rest_text s at le front u = IsUtf8-drop s at u (IsCharBoundary-from_take s at u 
 
 -- ---- a line among bytes
 
-module _ (bytes : List ℕ) (at : ℕ) (line : List ℕ) (l : IsLineAt bytes at line) where
+module _ {bytes : List ℕ} {at : ℕ} {line : List ℕ} (l : IsLineAt bytes at line) where
   feed_there : take (length line + 1) (drop at bytes) ≡ with_feed line
   feed_there =
       let lt : at + length line < length bytes = l.within in
@@ -182,166 +173,145 @@ module _ (bytes : List ℕ) (at : ℕ) (line : List ℕ) (l : IsLineAt bytes at 
   through_line = take-add at (length line + 1) bytes ∙ ap (λ (s : List ℕ). take at bytes ++ s) feed_there
 
   pub behind_line : drop at bytes ≡ with_feed line ++ drop (at + (length line + 1)) bytes
-  behind_line =
-      sym (take-append-drop (length line + 1) (drop at bytes))
+  behind_line = sym (take-append-drop (length line + 1) (drop at bytes))
       ∙ ap (λ (s : List ℕ). s ++ drop (length line + 1) (drop at bytes)) feed_there
       ∙ ap (λ (s : List ℕ). with_feed line ++ s) (drop-drop (length line + 1) at bytes)
 
   pub within_line : at + (length line + 1) ≤ length bytes
   within_line = omega (arith, l.within)
 
+-- all bytes are their own front
+all_front : {tags : ℕ → Option (List ℕ)} {prefix bytes text : List ℕ} {last : Bool} → last ≡ true → IsUtf8 bytes → text ≡ text_back tags prefix bytes
+    → ReadsFront tags prefix bytes last text
+all_front {tags} {prefix} {bytes} end u is =
+    let all : take (length bytes) bytes ≡ bytes = take_all (length bytes) bytes (omega arith) in
+    record {
+      count = length bytes;
+      within = omega arith;
+      ends = inr (end, refl);
+      is_text = subst IsUtf8 (sym all) u;
+      is = is ∙ ap (text_back tags prefix) (sym all);
+    }
+
 -- the lines up to a place were read back, and the first that is not whole was looked for
-abbrev pub Lined : (ℕ → Option (List ℕ)) → List ℕ → ℕ → List ℕ → ℕ → Option BackFault → List ℕ → Type 0
-Lined tags prefix base bytes at found text = ReadsLines tags prefix bytes at text × Finds prefix base (take at bytes) found
+pub record Lined (tags : ℕ → Option (List ℕ)) (prefix : List ℕ) (base : ℕ) (bytes : List ℕ) (at : ℕ) (found : Option BackFault) (text : List ℕ) : Type 0 where
+  pub reads : ReadsLines tags prefix bytes at text
+  pub finds : Finds prefix base (take at bytes) found
 
-module _ (tags : ℕ → Option (List ℕ)) (prefix : List ℕ) (base : ℕ) (bytes : List ℕ) where
-  pub lined_none : Lined tags prefix base bytes 0 None []
-  lined_none = (record { within = omega arith; lines = no_lines; is_text = IsUtf8-nil; is = sym (nothing_back tags prefix) }, finds_none prefix base)
+pub lined_none : {tags : ℕ → Option (List ℕ)} {prefix : List ℕ} {base : ℕ} {bytes : List ℕ} → Lined tags prefix base bytes 0 None []
+lined_none {tags} {prefix} {base} = record {
+  reads = record { within = omega arith; lines = no_lines; is_text = IsUtf8-nil; is = sym (nothing_back tags prefix) };
+  finds = finds_none prefix base;
+}
 
-  module _ (at : ℕ) (found : Option BackFault) (text : List ℕ) (read : Lined tags prefix base bytes at found text) where
-    long : length (take at bytes) ≡ at
-    long = length-take-le at bytes read.0.within
+module _ {tags : ℕ → Option (List ℕ)} {prefix : List ℕ} {base : ℕ} {bytes : List ℕ} {at : ℕ} {found : Option BackFault} {text : List ℕ}
+    (read : Lined tags prefix base bytes at found text) where
+  long : length (take at bytes) ≡ at
+  long = length-take-le at bytes read.reads.within
 
-    -- a line more
-    module _ (line : List ℕ) (l : IsLineAt bytes at line) where
-      pub line_read : IsUtf8 line → ReadsLines tags prefix bytes (at + (length line + 1)) (text ++ line_back tags prefix line)
-      line_read u =
-          let whole = through_line bytes at line l in
-          record {
-            within = within_line bytes at line l;
-            lines = subst AreLines (sym whole) (lines_append (take at bytes) (with_feed line) read.0.lines (one_line line l.one_line));
-            is_text = subst IsUtf8 (sym whole) (IsUtf8-append (take at bytes) (with_feed line) read.0.is_text (line_text line u));
-            is =
-                ap (λ (t : List ℕ). t ++ line_back tags prefix line) read.0.is
-                ∙ ap (λ (t : List ℕ). text_back tags prefix (take at bytes) ++ t) (sym (back_line tags prefix line l.one_line))
-                ∙ sym (back_append tags prefix (take at bytes) (with_feed line) read.0.lines)
-                ∙ ap (text_back tags prefix) (sym whole);
-          }
-
-      pub line_more : IsUtf8 line → (fault : Option BackFault) → Tries prefix (base + at) line fault → Lined tags prefix base bytes (at + (length line + 1))
-          (option_or found fault) (text ++ line_back tags prefix line)
-      line_more u fault tries =
-          let tried : Finds prefix (base + length (take at bytes)) (with_feed line) fault = subst (λ (n : ℕ). Finds prefix (base + n) (with_feed line) fault)
-          (sym long) (finds_line prefix (base + at) line fault l.one_line tries) in (
-            line_read u,
-            subst (λ (s : List ℕ). Finds prefix base s (option_or found fault)) (sym (through_line bytes at line l))
-                (finds_on prefix base (take at bytes) (with_feed line) found fault read.1 tried),
-          )
-
-      pub line_broken : (last : Bool) → IsUtf8 line → ReadsFront tags prefix bytes last (text ++ line_back tags prefix line)
-      line_broken last u = let r = line_read u in record {
-        count = at + (length line + 1);
-        within = r.within;
-        ends = inl r.lines;
-        is_text =
-            r.is_text;
-        is = r.is;
-      }
-
-      pub line_no_text : (last : Bool) → (IsUtf8 line → ⊥) → ReadsBack tags prefix base bytes last NoText text
-      line_no_text last other = (
-        at,
-        read.0,
+  -- a line more
+  module _ {line s : List ℕ} (l : IsLineAt bytes at line) (same : s ≡ line) (u : IsUtf8 line) where
+    line_read : ReadsLines tags prefix bytes (at + (length line + 1)) (text ++ line_back tags prefix s)
+    line_read =
+        let whole = through_line l in
         record {
-          line = line;
-          no_text = other;
-          first = λ more end. (
-            lines_of (drop (at + (length line + 1)) bytes ++ more),
-            ap (λ (s : List ℕ). lines_of (s ++ more)) (behind_line bytes at line l)
-                ∙ ap lines_of (append_assoc (with_feed line) (drop (at + (length line + 1)) bytes) more)
-                ∙ first_of_lines line (drop (at + (length line + 1)) bytes ++ more) l.one_line,
-          );
-        },
-      )
+          within = within_line l;
+          lines = subst AreLines (sym whole) (lines_append read.reads.lines (one_line line l.one_line));
+          is_text = subst IsUtf8 (sym whole) (IsUtf8-append (take at bytes) (with_feed line) read.reads.is_text (line_text line u));
+          is = ap (λ (t : List ℕ). t ++ line_back tags prefix s) read.reads.is
+              ∙ ap (λ (t : List ℕ). text_back tags prefix (take at bytes) ++ t) (ap (line_back tags prefix) same ∙ sym (back_line tags prefix line l.one_line))
+              ∙ sym (back_append tags prefix (take at bytes) (with_feed line) read.reads.lines)
+              ∙ ap (text_back tags prefix) (sym whole);
+        }
 
-    -- the last line
-    module _ (one : IsOneLine (drop at bytes)) where
-      rest : List ℕ
-      rest = drop at bytes
+    pub line_more : {all : Option BackFault} (fault : Option BackFault) → Tries prefix (base + at) s fault → all ≡ option_or found fault
+        → Lined tags prefix base bytes (at + (length line + 1)) all (text ++ line_back tags prefix s)
+    line_more fault tries is =
+        let tried = finds_line prefix (base + at) line fault l.one_line (subst (λ (t : List ℕ). Tries prefix (base + at) t fault) same tries) in
+        record {
+          reads = line_read;
+          finds = rw (is, through_line l) (finds_on prefix base (take at bytes) (with_feed line) found fault read.finds
+              (subst (λ (n : ℕ). Finds prefix (base + n) (with_feed line) fault) (sym long) tried));
+        }
 
-      pub all_read : text ++ line_back tags prefix (drop at bytes) ≡ text_back tags prefix bytes
-      all_read =
-          ap (λ (t : List ℕ). t ++ line_back tags prefix (drop at bytes)) read.0.is
-          ∙ ap (λ (t : List ℕ). text_back tags prefix (take at bytes) ++ t) (sym (back_last tags prefix (drop at bytes) one))
-          ∙ sym (back_append tags prefix (take at bytes) (drop at bytes) read.0.lines)
+    pub line_broken : {last : Bool} → ReadsFront tags prefix bytes last (text ++ line_back tags prefix s)
+    line_broken =
+        record { count = at + (length line + 1); within = line_read.within; ends = inl line_read.lines; is_text = line_read.is_text; is = line_read.is }
+
+  pub line_no_text : {last : Bool} {line : List ℕ} → IsLineAt bytes at line → (IsUtf8 line → ⊥) → ReadsBack tags prefix base bytes last NoText text
+  line_no_text {line = line} l other = (
+    at,
+    read.reads,
+    record {
+      line = line;
+      no_text = other;
+      first = λ more end. (
+        lines_of (drop (at + (length line + 1)) bytes ++ more),
+        ap (λ (s : List ℕ). lines_of (s ++ more)) (behind_line l)
+            ∙ ap lines_of (append_assoc (with_feed line) (drop (at + (length line + 1)) bytes) more)
+            ∙ first_of_lines line (drop (at + (length line + 1)) bytes ++ more) l.one_line,
+      );
+    },
+  )
+
+  -- the last line
+  module _ {last : Bool} {rest : List ℕ} (one : IsOneLine (drop at bytes)) (same : rest ≡ drop at bytes) (end : last ≡ true) where
+    module _ (u : IsUtf8 rest) where
+      all_read : text ++ line_back tags prefix rest ≡ text_back tags prefix bytes
+      all_read = ap (λ (t : List ℕ). t ++ line_back tags prefix rest) read.reads.is
+          ∙ ap (λ (t : List ℕ). text_back tags prefix (take at bytes) ++ t) (ap (line_back tags prefix) same ∙ sym (back_last tags prefix (drop at bytes) one))
+          ∙ sym (back_append tags prefix (take at bytes) (drop at bytes) read.reads.lines)
           ∙ ap (text_back tags prefix) (take-append-drop at bytes)
 
-      all_text : IsUtf8 (drop at bytes) → IsUtf8 bytes
-      all_text u = subst IsUtf8 (take-append-drop at bytes) (IsUtf8-append (take at bytes) (drop at bytes) read.0.is_text u)
+      all_text : IsUtf8 bytes
+      all_text = subst IsUtf8 (take-append-drop at bytes) (IsUtf8-append (take at bytes) (drop at bytes) read.reads.is_text (subst IsUtf8 same u))
 
-      pub last_more : IsUtf8 (drop at bytes) → (fault : Option BackFault) → Tries prefix (base + at) (drop at bytes) fault
-          → ReadsBack tags prefix base bytes true (Behind (length bytes) (option_or found fault)) (text ++ line_back tags prefix (drop at bytes))
-      last_more u fault tries =
+      pub last_more : {all : Option BackFault} (fault : Option BackFault) → Tries prefix (base + at) rest fault → all ≡ option_or found fault
+          → ReadsBack tags prefix base bytes last (Behind (length bytes) all) (text ++ line_back tags prefix rest)
+      last_more fault tries is =
           let tried : FirstBreak prefix (base + length (take at bytes)) (lines_of (drop at bytes)) fault =
-          subst (λ (n : ℕ). FirstBreak prefix (base + n) (lines_of (drop at bytes)) fault) (sym long)
-          (first_last prefix (base + at) (drop at bytes) fault one tries) in (
-            refl,
-            all_text u,
-            all_read,
-            subst (λ (s : List ℕ). FirstBreak prefix base (lines_of s) (option_or found fault)) (take-append-drop at bytes)
-                (finds_last prefix base (take at bytes) (drop at bytes) found fault read.1 tried),
-          )
+          rw long (first_last prefix (base + at) (drop at bytes) fault one (subst (λ (t : List ℕ). Tries prefix (base + at) t fault) same tries)) in
+          let all = finds_last prefix base (take at bytes) (drop at bytes) found fault read.finds tried in
+          rw (end, is) (refl, all_text, all_read, rw take-append-drop at all)
 
-      pub last_broken : IsUtf8 (drop at bytes) → ReadsFront tags prefix bytes true (text ++ line_back tags prefix (drop at bytes))
-      last_broken u =
-          let all : take (length bytes) bytes ≡ bytes = take_all (length bytes) bytes (omega arith) in
-          record {
-            count = length bytes;
-            within = omega arith;
-            ends = inr (refl, refl);
-            is_text = subst IsUtf8 (sym all) (all_text u);
-            is = all_read
-                ∙ ap (text_back tags prefix) (sym all);
-          }
+      pub last_broken : ReadsFront tags prefix bytes last (text ++ line_back tags prefix rest)
+      last_broken = all_front end all_text all_read
 
-      pub last_no_text : (IsUtf8 (drop at bytes) → ⊥) → ReadsBack tags prefix base bytes true NoText text
-      last_no_text other = (
-        at,
-        read.0,
-        record {
-          line = drop at bytes;
-          no_text = other;
-          first = λ more end. (
-            [],
-            ap (λ (m : List ℕ). lines_of (drop at bytes ++ m)) (end refl) ∙ ap lines_of (append-nil (drop at bytes))
-                ∙ only_line (drop at bytes) one,
-          );
-        },
-      )
+    pub last_no_text : (IsUtf8 rest → ⊥) → ReadsBack tags prefix base bytes last NoText text
+    last_no_text other = (
+      at,
+      read.reads,
+      record {
+        line = drop at bytes;
+        no_text = λ u. other (subst IsUtf8 (sym same) u);
+        first = λ more none. (
+          [],
+          ap (λ (m : List ℕ). lines_of (drop at bytes ++ m)) (none end) ∙ ap lines_of (append-nil (drop at bytes)) ∙ only_line (drop at bytes) one,
+        );
+      },
+    )
 
--- ---- bytes that are not the last
+-- ---- where printing ended
 
-false_is_true : false ≡ true → ⊥
-false_is_true e = cc
+module _ {tags : ℕ → Option (List ℕ)} {prefix : List ℕ} (base : ℕ) {bytes : List ℕ} {reached : BackReached} {text : List ℕ}
+    (r : ReadsBack tags prefix base bytes false reached text) where
+  pub lined_behind : {count : ℕ} {found : Option BackFault} → reached ≡ Behind count found
+      → Lined tags prefix base bytes count found text × IsOneLine (drop count bytes)
+  lined_behind is = let q = rw is at r in (record { reads = q.0; finds = q.1 }, q.2)
+
+  pub no_text_any : {last : Bool} → reached ≡ NoText → ReadsBack tags prefix base bytes last NoText text
+  no_text_any is =
+      let q = rw is at r in
+      (q.0, q.1, record { line = q.2.line; no_text = q.2.no_text; first = λ more end. q.2.first more (λ f. cc f) })
 
 module _ (tags : ℕ → Option (List ℕ)) (prefix bytes : List ℕ) where
-  pub front_any : (last : Bool) (text : List ℕ) → ReadsFront tags prefix bytes false text → ReadsFront tags prefix bytes last text
-  front_any last text r = record { count = r.count; within = r.within; ends = by r.ends; is_text = r.is_text; is = r.is }
-    where
-      by : AreLines (take r.count bytes) ⊎ ((false ≡ true) × (r.count ≡ length bytes)) → AreLines (take r.count bytes)
-          ⊎ ((last ≡ true) × (r.count ≡ length bytes))
-      by (inl a) = inl a
-      by (inr b) = absurd (false_is_true b.0)
-
   pub front_none : (last : Bool) → ReadsFront tags prefix bytes last []
   front_none last = record { count = 0; within = omega arith; ends = inl no_lines; is_text = IsUtf8-nil; is = sym (nothing_back tags prefix) }
 
-  module _ (base : ℕ) where
-    pub no_text_any : (last : Bool) (text : List ℕ) → ReadsBack tags prefix base bytes false NoText text → ReadsBack tags prefix base bytes last NoText text
-    no_text_any last text r = (r.0, r.1, record { line = r.2.line; no_text = r.2.no_text; first = λ more end. r.2.first more (λ f. absurd (false_is_true f)) })
-
-    -- what was read back is that of a front
-    pub back_front : (last : Bool) (reached : BackReached) (text : List ℕ) → ReadsBack tags prefix base bytes last reached text
-        → ReadsFront tags prefix bytes last text
-    back_front last NoText text r = record { count = r.0; within = r.1.within; ends = inl r.1.lines; is_text = r.1.is_text; is = r.1.is }
-    back_front false (Behind count found) text r = record { count = count; within = r.0.within; ends = inl r.0.lines; is_text = r.0.is_text; is = r.0.is }
-    back_front true (Behind count found) text r =
-        let all : take (length bytes) bytes ≡ bytes = take_all (length bytes) bytes (omega arith) in
-        record {
-          count = length bytes;
-          within = omega arith;
-          ends = inr (refl, refl);
-          is_text = subst IsUtf8 (sym all) r.1;
-          is = r.2
-              ∙ ap (text_back tags prefix) (sym all);
-        }
+  -- what was read back is that of a front
+  pub back_front : (base : ℕ) (last : Bool) (reached : BackReached) (text : List ℕ) → ReadsBack tags prefix base bytes last reached text
+      → ReadsFront tags prefix bytes last text
+  back_front base last NoText text r = record { count = r.0; within = r.1.within; ends = inl r.1.lines; is_text = r.1.is_text; is = r.1.is }
+  back_front base false (Behind count found) text r =
+      record { count = count; within = r.0.within; ends = inl r.0.lines; is_text = r.0.is_text; is = r.0.is }
+  back_front base true (Behind count found) text r = all_front refl r.1 r.2

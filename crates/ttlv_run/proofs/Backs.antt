@@ -1,28 +1,24 @@
 -- Lines of diagnostics that are read back, and the first that is not whole.
 use Rattle.std.proofs.Common.{◌≡◌, ◌≢◌, ℕ, ◌+◌, ◌-◌, List, [], ◌∷◌, ◌++◌, Option, Some, None, length, drop, ap, sym, refl, subst, ◌∙◌, arith}
 use Rattle.std.specs.Str.{trim_end}
-use Rattle.std.proofs.lemmas.List.{length-drop}
-use Rattle.std.proofs.Math.ListN.{drop_of_length-le}
-use Rattle.kmip_ttlv_util.specs.Undiag.{undiag_lines}
-use Rattle.kmip_ttlv_util.specs.Lines.{bounded_part}
-use Rattle.kmip_ttlv_util.specs.ReadBack.{StandAll, EndsAt}
-use Rattle.ttlv_run.specs.declared.back.BackFault.{BackFault}
+use Rattle.std.proofs.{lemmas.List.length-drop, Math.ListN.drop_of_length-le}
+use Rattle.kmip_ttlv_util.specs.{Undiag.undiag_lines, Lines.bounded_part, ReadBack.StandAll, ReadBack.EndsAt}
+use Rattle.ttlv_run.specs.{declared.back.BackFault.BackFault, Texts.line_back}
 use Rattle.ttlv_run.specs.Backs.{IsWholeLine, IsWrong, Stopped, Tries}
-use Rattle.ttlv_run.specs.Texts.{line_back}
 
 module _ (tags : ℕ → Option (List ℕ)) (prefix : List ℕ) where
   -- an empty line
-  pub empty_back : (line t : List ℕ) → t ≡ trim_end line → length t ≡ 0 → line_back tags prefix line ≡ []
+  pub empty_back : (line : List ℕ) {t : List ℕ} → t ≡ trim_end line → length t ≡ 0 → line_back tags prefix line ≡ []
   unfolding line_back
-  empty_back line [] is none = rw (← is) refl
-  empty_back line (c ∷ t) is none = absurd (omega (arith, none))
+  empty_back line {t = []} is none = rw (← is) refl
+  empty_back line {t = c ∷ t} is none = absurd (omega (arith, none))
 
   -- any other
-  pub some_back : (line t : List ℕ) → t ≡ trim_end line → length t ≢ 0
+  pub some_back : (line : List ℕ) {t : List ℕ} → t ≡ trim_end line → length t ≢ 0
       → line_back tags prefix line ≡ trim_end (undiag_lines (bounded_part tags) prefix t) ++ 10 ∷ []
   unfolding line_back
-  some_back line [] is some = absurd (some refl)
-  some_back line (c ∷ t) is some = rw (← is) refl
+  some_back line {t = []} is some = absurd (some refl)
+  some_back line {t = c ∷ t} is some = rw (← is) refl
 
 -- an empty line is whole
 pub empty_whole : (prefix line t : List ℕ) → t ≡ trim_end line → length t ≡ 0 → IsWholeLine prefix line

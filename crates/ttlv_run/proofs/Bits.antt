@@ -1,9 +1,8 @@
 -- The bits of a number of 32 bits, one after the other.
-use Rattle.std.proofs.Common.{◌≡◌, ℕ, zero, suc, ◌+◌, ◌*◌, ◌/◌, ◌%◌, ◌<◌, ◌≤◌, ◌^◌, ◌==◌, Bool, true, false, List, [], ◌∷◌, ◌++◌, length, Option, None, Bor, ap}
-use Rattle.std.proofs.Common.{refl, ◌∙◌, arith}
+use Rattle.std.proofs.Common.{◌≡◌, ℕ, zero, suc, ◌+◌, ◌*◌, ◌/◌, ◌%◌, ◌<◌, ◌^◌, ◌==◌, Bool, true, false, List, [], ◌∷◌, ◌++◌, length, Option, None, Bor, ap}
+use Rattle.std.proofs.Common.{refl, sym, ◌∙◌, arith, append_assoc}
 use Rattle.std.specs.HashMap.{hash_map_len}
 use Rattle.std.proofs.Math.Nat.{two-pow-succ}
-use Rattle.std.proofs.Math.Pow.{pow_mono}
 use Rattle.kmip_ttlv_util.specs.TagNames.{NameMap, name_in}
 use Rattle.ttlv_run.specs.Masks.{behind_mark, set_name, still_first, bit_names}
 
@@ -36,11 +35,17 @@ next_place names bit rest first p some = by p.left p.all p.few
         left = n;
         all = omega (arith, all);
         is = omega (arith, p.is, two-pow-succ p.place);
-        few =
-            omega (arith, few, two-pow-succ n);
+        few = omega (arith, few, two-pow-succ n);
       };
       names_are = refl;
     }
+
+-- what is printed up to a bit, with its name, and the names behind it
+pub bits_on : {names : ℕ → Option (List ℕ)} {bit rest : ℕ} {first then_ : Bool} {p : Place bit rest} {all : List ℕ} {name : Option (List ℕ)}
+    (n : Next names bit rest first p) (text : List ℕ) → all ≡ text ++ bit_names names p.left bit rest first → name ≡ set_name names bit (rest % 2 == 1)
+    → then_ ≡ still_first first name
+    → all ≡ (text ++ behind_mark first name) ++ bit_names names n.to.left (bit * 2) (rest / 2) then_
+bits_on n text all_is is then_is = rw (then_is, is) (all_is ∙ ap (λ (s : List ℕ). text ++ s) n.names_are ∙ sym (append_assoc text _ _))
 
 -- where nothing is left no bit is set
 pub none_left : (names : ℕ → Option (List ℕ)) (n bit : ℕ) (first : Bool) → bit_names names n bit 0 first ≡ []

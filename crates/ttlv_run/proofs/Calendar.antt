@@ -1,27 +1,15 @@
 -- Years and months, counted one after the other, and the texts of dates.
-use Rattle.std.proofs.Common.{◌≡◌, ℕ, zero, suc, ◌+◌, ◌-◌, ◌*◌, ◌/◌, ◌%◌, ◌<◌, ◌≤◌, Bool, true, false, List, [], ◌∷◌, ◌++◌, lit<, refl, arith, if◌then◌else◌}
+use Rattle.std.proofs.Common.{◌≡◌, ℕ, zero, suc, ◌+◌, ◌-◌, ◌*◌, ◌/◌, ◌%◌, ◌<◌, ◌≤◌, List, [], ◌∷◌, ◌++◌, lit<, refl, arith}
 use Rattle.std.specs.Str.{IsAscii}
-use Rattle.std.proofs.lemmas.Str.Ascii.{IsAscii-nil, IsAscii-cons}
-use Rattle.std.proofs.lemmas.Bool.{lt-ltb, le-ltb}
-use Rattle.ttlv_run.specs.Dates.{is_leap, days_in_year, days_in_month, in_year, in_month, digit_at, two, calendar_text, year_text, day_text, clock_text}
-use Rattle.ttlv_run.specs.Dates.{time_text}
+use Rattle.std.proofs.lemmas.{Str.Ascii.IsAscii-nil, Str.Ascii.IsAscii-cons, Bool.lt-ltb, Bool.le-ltb, Bool.Decides.nat_tests}
+use Rattle.ttlv_run.specs.Dates.{days_in_year, days_in_month, in_year, in_month, digit_at, two, calendar_text, year_text, day_text, clock_text, time_text}
 
 -- a year has days, and so has a month
 pub year_some : (y : ℕ) → 0 < days_in_year y
-year_some y = by (is_leap y)
-  where
-    by : (b : Bool) → 0 < (if b then 366 else 365)
-    by true = omega arith
-    by false = omega arith
+year_some y = grind (arith, nat_tests)
 
 pub month_some : (y m : ℕ) → 0 < days_in_month y m
-month_some y m = by _ (is_leap y) _
-  where
-    by : (a b c : Bool) → 0 < (if a then (if b then 29 else 28) else (if c then 30 else 31))
-    by true true c = omega arith
-    by true false c = omega arith
-    by false b true = omega arith
-    by false b false = omega arith
+month_some y m = grind (arith, nat_tests)
 
 -- what is left to count
 pub record Year (n y d : ℕ) : Type 0 where

@@ -1,21 +1,16 @@
 -- What is printed of an input exists, and goes on behind what is printed of a beginning of it.
 use Rattle.std.proofs.Common.{◌≡◌, inl, inr, ℕ, zero, suc, ◌+◌, ◌-◌, ◌<◌, ◌≤◌, ◌&&◌, Bool, true, false, if◌then◌else◌, List, [], ◌∷◌, ◌++◌, length, drop}
 use Rattle.std.proofs.Common.{get_or, Option, Some, None, ap, sym, refl, subst, ◌∙◌, arith, append_assoc, append-nil}
-use Rattle.std.specs.Prelude.{nat_le}
-use Rattle.std.specs.List.{flat_map}
+use Rattle.std.specs.{Prelude.nat_le, List.flat_map}
 use Rattle.std.proofs.lemmas.Bool.{cases_lt, leb-true, and_parts}
+use Rattle.std.proofs.lemmas.Grind.{flat_map-append}
 use Rattle.std.proofs.lemmas.List.{get_or-take, get_or-drop, get_or_past, length-drop, length-take-le}
 use Rattle.kmip_ttlv_types.specs.Places.{length_at}
-use Rattle.kmip_ttlv_items.specs.declared.found.FoundItem.{FoundItem}
-use Rattle.kmip_ttlv_items.specs.declared.found.Fault.{Fault}
+use Rattle.kmip_ttlv_items.specs.declared.found.{FoundItem.FoundItem, Fault.Fault}
 use Rattle.kmip_ttlv_items.specs.ItemWalks.{Meets, at_first, Ends}
 use Rattle.kmip_ttlv_items.proofs.Completes.{ends}
-use Rattle.ttlv_run.specs.declared.job.Task.{Task}
-use Rattle.ttlv_run.specs.declared.job.Task.TheVariants.{Show}
-use Rattle.ttlv_run.specs.declared.job.Look.{Look}
-use Rattle.ttlv_run.specs.declared.lines.Reach.{Reach}
-use Rattle.ttlv_run.specs.declared.messages.Place.{Place}
-use Rattle.ttlv_run.specs.declared.messages.Wrong.TheVariants.{Malformed, NotKmip}
+use Rattle.ttlv_run.specs.declared.{job.Task.Task, job.Task.TheVariants.Show, job.Look.Look, lines.Reach.Reach, messages.Place.Place}
+use Rattle.ttlv_run.specs.declared.{messages.Wrong.TheVariants.Malformed, messages.Wrong.TheVariants.NotKmip}
 use Rattle.ttlv_run.specs.Messages.{first_size, message_at, Whole, whole_more, tag_there, is_taken, IsWrong, malformed, not_taken, Breaks, Prints, Continues}
 use Rattle.ttlv_run.specs.Texts.{Names, reach_after, no_reach, item_text, lines_from, message_text, IsMessageText}
 
@@ -42,15 +37,10 @@ module _ (bytes : List ℕ) (p : ℕ) (lt : p < length bytes) where
   message_within = omega (arith, message_size, (first_within (drop p bytes) rest).1, length-drop p bytes)
 
   pub message_plain : ((k : ℕ) → get_or bytes k 0 < 256) → (k : ℕ) → get_or (message_at bytes p) k 0 < 256
-  message_plain plain k =
-      elim (cases_lt k (first_size (drop p bytes))) [
-        | inl inside ↦ omega (arith, get_or-take (first_size (drop p bytes)) (drop p bytes) k 0 inside, get_or-drop p bytes k 0, plain (p + k))
-        | inr past ↦ omega (arith, get_or_past (message_at bytes p) k 0 (omega (arith, message_size, past)))
-      ]
-
-pub flat_map-append : {X : Type 0} (f : X → List ℕ) (xs ys : List X) → flat_map f (xs ++ ys) ≡ flat_map f xs ++ flat_map f ys
-flat_map-append f [] ys = refl
-flat_map-append f (x ∷ xs) ys = ap (λ (s : List ℕ). f x ++ s) (flat_map-append f xs ys) ∙ sym (append_assoc (f x) (flat_map f xs) (flat_map f ys))
+  message_plain plain k = elim (cases_lt k (first_size (drop p bytes))) [
+    | inl inside ↦ omega (arith, get_or-take (first_size (drop p bytes)) (drop p bytes) k 0 inside, get_or-drop p bytes k 0, plain (p + k))
+    | inr past ↦ omega (arith, get_or_past (message_at bytes p) k 0 (omega (arith, message_size, past)))
+  ]
 
 -- one more
 pub flat_map-more : {X : Type 0} (f : X → List ℕ) (x : X) (ys : List X) → flat_map f (ys ++ (x ∷ [])) ≡ flat_map f ys ++ f x
@@ -76,8 +66,7 @@ module _ (names : Names) (look : Look) (at : ℕ) (bytes : List ℕ) where
   -- one more
   pub lines-more : (r : Reach) (x : FoundItem) (xs : List FoundItem) → lines_from names look at bytes r (xs ++ (x ∷ [])) ≡ lines_from names look at bytes r xs
       ++ item_text names look (reach_after names look (reach_all names look r xs) x) at bytes x
-  lines-more r x xs =
-      lines-append r xs (x ∷ []) ∙ ap (λ (s : List ℕ). lines_from names look at bytes r xs ++ s)
+  lines-more r x xs = lines-append r xs (x ∷ []) ∙ ap (λ (s : List ℕ). lines_from names look at bytes r xs ++ s)
       (append-nil (item_text names look (reach_after names look (reach_all names look r xs) x) at bytes x))
 
   pub reach-more : (r : Reach) (x : FoundItem) (xs : List FoundItem) → reach_all names look r (xs ++ (x ∷ [])) ≡ reach_after names look
@@ -91,8 +80,7 @@ module _ (names : Names) (task : Task) (bytes : List ℕ) where
   back front more h = record {
     more = more ++ h.more;
     place = h.place;
-    prints = subst (λ (s : List ℕ). Prints names task bytes s h.place)
-        (append_assoc front more h.more) h.prints;
+    prints = subst (λ (s : List ℕ). Prints names task bytes s h.place) (append_assoc front more h.more) h.prints;
   }
 
   -- a message is whole, and the next one is due; or it has a fault
@@ -106,41 +94,23 @@ module _ (names : Names) (task : Task) (bytes : List ℕ) where
       breaks : (f : Option Fault) → IsMessageText names task p (message_at bytes p) reported f → (place : Place) → IsWrong task (message_at bytes p) p place f
           → Continues names task bytes (front ++ reported)
       breaks f tells place wrong =
-          let text = front ++ reported in
-          let breaks : Breaks names task bytes text place = record {
-            at = p;
-            front = front;
-            reported = reported;
-            fault = f;
-            whole = whole;
-            left = lt;
-            tells = tells;
-            wrong = wrong;
-            is = refl;
-          } in
-          record { more = []; place = Some place; prints = subst (λ (s : List ℕ). Breaks names task bytes s place) (sym (append-nil text)) breaks }
+          let breaks : Breaks names task bytes (front ++ reported) place =
+          record { at = p; front = front; reported = reported; fault = f; whole = whole; left = lt; tells = tells; wrong = wrong; is = refl } in
+          record { more = []; place = Some place; prints = rw (append-nil (front ++ reported)) breaks }
 
       by : (f : Option Fault) → IsMessageText names task p (message_at bytes p) reported f → (b : Bool) → is_taken task (message_at bytes p) ≡ b
           → Continues names task bytes (front ++ reported)
       by None tells true taken = further (whole_more p (p + length (message_at bytes p)) front (front ++ reported) reported whole lt tells taken refl refl)
       by None tells false other = breaks None tells (record { offset = p; tag = tag_there (message_at bytes p) 0; wrong = NotKmip })
           (not_taken other refl refl refl)
-      by (Some f) tells b taken = breaks (Some f) tells (record {
-        offset = p + f.offset;
-        tag = tag_there (message_at bytes p) f.offset;
-        wrong =
-            Malformed f.kind;
-      }) (malformed f refl refl refl)
+      by (Some f) tells b taken =
+          breaks (Some f) tells (record { offset = p + f.offset; tag = tag_there (message_at bytes p) f.offset; wrong = Malformed f.kind })
+          (malformed f refl refl refl)
 
   module _ (plain : (k : ℕ) → get_or bytes k 0 < 256) where
     -- all messages are whole
     all_whole : (p : ℕ) (front : List ℕ) → p ≡ length bytes → Whole names task bytes p front → Continues names task bytes front
-    all_whole p front at whole = record {
-      more = [];
-      place = None;
-      prints = subst (λ (s : List ℕ). Whole names task bytes (length bytes) s)
-          (sym (append-nil front)) (subst (λ (q : ℕ). Whole names task bytes q front) at whole);
-    }
+    all_whole p front at whole = record { more = []; place = None; prints = rw (append-nil front, ← at) whole }
 
     -- one message more
     one_whole : (p : ℕ) (front : List ℕ) → p < length bytes → Whole names task bytes p front
@@ -154,12 +124,11 @@ module _ (names : Names) (task : Task) (bytes : List ℕ) where
     -- by how many bytes are left
     whole_by : (n p : ℕ) (front : List ℕ) → length bytes - p ≤ n → p ≤ length bytes → Whole names task bytes p front → Continues names task bytes front
     whole_by zero p front few le whole = all_whole p front (omega (arith, few, le)) whole
-    whole_by (suc n) p front few le whole =
-        elim (cases_lt p (length bytes)) [
-          | inl lt ↦ one_whole p front lt whole (λ text next. whole_by n (p + length (message_at bytes p)) text (omega (arith, few, message_some bytes p lt))
-              (message_within bytes p lt) next)
-          | inr past ↦ all_whole p front (omega (arith, le, past)) whole
-        ]
+    whole_by (suc n) p front few le whole = elim (cases_lt p (length bytes)) [
+      | inl lt ↦ one_whole p front lt whole (λ text next. whole_by n (p + length (message_at bytes p)) text (omega (arith, few, message_some bytes p lt))
+          (message_within bytes p lt) next)
+      | inr past ↦ all_whole p front (omega (arith, le, past)) whole
+    ]
 
     -- behind whole messages
     pub whole_goes : (p : ℕ) (front : List ℕ) → p ≤ length bytes → Whole names task bytes p front → Continues names task bytes front

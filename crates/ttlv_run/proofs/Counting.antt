@@ -3,11 +3,9 @@ use Rattle.std.proofs.Common.{◌≡◌, ℕ, zero, suc, ◌<◌, Bool, true, fa
 use Rattle.std.specs.Prelude.{slice_index, ◌==◌}
 use Rattle.std.proofs.lemmas.Bool.Decides.{nat_tests}
 use Rattle.base64.specs.GeneralPurpose.{IsBytes}
-use Rattle.ttlv_run.specs.declared.form.Form.{Form}
+use Rattle.ttlv_run.specs.declared.form.{Form.Form, LinePart.LinePart, Step.Step}
 use Rattle.ttlv_run.specs.declared.form.Form.TheVariants.{HexadecimalText, Base64Text, Base64UrlText, ArmouredText, DumpText, PacketText}
-use Rattle.ttlv_run.specs.declared.form.LinePart.{LinePart}
 use Rattle.ttlv_run.specs.declared.form.LinePart.TheVariants.{Begin, Indent, Mark, Offset, Colon, Group, Gap, Between, Half, Whole, Aside, Free}
-use Rattle.ttlv_run.specs.declared.form.Step.{Step}
 use Rattle.ttlv_run.specs.declared.form.Step.TheVariants.{Counts, Skips, Wrong}
 use Rattle.ttlv_run.specs.Columns.{is_hex_digit, is_base64_digit, is_url_digit, is_blank, is_between, is_edge, is_mark, is_in_mark, is_in_indent, is_in_aside}
 use Rattle.ttlv_run.specs.Columns.{is_at_begin, step, Reads, begins, counts, skips, between, in_dump, aside, freely}
@@ -46,8 +44,7 @@ in_byte_digit true true b is next e = refl
 in_byte_digit true false b is next e = sym is ∙ between_digit b next e
   where
     between_digit : (c : ℕ) → CountsDigits (is_hex_digit c) (between c)
-    between_digit c = first_test (is_hex_digit c) _ _
-        (either_none (is_blank c) _ _ (skipped_none Between)
+    between_digit c = first_test (is_hex_digit c) _ _ (either_none (is_blank c) _ _ (skipped_none Between)
         (either_none (c == 10) _ _ (skipped_none Begin) (either_none (is_edge c) _ _ (skipped_none Aside) wrong_none)))
 in_byte_digit false true b is next e = refl
 in_byte_digit false false b is next e = cc e
@@ -69,15 +66,12 @@ dump_digit Offset b = never (is_hex_digit b) _ (either_none (is_hex_digit b) _ _
 dump_digit Colon b = group_digit Colon b
 dump_digit Group b = group_digit Gap b
 dump_digit Gap b = group_digit Aside b
-dump_digit Between b = first_test (is_hex_digit b) _ _
-    (either_none (is_blank b) _ _ (skipped_none Between)
+dump_digit Between b = first_test (is_hex_digit b) _ _ (either_none (is_blank b) _ _ (skipped_none Between)
     (either_none (b == 10) _ _ (skipped_none Begin) (either_none (is_edge b) _ _ (skipped_none Aside) wrong_none)))
 dump_digit Half b = in_byte_digit false (is_hex_digit b) b refl
 dump_digit Whole b = in_byte_digit true (is_hex_digit b) b refl
 dump_digit Aside b = never (is_hex_digit b) _ (aside_none b)
-dump_digit Indent b = never (is_hex_digit b) Wrong wrong_none
-dump_digit Mark b = never (is_hex_digit b) Wrong wrong_none
-dump_digit Free b = never (is_hex_digit b) Wrong wrong_none
+dump_digit part b = never (is_hex_digit b) Wrong wrong_none
 
 indent_digit : (part : LinePart) (b n : ℕ)
     → CountsDigits (is_hex_digit b) (if is_blank b then Skips Indent else if is_in_indent part && is_mark b n then Skips Mark else aside b)
@@ -88,36 +82,24 @@ packet_digit : (part : LinePart) (b n : ℕ) → CountsDigits (is_hex_digit b) (
 packet_digit Begin b n = indent_digit Begin b n
 packet_digit Indent b n = indent_digit Indent b n
 packet_digit Mark b n = never (is_hex_digit b) _ (skipped_none Offset)
-packet_digit Offset b n = dump_digit Offset b
-packet_digit Colon b n = dump_digit Colon b
-packet_digit Group b n = dump_digit Group b
-packet_digit Gap b n = dump_digit Gap b
-packet_digit Between b n = dump_digit Between b
-packet_digit Half b n = dump_digit Half b
-packet_digit Whole b n = dump_digit Whole b
-packet_digit Aside b n = dump_digit Aside b
-packet_digit Free b n = dump_digit Free b
+packet_digit part b n = dump_digit part b
 
 freely_digit : (d other : Bool) → CountsDigits d (freely d other)
 freely_digit d other = first_test d _ _ (either_none other _ _ (skipped_none Free) wrong_none)
 
 -- a digit of a text
 abbrev is_digit : Form → ℕ → Bool
-is_digit HexadecimalText b = is_hex_digit b
 is_digit Base64Text b = is_base64_digit b
 is_digit Base64UrlText b = is_url_digit b
 is_digit ArmouredText b = is_base64_digit b
-is_digit DumpText b = is_hex_digit b
-is_digit PacketText b = is_hex_digit b
+is_digit form b = is_hex_digit b
 
 counted_digit : (form : Form) (part : LinePart) (b n : ℕ) → CountsDigits (is_digit form b) (step form part b n)
-counted_digit HexadecimalText part b n =
-    later_test (is_in_mark part) (is_hex_digit b) _ _ (skipped_none Free)
+counted_digit HexadecimalText part b n = later_test (is_in_mark part) (is_hex_digit b) _ _ (skipped_none Free)
     (later_test (is_mark b n) (is_hex_digit b) _ _ (skipped_none Mark) (freely_digit (is_hex_digit b) (is_between b || b == 45)))
 counted_digit Base64Text part b n = freely_digit (is_base64_digit b) (is_between b)
 counted_digit Base64UrlText part b n = freely_digit (is_url_digit b) (is_between b)
-counted_digit ArmouredText part b n =
-    later_test (b == 10) (is_base64_digit b) _ _ (skipped_none Begin)
+counted_digit ArmouredText part b n = later_test (b == 10) (is_base64_digit b) _ _ (skipped_none Begin)
     (later_test (is_in_aside part || (is_at_begin part && b == 45)) (is_base64_digit b) _ _ (skipped_none Aside)
     (freely_digit (is_base64_digit b) (is_blank b)))
 counted_digit DumpText part b n = dump_digit part b
@@ -133,12 +115,10 @@ url_small : (b : ℕ) → is_url_digit b ≡ true → b < 256
 url_small b digit = grind (arith, nat_tests)
 
 digit_small : (form : Form) (b : ℕ) → is_digit form b ≡ true → b < 256
-digit_small HexadecimalText b digit = hex_small b digit
 digit_small Base64Text b digit = base64_small b digit
 digit_small Base64UrlText b digit = url_small b digit
 digit_small ArmouredText b digit = base64_small b digit
-digit_small DumpText b digit = hex_small b digit
-digit_small PacketText b digit = hex_small b digit
+digit_small form b digit = hex_small b digit
 
 more_bytes : (s : List ℕ) (b : ℕ) → IsBytes s → b < 256 → IsBytes (s ++ b ∷ [])
 more_bytes [] b bytes small zero = small

@@ -1,18 +1,14 @@
 -- What is decided of an input, and why a run fails.
-use Rattle.std.proofs.Common.{◌≡◌, inl, inr, ℕ, suc, List, [], ◌∷◌, ◌++◌, Option, Result, Ok, Err, OnOk, OnErr, Bool, true, is_ok, length, take, sym, ap, subst}
-use Rattle.std.proofs.Common.{◌∙◌, ◌+◌, arith, codes, length-append}
+use Rattle.std.proofs.Common.{◌≡◌, inl, inr, ℕ, suc, List, [], ◌∷◌, ◌++◌, Option, Result, Ok, Err, OnOk, OnErr, Bool, true, is_ok, length, take, refl, sym, ap}
+use Rattle.std.proofs.Common.{subst, ◌∙◌, ◌+◌, arith, codes, length-append}
 use Rattle.std.proofs.KnownBytes.{Appends-trans}
-use Rattle.std.specs.Io.KnownBytes.{Appends}
+use Rattle.std.specs.{Io.KnownBytes.Appends, Fmt.decimal}
 use Rattle.kmip_ttlv_types.specs.Streams.{AppendsFront}
-use Rattle.ttlv_run.specs.declared.job.Job.{Job}
-use Rattle.ttlv_run.specs.declared.run_error.RunError.{RunError}
-use Rattle.ttlv_run.specs.declared.job.BackJob.{BackJob}
-use Rattle.std.specs.Fmt.{decimal}
-use Rattle.ttlv_run.specs.declared.misread.Misread.{Misread}
+use Rattle.ttlv_run.specs.{declared.job.Job.Job, declared.run_error.RunError.RunError, declared.job.BackJob.BackJob, declared.misread.Misread.Misread}
+use Rattle.ttlv_run.specs.{Inputs.IsUnread, Reasons.IsOfPrinting, Reasons.Reports, Texts.Names}
+use Rattle.ttlv_run.specs.declared.run_error.RunError.TheVariants.{UnreadableInput, UnwritableOutput, ClosedPipe, NoMemory}
 use Rattle.ttlv_run.specs.Misreadings.{encoding_words, with_kind, line_end, misread_line}
-use Rattle.ttlv_run.specs.Reasons.{IsOfPrinting, Reports}
 use Rattle.ttlv_run.specs.Runs.{Streams, Unwritten, Fails, UnwrittenBack, FailsBack}
-use Rattle.ttlv_run.specs.Texts.{Names}
 
 take_more : (front text : List ℕ) (n : ℕ) → take (length front + n) (front ++ text) ≡ front ++ take n text
 take_more [] text n = let k : length {A = ℕ} [] + n ≡ n = omega arith in ap (λ m. take m text) k
@@ -38,25 +34,28 @@ decides_more (Err e) writable said known mid new front text is says all some h =
     let before = subst (λ b. Reports b known mid front) is h in
     subst (λ b. Reports b known new (front ++ text)) (sym says) (front_more known mid new front text before some)
 
--- printing failed behind a beginning of the text
-pub unwritten : (names : Names) (job : Job) (s : Streams) (why : RunError) → IsOfPrinting why → Unwritten names job s → Fails names job s why
-unwritten names job s why (inl is) h = subst (Fails names job s) (sym is) h
-unwritten names job s why (inr (inl is)) h = subst (Fails names job s) (sym is) h
-unwritten names job s why (inr (inr is)) h = subst (Fails names job s) (sym is) (inr h)
+-- printing failed
+pub printing_by : (P : RunError → Type 0) {why : RunError} → IsOfPrinting why → P UnwritableOutput → P ClosedPipe → P NoMemory → P why
+printing_by P (inl is) output pipe memory = subst P (sym is) output
+printing_by P (inr (inl is)) output pipe memory = subst P (sym is) pipe
+printing_by P (inr (inr is)) output pipe memory = subst P (sym is) memory
 
-pub unwritten_back : (names : Names) (job : BackJob) (s : Streams) (why : RunError) → IsOfPrinting why → UnwrittenBack names job s → FailsBack names job s why
-unwritten_back names job s why (inl is) h = subst (FailsBack names job s) (sym is) h
-unwritten_back names job s why (inr (inl is)) h = subst (FailsBack names job s) (sym is) h
-unwritten_back names job s why (inr (inr is)) h = subst (FailsBack names job s) (sym is) h
+-- behind a beginning of the text
+pub unwritten : {names : Names} {job : Job} {s : Streams} {why : RunError} → IsOfPrinting why → Unwritten names job s → Fails names job s why
+unwritten {names} {job} {s} is h = printing_by (Fails names job s) is h h (inr h)
+
+pub unwritten_back : {names : Names} {job : BackJob} {s : Streams} {why : RunError} → IsOfPrinting why → UnwrittenBack names job s → FailsBack names job s why
+unwritten_back {names} {job} {s} is h = printing_by (FailsBack names job s) is h h h
+
+-- an input was not read
+pub unread_by : (P : RunError → Type 0) (why : RunError) → IsUnread why → P UnreadableInput → P NoMemory → P why
+unread_by P UnreadableInput h read memory = read
+unread_by P NoMemory h read memory = memory
+unread_by P why h read memory = absurd h
 
 -- the parts of a line that says why an input stands for no bytes
-pub misread_is :
-    (name words digits end : List ℕ) (m : Misread)
-    → words ≡ encoding_words m.taken
+pub misread_is : (name words digits end : List ℕ) (m : Misread) → words ≡ encoding_words m.taken
     → digits ≡ decimal m.offset
     → end ≡ line_end m.guessed
     → with_kind (name ++ codes ": taken as " ++ words ++ codes ": byte " ++ digits) m.kind ++ end ≡ misread_line name m
-misread_is name words digits end m w d e =
-    ap (λ (t : List ℕ). with_kind (name ++ codes ": taken as " ++ t ++ codes ": byte " ++ digits) m.kind ++ end) w
-    ∙ ap (λ (t : List ℕ). with_kind (name ++ codes ": taken as " ++ encoding_words m.taken ++ codes ": byte " ++ t) m.kind ++ end) d
-    ∙ ap (λ (t : List ℕ). with_kind (name ++ codes ": taken as " ++ encoding_words m.taken ++ codes ": byte " ++ decimal m.offset) m.kind ++ t) e
+misread_is name words digits end m w d e = rw (w, d, e) refl

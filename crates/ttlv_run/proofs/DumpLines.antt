@@ -1,13 +1,10 @@
 -- What is read of a line of a dump, from one part of it to the next.
-use Rattle.std.proofs.Common.{◌≡◌, ℕ, Bool, true, false, ◌&&◌, not, ◌==◌, List, [], ◌∷◌, ◌++◌, refl, sym, ap, subst, ◌∙◌, append_assoc}
+use Rattle.std.proofs.Common.{◌≡◌, ℕ, Bool, true, false, ◌&&◌, ◌==◌, List, [], ◌∷◌, ◌++◌, refl, sym, ap, subst, ◌∙◌, append_assoc}
 use Rattle.std.proofs.lemmas.List.{append-nil}
-use Rattle.std.proofs.lemmas.Bool.{eqb-true}
-use Rattle.std.specs.Prelude.{slice_index, if◌then◌else◌}
-use Rattle.ttlv_run.specs.declared.form.Form.{Form}
-use Rattle.ttlv_run.specs.declared.form.Form.TheVariants.{DumpText}
-use Rattle.ttlv_run.specs.declared.form.LinePart.{LinePart}
+use Rattle.std.proofs.lemmas.Bool.{eqb-true, not-true, cond-true, cond-false}
+use Rattle.std.specs.Prelude.{slice_index}
+use Rattle.ttlv_run.specs.declared.form.{Form.Form, Form.TheVariants.DumpText, LinePart.LinePart, Step.TheVariants.Counts, Step.TheVariants.Skips}
 use Rattle.ttlv_run.specs.declared.form.LinePart.TheVariants.{Begin, Offset, Colon, Group, Gap, Between, Half, Whole, Aside}
-use Rattle.ttlv_run.specs.declared.form.Step.TheVariants.{Counts, Skips}
 use Rattle.ttlv_run.specs.Columns.{is_hex_digit, step, Reads, counts, skips}
 use Rattle.ttlv_run.specs.DumpLines.{only, is_space, is_in_line, is_offset, spaced, joined, are_groups, ColonLine, DumpedByte, is_dumped, are_dumped, dumped}
 use Rattle.ttlv_run.specs.DumpLines.{digits_of, BareLine}
@@ -21,24 +18,9 @@ right : (a b : Bool) → a && b ≡ true → b ≡ true
 right true b both = both
 right false b both = cc both
 
-not_true : (a : Bool) → not a ≡ true → a ≡ false
-not_true true is = sym is
-not_true false is = refl
-
--- a choice by a test that holds
-yes : {A : Type 0} (a : Bool) (x y : A) → a ≡ true → (if a then x else y) ≡ x
-yes true x y is = refl
-yes false x y is = cc is
-
-no : {A : Type 0} (a : Bool) (x y : A) → a ≡ false → (if a then x else y) ≡ y
-no true x y is = cc is
-no false x y is = refl
-
 module _ (form : Form) (s : List ℕ) where
   -- bytes of a kind that leave the part as it is
-  pub skip_all :
-      (part : LinePart) (kind : ℕ → Bool)
-      → ((b n : ℕ) → kind b ≡ true → step form part b n ≡ Skips part)
+  pub skip_all : (part : LinePart) (kind : ℕ → Bool) → ((b n : ℕ) → kind b ≡ true → step form part b n ≡ Skips part)
       → (digits t rest : List ℕ)
       → only kind t ≡ true
       → Reads form Begin s digits part (t ++ rest)
@@ -49,9 +31,7 @@ module _ (form : Form) (s : List ℕ) where
       (skips digits part part b (t ++ rest) reads (same b (slice_index (t ++ rest) 0) (left (kind b) (only kind t) of)))
 
   -- digits that count
-  count_all :
-      (part : LinePart)
-      → ((b n : ℕ) → is_hex_digit b ≡ true → step form part b n ≡ Counts part)
+  count_all : (part : LinePart) → ((b n : ℕ) → is_hex_digit b ≡ true → step form part b n ≡ Counts part)
       → (digits t rest : List ℕ)
       → only is_hex_digit t ≡ true
       → Reads form Begin s digits part (t ++ rest)
@@ -64,9 +44,7 @@ module _ (form : Form) (s : List ℕ) where
       refl))
 
   -- a group of digits, and the blank behind it
-  group_read :
-      (part : LinePart)
-      → ((b n : ℕ) → is_hex_digit b ≡ true → step form part b n ≡ Counts Group)
+  group_read : (part : LinePart) → ((b n : ℕ) → is_hex_digit b ≡ true → step form part b n ≡ Counts Group)
       → ((b n : ℕ) → is_hex_digit b ≡ true → step form Group b n ≡ Counts Group)
       → ((n : ℕ) → step form Group 32 n ≡ Skips Gap)
       → (digits group rest : List ℕ)
@@ -82,8 +60,7 @@ module _ (form : Form) (s : List ℕ) where
       skips (digits ++ (b ∷ t)) Group Gap 32 rest (subst (λ (d : List ℕ). Reads form Begin s d Group (32 ∷ rest)) same all) (blank (slice_index rest 0))
 
   -- groups, behind one
-  groups_read :
-      ((b n : ℕ) → is_hex_digit b ≡ true → step form Gap b n ≡ Counts Group)
+  groups_read : ((b n : ℕ) → is_hex_digit b ≡ true → step form Gap b n ≡ Counts Group)
       → ((b n : ℕ) → is_hex_digit b ≡ true → step form Group b n ≡ Counts Group)
       → ((n : ℕ) → step form Group 32 n ≡ Skips Gap)
       → (groups : List (List ℕ)) (digits rest : List ℕ)
@@ -105,42 +82,36 @@ between_space : (b n : ℕ) → is_space b ≡ true → step DumpText Between b 
 between_space b n of = subst (λ (c : ℕ). step DumpText Between c n ≡ Skips Between) (sym (eqb-true b 32 of)) refl
 
 colon_digit : (b n : ℕ) → is_hex_digit b ≡ true → step DumpText Colon b n ≡ Counts Group
-colon_digit b n of = yes (is_hex_digit b) _ _ of
+colon_digit b n of = cond-true (is_hex_digit b) _ _ of
 
 group_digit : (b n : ℕ) → is_hex_digit b ≡ true → step DumpText Group b n ≡ Counts Group
-group_digit b n of = yes (is_hex_digit b) _ _ of
+group_digit b n of = cond-true (is_hex_digit b) _ _ of
 
 gap_digit : (b n : ℕ) → is_hex_digit b ≡ true → step DumpText Gap b n ≡ Counts Group
-gap_digit b n of = yes (is_hex_digit b) _ _ of
+gap_digit b n of = cond-true (is_hex_digit b) _ _ of
 
 aside_byte : (b n : ℕ) → is_in_line b ≡ true → step DumpText Aside b n ≡ Skips Aside
-aside_byte b n of = no (b == 10) _ _ (not_true (b == 10) of)
+aside_byte b n of = cond-false (b == 10) _ _ (not-true (b == 10) of)
 
 module _ (s : List ℕ) where
   -- the offset
-  offset_read :
-      (digits offset rest : List ℕ)
-      → is_offset offset ≡ true
+  offset_read : (digits offset rest : List ℕ) → is_offset offset ≡ true
       → Reads DumpText Begin s digits Begin (offset ++ rest)
       → Reads DumpText Begin s digits Offset rest
   offset_read digits [] rest of reads = cc of
   offset_read digits (b ∷ t) rest of reads =
-      skip_all DumpText s Offset is_hex_digit (λ c n is. yes (is_hex_digit c) _ _ is) digits t rest (right (is_hex_digit b) (only is_hex_digit t) of)
-      (skips digits Begin Offset b (t ++ rest) reads (yes (is_hex_digit b) _ _ (left (is_hex_digit b) (only is_hex_digit t) of)))
+      skip_all DumpText s Offset is_hex_digit (λ c n is. cond-true (is_hex_digit c) _ _ is) digits t rest (right (is_hex_digit b) (only is_hex_digit t) of)
+      (skips digits Begin Offset b (t ++ rest) reads (cond-true (is_hex_digit b) _ _ (left (is_hex_digit b) (only is_hex_digit t) of)))
 
   -- the column of characters, up to the end of its line
-  characters_read :
-      (digits characters rest : List ℕ)
-      → only is_in_line characters ≡ true
+  characters_read : (digits characters rest : List ℕ) → only is_in_line characters ≡ true
       → Reads DumpText Begin s digits Aside (characters ++ 10 ∷ rest)
       → Reads DumpText Begin s digits Begin rest
   characters_read digits characters rest of reads =
       skips digits Aside Begin 10 rest (skip_all DumpText s Aside is_in_line aside_byte digits characters (10 ∷ rest) of reads) refl
 
   -- bytes behind an offset without a colon
-  dumped_read :
-      (bytes : List DumpedByte) (digits rest : List ℕ)
-      → are_dumped bytes ≡ true
+  dumped_read : (bytes : List DumpedByte) (digits rest : List ℕ) → are_dumped bytes ≡ true
       → Reads DumpText Begin s digits Between (dumped bytes rest)
       → Reads DumpText Begin s (digits ++ digits_of bytes) Between rest
   dumped_read [] digits rest of reads = subst (λ (d : List ℕ). Reads DumpText Begin s d Between rest) (sym (append-nil digits)) reads
@@ -148,9 +119,9 @@ module _ (s : List ℕ) where
       let one = left (is_dumped d) (are_dumped ds) of in
       let two = right (is_hex_digit d.high) (is_hex_digit d.low && only is_space d.spaces) one in
       let high = counts digits (digits ++ d.high ∷ []) Between Half d.high (d.low ∷ 32 ∷ (d.spaces ++ dumped ds rest)) reads
-      (yes (is_hex_digit d.high) _ _ (left (is_hex_digit d.high) (is_hex_digit d.low && only is_space d.spaces) one)) refl in
+      (cond-true (is_hex_digit d.high) _ _ (left (is_hex_digit d.high) (is_hex_digit d.low && only is_space d.spaces) one)) refl in
       let low = counts (digits ++ d.high ∷ []) (digits ++ (d.high ∷ d.low ∷ [])) Half Whole d.low (32 ∷ (d.spaces ++ dumped ds rest)) high
-      (yes (is_hex_digit d.low) _ _ (left (is_hex_digit d.low) (only is_space d.spaces) two)) (sym (append_assoc digits (d.high ∷ []) (d.low ∷ []))) in
+      (cond-true (is_hex_digit d.low) _ _ (left (is_hex_digit d.low) (only is_space d.spaces) two)) (sym (append_assoc digits (d.high ∷ []) (d.low ∷ []))) in
       let behind = skips (digits ++ (d.high ∷ d.low ∷ [])) Whole Between 32 (d.spaces ++ dumped ds rest) low refl in
       let apart = skip_all DumpText s Between is_space between_space (digits ++ (d.high ∷ d.low ∷ [])) d.spaces (dumped ds rest)
       (right (is_hex_digit d.low) (only is_space d.spaces) two) behind in

@@ -2,11 +2,9 @@
 use Rattle.std.proofs.Common.{◌≡◌, ◌⊎◌, inl, inr, ℕ, ◌<◌, ◌≤◌, Bool, true, false, if◌then◌else◌, List, [], ◌++◌, length, take, drop, Some, None, Option, ap}
 use Rattle.std.proofs.Common.{sym, refl, ◌∙◌, arith, append-nil, length-append}
 use Rattle.std.specs.Prelude.{slice_index, nat_lt, not, ◌==◌, ◌&&◌, ◌||◌}
-use Rattle.std.proofs.lemmas.Bool.{le-ltb}
+use Rattle.std.proofs.lemmas.Bool.{le-ltb, Decides.nat_tests}
 use Rattle.std.proofs.lemmas.List.{take-append-le, drop-append-le, get_or_append_left}
-use Rattle.ttlv_run.specs.declared.form.Form.{Form}
-use Rattle.ttlv_run.specs.declared.job.Encoding.{Encoding}
-use Rattle.ttlv_run.specs.declared.job.Encoding.TheVariants.{Detected, Raw, Hexadecimal, Base64, Base64Url, Armoured, Dump, Packets}
+use Rattle.ttlv_run.specs.declared.{form.Form.Form, job.Encoding.Encoding, job.Encoding.TheVariants.Detected, job.Encoding.TheVariants.Raw}
 use Rattle.ttlv_run.specs.Columns.{mark_length, body}
 use Rattle.ttlv_run.specs.Fronts.{is_some, front_size, taken_as}
 use Rattle.ttlv_run.specs.Guesses.{has_control, looks_raw, front_of, front_found, text_found}
@@ -14,18 +12,14 @@ use Rattle.ttlv_run.specs.Inputs.{form_of, is_detected, encoding_of}
 
 -- it has four bytes at least
 four_by : (c b : Bool) → 4 ≤ (if c then 4 else if b then 64 else 1024)
-four_by true b = omega arith
-four_by false true = omega arith
-four_by false false = omega arith
+four_by c b = grind (arith, nat_tests)
 
 pub four_least : (e : Encoding) (s : List ℕ) → 4 ≤ front_size e s
 four_least e s = four_by (not (is_detected e) || (nat_lt (length s) 4 || looks_raw s)) (nat_lt (length s) 64 || is_some (front_of s))
 
 -- and 1,024 at most
 most_by : (c b : Bool) → (if c then 4 else if b then 64 else 1024) ≤ 1024
-most_by true b = omega arith
-most_by false true = omega arith
-most_by false false = omega arith
+most_by c b = grind (arith, nat_tests)
 
 pub size_most : (e : Encoding) (s : List ℕ) → front_size e s ≤ 1024
 size_most e s = most_by (not (is_detected e) || (nat_lt (length s) 4 || looks_raw s)) (nat_lt (length s) 64 || is_some (front_of s))
@@ -36,8 +30,7 @@ pub record Decided (e : Encoding) (s more : List ℕ) : Type 0 where
   pub encoding : encoding_of e (s ++ more) ≡ encoding_of e s
 
 some_least : (b : Bool) → 64 ≤ (if b then 64 else 1024)
-some_least true = omega arith
-some_least false = omega arith
+some_least b = grind (arith, nat_tests)
 
 module _ (s more : List ℕ) (long : front_size Detected s ≤ length s) where
   four : 4 ≤ length s
@@ -69,37 +62,32 @@ module _ (s more : List ℕ) (long : front_size Detected s ≤ length s) where
           let long_front : 1024 ≤ length s = rw of at least in
           ap (λ (t : List ℕ). text_found (front_of s) (body t)) (take-append-le 1024 s more long_front)
 
+-- one of two by a test
+pub either_by : {P Q : Type 0} (b : Bool) → (b ≡ true → Q) → (b ≡ false → P) → P ⊎ Q
+either_by true then_ else_ = inr (then_ refl)
+either_by false then_ else_ = inl (else_ refl)
+
 pub decided_on : (e : Encoding) (s more : List ℕ) → (front_size e s ≤ length s) ⊎ (more ≡ []) → Decided e s more
 decided_on e s more (inr none) = record { size = ap (front_size e) same; encoding = ap (encoding_of e) same }
   where
     same : s ++ more ≡ s
     same = ap (λ (m : List ℕ). s ++ m) none ∙ append-nil s
 decided_on Detected s more (inl long) = decided_by s more long (looks_raw s) refl (front_of s) refl
-decided_on Raw s more (inl long) = record { size = refl; encoding = refl }
-decided_on Hexadecimal s more (inl long) = record { size = refl; encoding = refl }
-decided_on Base64 s more (inl long) = record { size = refl; encoding = refl }
-decided_on Base64Url s more (inl long) = record { size = refl; encoding = refl }
-decided_on Armoured s more (inl long) = record { size = refl; encoding = refl }
-decided_on Dump s more (inl long) = record { size = refl; encoding = refl }
-decided_on Packets s more (inl long) = record { size = refl; encoding = refl }
+decided_on e s more (inl long) = record { size = refl; encoding = refl }
 
 -- and how long its mark is
 mark_on : (s more : List ℕ) → 4 ≤ length s → mark_length (s ++ more) ≡ mark_length s
 mark_on s more long =
     let b : (k : ℕ) → k < 4 → slice_index (s ++ more) k ≡ slice_index s k = λ k lt. get_or_append_left s more 0 k (omega (arith, lt, long)) in
-    ap (λ (x : ℕ). if x == 239 && (slice_index (s ++ more) 1 == 187 && slice_index (s ++ more) 2 == 191) then 3 else 0) (b 0 (omega arith))
-    ∙ ap (λ (x : ℕ). if slice_index s 0 == 239 && (x == 187 && slice_index (s ++ more) 2 == 191) then 3 else 0) (b 1 (omega arith))
-    ∙ ap (λ (x : ℕ). if slice_index s 0 == 239 && (slice_index s 1 == 187 && x == 191) then 3 else 0) (b 2 (omega arith))
+    rw (b 0 (omega arith), b 1 (omega arith), b 2 (omega arith)) refl
 
 three_most : (b : Bool) → (if b then 3 else 0) ≤ 3
-three_most true = omega arith
-three_most false = omega arith
+three_most b = grind (arith, nat_tests)
 
 pub body_on : (s more : List ℕ) → (4 ≤ length s) ⊎ (more ≡ []) → body (s ++ more) ≡ body s ++ more
 body_on s more (inr none) = ap (λ (m : List ℕ). body (s ++ m)) none ∙ ap body (append-nil s) ∙ sym (append-nil (body s))
     ∙ ap (λ (m : List ℕ). body s ++ m) (sym none)
-body_on s more (inl long) =
-    ap (λ (n : ℕ). drop n (s ++ more)) (mark_on s more long)
+body_on s more (inl long) = ap (λ (n : ℕ). drop n (s ++ more)) (mark_on s more long)
     ∙ drop-append-le (mark_length s) s more (omega (arith, long, three_most (slice_index s 0 == 239 && (slice_index s 1 == 187 && slice_index s 2 == 191))))
 
 -- the encoding of a form
@@ -111,9 +99,4 @@ pub taken_is : (e : Encoding) (form : Form) → form_of e ≡ Some form → take
 unfolding known_as
 taken_is Detected form is = cc is
 taken_is Raw form is = cc is
-taken_is Hexadecimal form is = sym (ap known_as is)
-taken_is Base64 form is = sym (ap known_as is)
-taken_is Base64Url form is = sym (ap known_as is)
-taken_is Armoured form is = sym (ap known_as is)
-taken_is Dump form is = sym (ap known_as is)
-taken_is Packets form is = sym (ap known_as is)
+taken_is e form is = sym (ap known_as is)

@@ -1,9 +1,7 @@
 -- The leaves that a walk meets lie among the bytes, and their values are those of their types; and so does a fault.
 use Rattle.std.proofs.Common.{ℕ, ◌≤◌, List, ◌∷◌, length, Some, ap, sym, ◌∙◌, arith}
-use Rattle.kmip_ttlv_types.specs.Leaves.{is_valid}
-use Rattle.kmip_ttlv_types.specs.Places.{length_at}
-use Rattle.kmip_ttlv_items.specs.declared.found.FoundItem.{FoundItem}
-use Rattle.kmip_ttlv_items.specs.declared.found.Fault.{Fault}
+use Rattle.kmip_ttlv_types.specs.{Leaves.is_valid, Places.length_at}
+use Rattle.kmip_ttlv_items.specs.declared.found.{FoundItem.FoundItem, Fault.Fault}
 use Rattle.kmip_ttlv_items.specs.ItemWalks.{content_at, IsWhole, StopsAt, at_root, inside, behind, Ended}
 use Rattle.kmip_ttlv_items.proofs.Spans.{size_least, own_least, own_leaf}
 use Rattle.kmip_ttlv_items.proofs.Walks.{walked}

@@ -1,30 +1,25 @@
 -- Digits decode group by group: the bytes of a whole group, and then those of the rest.
 use Rattle.std.proofs.Common.{◌≡◌, ℕ, zero, suc, ◌+◌, ◌-◌, ◌*◌, ◌/◌, ◌%◌, ◌<◌, ◌≤◌, true, false, Bool, if◌then◌else◌, List, [], ◌∷◌, ◌++◌, length, take, drop}
 use Rattle.std.proofs.Common.{slice_index, Option, None, Some, Result, Ok, Err, refl, sym, ap, subst, ◌∙◌, arith, ◌⊎◌, inl, inr}
-use Rattle.std.specs.Io.KnownBytes.{prepend_known}
+use Rattle.std.specs.{Io.KnownBytes.prepend_known, Result.result_ok}
 use Rattle.std.proofs.lemmas.List.{append-nil, append_assoc, length-append, take_all, take-append-drop, get_or-append_right, length-drop, length-take-le}
 use Rattle.std.proofs.lemmas.Bool.{lt-ltb}
 use Rattle.std.specs.Prelude.{replicate, ◌==◌, ◌&&◌, IfOk, IfSome}
-use Rattle.std.specs.Result.{result_ok}
-use Rattle.hex.specs.Hex as hex
 use Rattle.hex.specs.Hex.{hex_digit_value, digit_or_error, decode_pairs, ◌>>=◌}
 use Rattle.hex.specs.declared.error.FromHexError.{FromHexError}
 use Rattle.hex.proofs.HexLemmas.{decode_of-even}
-use Rattle.base64.specs.declared.decode.DecodeError.{DecodeError}
+use Rattle.base64.specs.{declared.decode.DecodeError.DecodeError, declared.engine.general_purpose.GeneralPurpose.GeneralPurpose, Tables.is_inverse}
+use Rattle.base64.specs.{Rfc4648.encode_symbols, Rfc4648.padding_len}
 use Rattle.base64.specs.Decode.{or_else, symbol_error, group_error, groups_error, groups_bytes, groups_before_last, lone_error, decode_outcome, decode_group}
 use Rattle.base64.specs.Engines.{standard, url_safe, url_safe_no_pad}
-use Rattle.base64.specs.declared.engine.general_purpose.GeneralPurpose.{GeneralPurpose}
-use Rattle.base64.specs.Tables.{is_inverse}
 use Rattle.base64.specs.GeneralPurpose.{decode_of, decoded_of, encode_of, IsBytes, IsDecodedInto, IsStrict, IsConsistent}
-use Rattle.base64.specs.Rfc4648.{encode_symbols, padding_len}
-use Rattle.base64.proofs.Canonical.{take_groups}
+use Rattle.base64.proofs.{Canonical.take_groups, RoundTrip.groups_encoded, RoundTrip.length-encode_symbols, Streams.decoded_of-groups, Streams.decoded_of-nil}
+use Rattle.base64.proofs.{Tables.encode-decode_table, Tables.are_tables_inverse}
 use Rattle.base64.proofs.EngineFacts.{decode_of-encode_of, decode_of_strict, front_bytes}
-use Rattle.base64.proofs.RoundTrip.{groups_encoded, length-encode_symbols}
-use Rattle.base64.proofs.Streams.{decoded_of-groups, decoded_of-nil}
-use Rattle.base64.proofs.Tables.{encode-decode_table, are_tables_inverse}
 use Rattle.ttlv_run.specs.Inputs.{answer_of, has_padding, url_alphabet, decode_digits, decode_form, width}
 use Rattle.ttlv_run.specs.declared.form.Form.{Form}
-use Rattle.ttlv_run.specs.declared.form.Form.TheVariants.{HexadecimalText, Base64Text, Base64UrlText, ArmouredText, DumpText, PacketText}
+use Rattle.ttlv_run.specs.declared.form.Form.TheVariants.{Base64Text, Base64UrlText, ArmouredText}
+use Rattle.hex.specs.Hex as hex
 
 -- the bytes of a group in front of those of a rest, where both are known
 abbrev pub behind : Option (List ℕ) → Option (List ℕ) → Option (List ℕ)
@@ -50,8 +45,7 @@ pairs [] = Some []
 pairs (digit ∷ []) = None
 pairs (high ∷ low ∷ rest) = in_front (both (hex_digit_value high) (hex_digit_value low)) (pairs rest)
 
-pair_answer :
-    (h l i : ℕ) (v w : Option ℕ) (r : Result (List ℕ) FromHexError)
+pair_answer : (h l i : ℕ) (v w : Option ℕ) (r : Result (List ℕ) FromHexError)
     → answer_of ((digit_or_error h i v >>= λ a. digit_or_error l (i + 1) w >>= λ b. Ok (a * 16 + b)) >>= λ byte. r >>= λ bytes. Ok (byte ∷ bytes))
     ≡ in_front (both v w) (answer_of r)
 pair_answer h l i None w r = refl
@@ -264,19 +258,15 @@ module _ (e : GeneralPurpose) where
 
 -- what a whole group of digits is where more digits follow
 abbrev pub group_of : Form → List ℕ → Option (List ℕ)
-group_of HexadecimalText g = pairs g
 group_of Base64Text g = whole_group standard g
 group_of Base64UrlText g = whole_group url_safe g
 group_of ArmouredText g = whole_group standard g
-group_of DumpText g = pairs g
-group_of PacketText g = pairs g
+group_of form g = pairs g
 
 hex_behind : (g rest : List ℕ) → length g ≡ 2 → answer_of (hex.decode_of (g ++ rest)) ≡ behind (pairs g) (answer_of (hex.decode_of rest))
-hex_behind [] rest two = absurd (omega (arith, two))
-hex_behind (a ∷ []) rest two = absurd (omega (arith, two))
 hex_behind (high ∷ low ∷ []) rest two =
     hex_pairs (high ∷ low ∷ rest) ∙ hex_group high low rest ∙ ap (behind (pairs (high ∷ low ∷ []))) (sym (hex_pairs rest))
-hex_behind (a ∷ b ∷ c ∷ more) rest two = absurd (omega (arith, two))
+hex_behind g rest two = absurd (omega (arith, two))
 
 -- four digits
 record Four (g : List ℕ) : Type 0 where
@@ -287,12 +277,8 @@ record Four (g : List ℕ) : Type 0 where
   are : g ≡ a ∷ b ∷ c ∷ d ∷ []
 
 four_of : (g : List ℕ) → length g ≡ 4 → Four g
-four_of [] four = absurd (omega (arith, four))
-four_of (a ∷ []) four = absurd (omega (arith, four))
-four_of (a ∷ b ∷ []) four = absurd (omega (arith, four))
-four_of (a ∷ b ∷ c ∷ []) four = absurd (omega (arith, four))
 four_of (a ∷ b ∷ c ∷ d ∷ []) four = record { a = a; b = b; c = c; d = d; are = refl }
-four_of (a ∷ b ∷ c ∷ d ∷ e ∷ more) four = absurd (omega (arith, four))
+four_of g four = absurd (omega (arith, four))
 
 base64_behind : (e : GeneralPurpose) (g : List ℕ) (x : ℕ) (rest : List ℕ) → length g ≡ 4 → answer_of (decode_of e (g ++ x ∷ rest)) ≡ behind (whole_group e g)
     (answer_of (decode_of e (x ∷ rest)))
@@ -323,19 +309,15 @@ url_behind g x rest four = ap (λ (p : Bool). decode_digits (url_alphabet p) (g 
 -- digits of a group, in front of one more
 pub behind_group : (form : Form) (g : List ℕ) (x : ℕ) (rest : List ℕ) → length g ≡ width form → decode_form form (g ++ x ∷ rest) ≡ behind (group_of form g)
     (decode_form form (x ∷ rest))
-behind_group HexadecimalText g x rest two = hex_behind g (x ∷ rest) two
 behind_group Base64Text g x rest four = base64_behind standard g x rest four
 behind_group Base64UrlText g x rest four = url_behind g x rest four
 behind_group ArmouredText g x rest four = base64_behind standard g x rest four
-behind_group DumpText g x rest two = hex_behind g (x ∷ rest) two
-behind_group PacketText g x rest two = hex_behind g (x ∷ rest) two
+behind_group form g x rest two = hex_behind g (x ∷ rest) two
 
 -- what digits of a group are, with more behind them, they are by themselves
 hex_whole : (g x : List ℕ) → length g ≡ 2 → pairs g ≡ Some x → (answer_of (hex.decode_of g) ≡ Some x) × (length x + 1 ≡ 2)
-hex_whole [] x two is = absurd (omega (arith, two))
-hex_whole (a ∷ []) x two is = absurd (omega (arith, two))
 hex_whole (high ∷ low ∷ []) x two is = (hex_pairs (high ∷ low ∷ []) ∙ is, omega (arith, pair_long high low x is))
-hex_whole (a ∷ b ∷ c ∷ more) x two is = absurd (omega (arith, two))
+hex_whole g x two is = absurd (omega (arith, two))
 
 base64_whole : (e : GeneralPurpose) → IsStrict e → IsConsistent e → (g x : List ℕ) → length g ≡ 4 → IsBytes g → whole_group e g ≡ Some x
     → (answer_of (decode_of e g) ≡ Some x) × (length x + 1 ≡ 4)
@@ -350,12 +332,10 @@ url_whole false g x four bytes is = base64_whole url_safe_no_pad (refl, refl) re
 
 whole_decodes : (form : Form) (g x : List ℕ) → length g ≡ width form → IsBytes g → group_of form g ≡ Some x → (decode_form form g ≡ Some x)
     × (length x + 1 ≡ width form)
-whole_decodes HexadecimalText g x two bytes is = hex_whole g x two is
 whole_decodes Base64Text g x four bytes is = base64_whole standard (refl, refl) refl g x four bytes is
 whole_decodes Base64UrlText g x four bytes is = url_whole (has_padding g) g x four bytes is
 whole_decodes ArmouredText g x four bytes is = base64_whole standard (refl, refl) refl g x four bytes is
-whole_decodes DumpText g x two bytes is = hex_whole g x two is
-whole_decodes PacketText g x two bytes is = hex_whole g x two is
+whole_decodes form g x two bytes is = hex_whole g x two is
 
 -- so are the other way round as many bytes as a group can be
 base64_known : (e : GeneralPurpose) → IsStrict e → IsConsistent e → (g x : List ℕ) → length g ≡ 4 → IsBytes g → IsBytes x → 4 ≤ length x + 1
@@ -370,12 +350,10 @@ url_known false g x four bytes are least is = base64_known url_safe_no_pad (refl
 
 pub group_known : (form : Form) (g x : List ℕ) → length g ≡ width form → IsBytes g → IsBytes x → width form ≤ length x + 1 → decode_form form g ≡ Some x
     → group_of form g ≡ Some x
-group_known HexadecimalText g x two bytes are least is = sym (hex_pairs g) ∙ is
 group_known Base64Text g x four bytes are least is = base64_known standard (refl, refl) refl g x four bytes are least is
 group_known Base64UrlText g x four bytes are least is = url_known (has_padding g) g x four bytes are least is
 group_known ArmouredText g x four bytes are least is = base64_known standard (refl, refl) refl g x four bytes are least is
-group_known DumpText g x two bytes are least is = sym (hex_pairs g) ∙ is
-group_known PacketText g x two bytes are least is = sym (hex_pairs g) ∙ is
+group_known form g x two bytes are least is = sym (hex_pairs g) ∙ is
 
 -- and less is none
 pub no_group : (form : Form) (g : List ℕ) → length g ≡ width form → IsBytes g → ((x : List ℕ) → decode_form form g ≡ Some x → length x + 1 < width form)
@@ -394,12 +372,10 @@ base64_nothing e = sym (of_is e []) ∙ decoded_of-nil e
 
 pub nothing : (form : Form) → decode_form form [] ≡ Some []
 unfolding pairs
-nothing HexadecimalText = hex_pairs []
 nothing Base64Text = base64_nothing standard
 nothing Base64UrlText = base64_nothing url_safe_no_pad
 nothing ArmouredText = base64_nothing standard
-nothing DumpText = hex_pairs []
-nothing PacketText = hex_pairs []
+nothing form = hex_pairs []
 
 -- a whole group in front of any digits
 pub group_then : (form : Form) (g x : List ℕ) → length g ≡ width form → IsBytes g → group_of form g ≡ Some x → (rest : List ℕ)
@@ -412,12 +388,10 @@ group_then form g x long bytes is (b ∷ rest) = behind_group form g b rest long
 -- ---- whole groups
 
 two_or_four : (form : Form) → (width form ≡ 2) ⊎ (width form ≡ 4)
-two_or_four HexadecimalText = inl refl
 two_or_four Base64Text = inr refl
 two_or_four Base64UrlText = inr refl
 two_or_four ArmouredText = inr refl
-two_or_four DumpText = inl refl
-two_or_four PacketText = inl refl
+two_or_four form = inl refl
 
 by_width : (form : Form) (P : ℕ → Type 0) → P 2 → P 4 → P (width form)
 by_width form P two four = elim (two_or_four form) [
@@ -457,11 +431,7 @@ back_bytes [] b bytes = bytes
 back_bytes (x ∷ a) b bytes = back_bytes a b (λ i. bytes (suc i))
 
 -- a group more in front
-front_step :
-    (form : Form) (g r t front all x : List ℕ)
-    → length g ≡ width form
-    → IsBytes g
-    → group_of form g ≡ Some x
+front_step : (form : Form) (g r t front all x : List ℕ) → length g ≡ width form → IsBytes g → group_of form g ≡ Some x
     → decode_form form (g ++ r) ≡ Some front
     → decode_form form (g ++ (r ++ t)) ≡ Some all
     → ((fs xs : List ℕ) → decode_form form r ≡ Some fs → decode_form form (r ++ t) ≡ Some xs → (more : List ℕ) × (xs ≡ fs ++ more))

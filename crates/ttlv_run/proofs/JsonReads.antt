@@ -1,36 +1,27 @@
 -- Lines of JSON that come piece by piece, printed one after the other.
-use Rattle.std.proofs.Common.{arith, ◌≡◌, ◌∙◌, inl, inr, ℕ, ◌+◌, ◌≤◌, Bool, true, false, List, [], ◌∷◌, ◌++◌, length, take, drop, Option, Some, None, Ok, refl}
-use Rattle.std.proofs.Common.{ap, sym, subst, append_assoc, append-nil, length-append, take-append-drop}
+use Rattle.std.proofs.Common.{arith, ◌≡◌, ◌∙◌, inl, inr, ℕ, ◌+◌, Bool, true, false, List, [], ◌∷◌, ◌++◌, length, take, drop, Option, Some, None, Ok, refl, ap}
+use Rattle.std.proofs.Common.{sym, subst, append_assoc, append-nil, length-append, take-append-drop}
 use Rattle.std.specs.Io.KnownBytes.{Appends, Consumes, IsAtEnd}
-use Rattle.std.specs.Prelude.{slice_index}
-use Rattle.std.specs.Str.{IsUtf8}
+use Rattle.std.specs.{Prelude.slice_index, Str.IsUtf8}
 use Rattle.std.proofs.KnownBytes.{Appends-trans, Appends-nil, Consumes-trans}
 use Rattle.std.proofs.lemmas.List.{drop-drop, length-drop, take-append-le, drop-append-le, get_or-drop}
 use Rattle.std.proofs.lemmas.Str.{IsUtf8-append, IsUtf8-nil}
 use Rattle.kmip_ttlv_names.specs.NameTables.{lines_of}
 use Rattle.kmip_ttlv_json.specs.declared.failure.JsonError.{JsonError}
-use Rattle.ttlv_run.specs.declared.job.JsonJob.{JsonJob}
-use Rattle.ttlv_run.specs.declared.run_error.RunError.{RunError}
-use Rattle.ttlv_run.specs.declared.run_error.RunError.TheVariants.{UnopenedInput, UnreadableInput, MisreadInput, NotUtf8, UnwritableOutput, ClosedPipe}
-use Rattle.ttlv_run.specs.declared.run_error.RunError.TheVariants.{NoMemory}
-use Rattle.ttlv_run.specs.Backs.{IsOneLine, IsLineAt}
-use Rattle.ttlv_run.specs.Inputs.{IsUnread}
-use Rattle.ttlv_run.specs.JsonLines.{GivesLine, Spoils, PrintsBytes, FailsAt, no_line, one_more, GivesLines, NextLine, PrintedJson, FaultsJson, NoTextJson}
-use Rattle.ttlv_run.specs.JsonLines.{UnwrittenJson, FailsJson, RespondsJson, fault_at}
-use Rattle.ttlv_run.specs.Reasons.{IsOfPrinting}
-use Rattle.ttlv_run.specs.Runs.{Streams}
-use Rattle.ttlv_run.specs.Streaming.{Yields}
-use Rattle.ttlv_run.proofs.Appending.{all_front}
+use Rattle.ttlv_run.specs.{declared.job.JsonJob.JsonJob, declared.run_error.RunError.RunError, declared.run_error.RunError.TheVariants.NotUtf8, Backs.IsOneLine}
+use Rattle.ttlv_run.specs.{Backs.IsLineAt, Inputs.IsUnread, Inputs.TakesSome, Runs.Streams, Streaming.Yields, Streaming.LinesFail}
+use Rattle.ttlv_run.specs.JsonLines.{GivesLine, Spoils, PrintsBytes, FailsAt, no_line, one_more, GivesLines, NextLine, FaultsJson, UnwrittenJson, FailsJson}
+use Rattle.ttlv_run.specs.JsonLines.{RespondsJson, fault_at}
+use Rattle.ttlv_run.proofs.{Appending.all_front, Windows.Left, Windows.left_of}
 use Rattle.ttlv_run.proofs.BackLines.{with_feed, first_of_lines, only_line, line_text, through_line, behind_line, within_line}
-use Rattle.ttlv_run.proofs.Decided.{front_more}
-use Rattle.ttlv_run.proofs.Windows.{Left, left_of}
+use Rattle.ttlv_run.proofs.Decided.{front_more, printing_by, unread_by}
 
 -- ---- lines that were printed
 
 gives_none : (raw : Bool) (bytes : List ℕ) → GivesLines raw bytes 0 []
 gives_none raw bytes = record { within = omega arith; lines = []; are = λ more. refl; is_text = IsUtf8-nil; give = no_line }
 
-module _ (raw : Bool) (bytes : List ℕ) (place : ℕ) (text : List ℕ) (g : GivesLines raw bytes place text) where
+module _ {raw : Bool} {bytes : List ℕ} {place : ℕ} {text : List ℕ} (g : GivesLines raw bytes place text) where
   -- they stay the same, whatever comes behind them
   gives_longer : (more : List ℕ) → GivesLines raw (bytes ++ more) place text
   gives_longer more =
@@ -53,12 +44,12 @@ module _ (raw : Bool) (bytes : List ℕ) (place : ℕ) (text : List ℕ) (g : Gi
       ∙ g.are (drop place bytes ++ left)
 
   -- the next one, with its line feed
-  module _ (line : List ℕ) (l : IsLineAt bytes place line) where
+  module _ {line : List ℕ} (l : IsLineAt bytes place line) where
     gives_line : (part : List ℕ) → IsUtf8 line → GivesLine raw line part → GivesLines raw bytes (place + (length line + 1)) (text ++ part)
     gives_line part u gives =
-        let whole = through_line bytes place line l in
+        let whole = through_line l in
         record {
-          within = within_line bytes place line l;
+          within = within_line l;
           lines = g.lines ++ line ∷ [];
           are = λ more.
               ap (λ (t : List ℕ). lines_of (t ++ more)) whole ∙ ap lines_of (append_assoc (take place bytes) (with_feed line) more)
@@ -73,7 +64,7 @@ module _ (raw : Bool) (bytes : List ℕ) (place : ℕ) (text : List ℕ) (g : Gi
         let more = drop (place + (length line + 1)) bytes in
         record {
           others = lines_of (more ++ left);
-          first = ap lines_of (rest_behind left) ∙ ap (λ (t : List ℕ). lines_of (t ++ left)) (behind_line bytes place line l)
+          first = ap lines_of (rest_behind left) ∙ ap (λ (t : List ℕ). lines_of (t ++ left)) (behind_line l)
               ∙ ap lines_of (append_assoc (with_feed line) more left) ∙ first_of_lines line (more ++ left) l.one_line;
         }
 
@@ -94,227 +85,201 @@ pub record JsonReading (job : JsonJob) (known now output output_now : Option (Li
   pub gives : GivesLines job.raw taken (base + at) text
   pub appended : Appends output output_now text
 
-module _ (job : JsonJob) (known output : Option (List ℕ)) where
-  pub json_starts : Consumes known known [] → JsonReading job known known output output 0 0 []
-  json_starts consumed = record { taken = []; text = []; consumed = consumed; are = refl; gives = gives_none job.raw []; appended = Appends-nil output }
+pub json_starts : {job : JsonJob} {known output : Option (List ℕ)} → Consumes known known [] → JsonReading job known known output output 0 0 []
+json_starts {job} {output = output} consumed =
+    record { taken = []; text = []; consumed = consumed; are = refl; gives = gives_none job.raw []; appended = Appends-nil output }
 
-  module _ (now mid : Option (List ℕ)) (base at : ℕ) (bytes : List ℕ) (p : JsonReading job known now output mid base at bytes) where
-    long : length bytes + base ≡ length p.taken
-    long = omega (arith, p.gives.within, ap (λ (t : List ℕ). length t) p.are, length-drop base p.taken)
+module _ {job : JsonJob} {known now output mid : Option (List ℕ)} {base at : ℕ} {bytes : List ℕ} (p : JsonReading job known now output mid base at bytes) where
+  pub json_of : {b : List ℕ} → b ≡ bytes → JsonReading job known now output mid base at b
+  json_of is = subst (JsonReading job known now output mid base at) (sym is) p
 
-    pub json_within : at ≤ length bytes
-    json_within = omega (arith, long, p.gives.within)
+  long : length bytes + base ≡ length p.taken
+  long = omega (arith, p.gives.within, ap (λ (t : List ℕ). length t) p.are, length-drop base p.taken)
 
-    place_is : drop (base + at) p.taken ≡ drop at bytes
-    place_is = sym (drop-drop at base p.taken) ∙ ap (drop at) p.are
+  place_is : drop (base + at) p.taken ≡ drop at bytes
+  place_is = sym (drop-drop at base p.taken) ∙ ap (drop at) p.are
 
-    line_here : (line : List ℕ) → IsLineAt bytes at line → IsLineAt p.taken (base + at) line
-    line_here line l =
-        let same : base + (at + length line) ≡ base + at + length line = omega arith in
-        record {
-          within = omega (arith, l.within, long);
-          is = l.is ∙ ap (take (length line)) (sym place_is);
-          one_line = l.one_line;
-          ends = ap (slice_index p.taken) (sym same) ∙ sym (get_or-drop base p.taken (at + length line) 0)
-              ∙ ap (λ (t : List ℕ). slice_index t (at + length line)) p.are ∙ l.ends;
-        }
+  line_here : {line : List ℕ} → IsLineAt bytes at line → IsLineAt p.taken (base + at) line
+  line_here {line} l =
+      let same : base + (at + length line) ≡ base + at + length line = omega arith in
+      record {
+        within = omega (arith, l.within, long);
+        is = l.is ∙ ap (take (length line)) (sym place_is);
+        one_line = l.one_line;
+        ends = ap (slice_index p.taken) (sym same) ∙ sym (get_or-drop base p.taken (at + length line) 0)
+            ∙ ap (λ (t : List ℕ). slice_index t (at + length line)) p.are ∙ l.ends;
+      }
 
-    module _ (new : Option (List ℕ)) where
-      abbrev streams : Streams
-      streams = record { input = known; input_left = now; output = output; output_now = new }
+  -- a line more
+  pub json_line : {new : Option (List ℕ)} {line : List ℕ} {error : Option JsonError} → IsLineAt bytes at line → error ≡ None
+      → PrintsBytes job.raw line mid new error
+      → JsonReading job known now output new base (at + (length line + 1)) bytes
+  json_line {new} {line} l none printed =
+      let here : base + at + (length line + 1) ≡ base + (at + (length line + 1)) = omega arith in
+      let reported = subst (PrintsBytes job.raw line mid new) none printed in
+      record {
+        taken = p.taken;
+        text = p.text ++ reported.1.0;
+        consumed = p.consumed;
+        are = p.are;
+        gives = subst (λ (n : ℕ). GivesLines job.raw p.taken n (p.text ++ reported.1.0)) here (gives_line p.gives (line_here l) reported.1.0 reported.0
+            reported.1.1);
+        appended = Appends-trans output mid new p.text reported.1.0 p.appended reported.1.2;
+      }
 
-      -- a line more
-      pub json_line : (line : List ℕ) → IsLineAt bytes at line → PrintsBytes job.raw line mid new None
-          → JsonReading job known now output new base (at + (length line + 1)) bytes
-      json_line line l reported =
-          let here : base + at + (length line + 1) ≡ base + (at + (length line + 1)) = omega arith in
+  -- the next line: one with its line feed, or what is left at the end
+  abbrev Next : Bool → List ℕ → Type 0
+  Next last line = (l : Left now last) × NextLine (p.taken ++ l.left) (base + at) line
+
+  pub json_next : {line : List ℕ} → IsLineAt bytes at line → Next false line
+  json_next l = let left = left_of now false (λ e. cc e) in (left, next_feed p.gives (line_here l) left.left)
+
+  pub json_rest : {line : List ℕ} → line ≡ drop at bytes → IsOneLine (drop at bytes) → IsAtEnd now → Next true line
+  json_rest is one end =
+      let l = left_of now true (λ _. end) in
+      let next = next_last p.gives l.left (l.none refl) (subst IsOneLine (sym place_is) one) in
+      (l, subst (NextLine (p.taken ++ l.left) (base + at)) (place_is ∙ sym is) next)
+
+  module _ (new : Option (List ℕ)) where
+    abbrev streams : Streams
+    streams = record { input = known; input_left = now; output = output; output_now = new }
+
+    same_text : Appends mid new [] → Appends output new p.text
+    same_text none = subst (Appends output new) (append-nil p.text) (Appends-trans output mid new p.text [] p.appended none)
+
+    -- the next line is bad, or no text, or fails
+    module _ {last : Bool} {line : List ℕ} (n : (l : Left now last) × NextLine (p.taken ++ l.left) (base + at) line) where
+      taken_some : TakesSome known now (p.taken ++ n.0.left)
+      taken_some = record { front = p.taken; left = n.0.left; are = refl; taken = p.consumed; rest = n.0.are }
+
+      pub json_bad : {error : JsonError} {found : Option JsonError} → found ≡ Some error → PrintsBytes job.raw line mid new found
+          → FaultsJson job streams (record { offset = base + at; error = error })
+      json_bad is printed =
+          let reported = subst (PrintsBytes job.raw line mid new) is printed in
           record {
-            taken = p.taken;
-            text = p.text ++ reported.1.0;
-            consumed = p.consumed;
-            are = p.are;
-            gives = subst (λ (n : ℕ). GivesLines job.raw p.taken n (p.text ++ reported.1.0)) here (gives_line job.raw p.taken (base + at) p.text p.gives line
-                (line_here line l) reported.1.0 reported.0 reported.1.1);
-            appended = Appends-trans output mid new p.text reported.1.0 p.appended reported.1.2;
+            input = p.taken ++ n.0.left;
+            text = p.text;
+            line = line;
+            taken = taken_some;
+            gives = gives_longer p.gives n.0.left;
+            next = n.1;
+            is_text = reported.0;
+            bad = reported.1.0;
+            appended = same_text reported.1.1;
           }
 
-      -- that is the last
-      pub json_printed : IsAtEnd now → (line : List ℕ) → line ≡ drop at bytes → IsOneLine (drop at bytes) → PrintsBytes job.raw line mid new None
-          → PrintedJson job streams
-      json_printed end line is one reported =
-          let rest : line ≡ drop (base + at) p.taken = is ∙ sym place_is in
-          let one_rest : IsOneLine (drop (base + at) p.taken) = subst IsOneLine (sym place_is) one in
-          let all : lines_of p.taken ≡ p.gives.lines ++ line ∷ [] =
-          ap lines_of (sym (append-nil p.taken)) ∙ all_lines job.raw p.taken (base + at) p.text p.gives [] ∙ ap (λ (t : List ℕ). p.gives.lines ++ lines_of t)
-          (append-nil (drop (base + at) p.taken))
-          ∙ ap (λ (ls : List (List ℕ)). p.gives.lines ++ ls) (only_line (drop (base + at) p.taken) one_rest)
-          ∙ ap (λ (t : List ℕ). p.gives.lines ++ t ∷ []) (sym rest) in
-          record {
-            input = p.taken;
-            text = p.text ++ reported.1.0;
-            place = base + at + length line + 1;
-            taken = record { taken = p.consumed; ended = end };
-            is_text = subst IsUtf8 (take-append-drop (base + at) p.taken) (IsUtf8-append (take (base + at) p.taken) (drop (base + at) p.taken) p.gives.is_text
-                (subst IsUtf8 rest reported.0));
-            give = one_more p.gives.lines (lines_of p.taken) line p.text reported.1.0 (p.text ++ reported.1.0) (base + at) (base + at + length line + 1)
-                p.gives.give reported.1.1 all refl refl;
-            appended = Appends-trans output mid new p.text reported.1.0 p.appended reported.1.2;
-          }
+      whole : lines_of (p.taken ++ n.0.left) ≡ p.gives.lines ++ line ∷ n.1.others
+      whole = all_lines p.gives n.0.left ∙ ap (λ (t : List ℕ). p.gives.lines ++ lines_of t) (sym (rest_behind p.gives n.0.left))
+          ∙ ap (λ (ls : List (List ℕ)). p.gives.lines ++ ls) n.1.first
 
-      same_text : Appends mid new [] → Appends output new p.text
-      same_text none = subst (Appends output new) (append-nil p.text) (Appends-trans output mid new p.text [] p.appended none)
+      spoiled : Spoils job.raw line mid new → UnwrittenJson job streams
+      spoiled (inl h) = record {
+        input = p.taken ++ n.0.left;
+        front = p.gives.lines ++ line ∷ [];
+        rest = n.1.others;
+        text = p.text ++ h.0;
+        place = base + at + length line + 1;
+        taken = taken_some;
+        there = whole ∙ sym (append_assoc p.gives.lines (line ∷ []) n.1.others);
+        give = one_more p.gives.lines (p.gives.lines ++ line ∷ []) line p.text h.0 (p.text ++ h.0) (base + at) (base + at + length line + 1) p.gives.give h.1
+            refl refl refl;
+        appended = front_more output mid new p.text h.0 p.appended h.2;
+      }
+      spoiled (inr none) = record {
+        input = p.taken ++ n.0.left;
+        front = p.gives.lines;
+        rest = line ∷ n.1.others;
+        text = p.text;
+        place = base + at;
+        taken = taken_some;
+        there = whole;
+        give = p.gives.give;
+        appended = all_front output new p.text (same_text none);
+      }
 
-      -- or that is bad, or no text, or fails
-      module _ (last : Bool) (l : Left now last) (line : List ℕ) (next : NextLine (p.taken ++ l.left) (base + at) line) where
-        pub json_bad : (error : JsonError) → PrintsBytes job.raw line mid new (Some error)
-            → FaultsJson job streams (record { offset = base + at; error = error })
-        json_bad error reported = record {
-          input = p.taken ++ l.left;
-          text = p.text;
-          line = line;
-          taken = record { front = p.taken; left = l.left; are = refl; taken = p.consumed; rest = l.are };
-          gives = gives_longer job.raw p.taken (base + at) p.text p.gives l.left;
-          next = next;
-          is_text = reported.0;
-          bad = reported.1.0;
-          appended = same_text reported.1.1;
-        }
-
-        no_text : FailsAt job.raw line mid new NotUtf8 → NoTextJson job streams
-        no_text reported = record {
-          input = p.taken ++ l.left;
-          place = base + at;
-          text = p.text;
-          line = line;
-          taken = record { front = p.taken; left = l.left; are = refl; taken = p.consumed; rest = l.are };
-          gives = gives_longer job.raw p.taken (base + at) p.text p.gives l.left;
-          next = next;
-          no_text = reported.0;
-          appended = same_text reported.1;
-        }
-
-        whole : lines_of (p.taken ++ l.left) ≡ p.gives.lines ++ line ∷ next.others
-        whole = all_lines job.raw p.taken (base + at) p.text p.gives l.left ∙ ap (λ (t : List ℕ). p.gives.lines ++ lines_of t)
-            (sym (rest_behind job.raw p.taken (base + at) p.text p.gives l.left)) ∙ ap (λ (ls : List (List ℕ)). p.gives.lines ++ ls) next.first
-
-        spoiled : Spoils job.raw line mid new → UnwrittenJson job streams
-        spoiled (inl h) = record {
-          input = p.taken ++ l.left;
-          front = p.gives.lines ++ line ∷ [];
-          rest = next.others;
-          text = p.text ++ h.0;
-          place = base + at + length line + 1;
-          taken = record { front = p.taken; left = l.left; are = refl; taken = p.consumed; rest = l.are };
-          there = whole ∙ sym (append_assoc p.gives.lines (line ∷ []) next.others);
-          give = one_more p.gives.lines (p.gives.lines ++ line ∷ []) line p.text h.0 (p.text ++ h.0) (base + at) (base + at + length line + 1) p.gives.give h.1
-              refl refl refl;
-          appended = front_more output mid new p.text h.0 p.appended h.2;
-        }
-        spoiled (inr none) = record {
-          input = p.taken ++ l.left;
-          front = p.gives.lines;
-          rest = line ∷ next.others;
-          text = p.text;
-          place = base + at;
-          taken = record { front = p.taken; left = l.left; are = refl; taken = p.consumed; rest = l.are };
-          there = whole;
-          give = p.gives.give;
-          appended = all_front output new p.text (same_text none);
-        }
-
-        pub json_fails : (why : RunError) → FailsAt job.raw line mid new why → FailsJson job streams why
-        json_fails NotUtf8 reported = no_text reported
-        json_fails UnwritableOutput reported = spoiled reported.1
-        json_fails ClosedPipe reported = spoiled reported.1
-        json_fails NoMemory reported = spoiled reported.1
-        json_fails UnreadableInput reported = absurd (none_such reported.0)
-          where
-            none_such : IsOfPrinting UnreadableInput → ⊥
-            none_such (inl e) = cc e
-            none_such (inr (inl e)) = cc e
-            none_such (inr (inr e)) = cc e
-        json_fails UnopenedInput reported = absurd (none_such reported.0)
-          where
-            none_such : IsOfPrinting UnopenedInput → ⊥
-            none_such (inl e) = cc e
-            none_such (inr (inl e)) = cc e
-            none_such (inr (inr e)) = cc e
-        json_fails (MisreadInput m) reported = absurd (none_such reported.0)
-          where
-            none_such : IsOfPrinting (MisreadInput m) → ⊥
-            none_such (inl e) = cc e
-            none_such (inr (inl e)) = cc e
-            none_such (inr (inr e)) = cc e
-
-    -- a line with its line feed is the next one, and what is left at the end is
-    pub json_next : (line : List ℕ) → IsLineAt bytes at line → (left : List ℕ) → NextLine (p.taken ++ left) (base + at) line
-    json_next line l left = next_feed job.raw p.taken (base + at) p.text p.gives line (line_here line l) left
-
-    pub json_rest : (line : List ℕ) → line ≡ drop at bytes → IsOneLine (drop at bytes) → (left : List ℕ) → left ≡ []
-        → NextLine (p.taken ++ left) (base + at) line
-    json_rest line is one left none =
-        subst (NextLine (p.taken ++ left) (base + at)) (place_is ∙ sym is) (next_last job.raw p.taken (base + at) p.text p.gives left none
-        (subst IsOneLine (sym place_is) one))
+      pub json_fails : (why : RunError) → FailsAt job.raw line mid new why → FailsJson job streams why
+      json_fails NotUtf8 reported = record {
+        input = p.taken ++ n.0.left;
+        place = base + at;
+        text = p.text;
+        line = line;
+        taken = taken_some;
+        gives = gives_longer p.gives n.0.left;
+        next = n.1;
+        no_text = reported.0;
+        appended = same_text reported.1;
+      }
+      json_fails why reported = let u = spoiled reported.1 in printing_by (FailsJson job streams) reported.0 u u u
 
     -- the input ended behind a line
-    pub json_ended :
-        (new : Option (List ℕ)) (end : IsAtEnd now) (line : List ℕ) (error : Option JsonError)
-        → line ≡ drop at bytes
-        → IsOneLine (drop at bytes)
+    pub json_ended : {line : List ℕ} → line ≡ drop at bytes → IsOneLine (drop at bytes) → IsAtEnd now → (error : Option JsonError)
         → PrintsBytes job.raw line mid new error
-        → RespondsJson job (record { input = known; input_left = now; output = output; output_now = new }) (Ok (fault_at (base + at) error))
-    json_ended new end line None is one reported = json_printed new end line is one reported
-    json_ended new end line (Some error) is one reported =
-        let l = left_of now true (λ _. end) in
-        json_bad new true l line (json_rest line is one l.left (l.none refl)) error reported
-
-    -- more bytes came
-    pub json_came : (next : Option (List ℕ)) (after : List ℕ) → Yields now next (drop at bytes) after
-        → JsonReading job known next output mid (base + at) 0 after
-    json_came next after yields =
-        let here : base + at ≡ base + at + 0 = omega arith in
+        → RespondsJson job streams (Ok (fault_at (base + at) error))
+    json_ended {line} is one end None reported =
+        let rest : line ≡ drop (base + at) p.taken = is ∙ sym place_is in
+        let one_rest : IsOneLine (drop (base + at) p.taken) = subst IsOneLine (sym place_is) one in
+        let all : lines_of p.taken ≡ p.gives.lines ++ line ∷ [] =
+        ap lines_of (sym (append-nil p.taken)) ∙ all_lines p.gives [] ∙ ap (λ (t : List ℕ). p.gives.lines ++ lines_of t) (append-nil (drop (base + at) p.taken))
+        ∙ ap (λ (ls : List (List ℕ)). p.gives.lines ++ ls) (only_line (drop (base + at) p.taken) one_rest)
+        ∙ ap (λ (t : List ℕ). p.gives.lines ++ t ∷ []) (sym rest) in
         record {
-          taken = p.taken ++ yields.came;
-          text = p.text;
-          consumed = Consumes-trans known now next p.taken yields.came p.consumed yields.consumed;
-          are = rest_behind job.raw p.taken (base + at) p.text p.gives yields.came ∙ ap (λ (t : List ℕ). t ++ yields.came) place_is ∙ sym yields.are;
-          gives = subst (λ (n : ℕ). GivesLines job.raw (p.taken ++ yields.came) n p.text) here
-              (gives_longer job.raw p.taken (base + at) p.text p.gives yields.came);
-          appended = p.appended;
+          input = p.taken;
+          text = p.text ++ reported.1.0;
+          place = base + at + length line + 1;
+          taken = record { taken = p.consumed; ended = end };
+          is_text = subst IsUtf8 (take-append-drop (base + at) p.taken) (IsUtf8-append (take (base + at) p.taken) (drop (base + at) p.taken) p.gives.is_text
+              (subst IsUtf8 rest reported.0));
+          give = one_more p.gives.lines (lines_of p.taken) line p.text reported.1.0 (p.text ++ reported.1.0) (base + at) (base + at + length line + 1)
+              p.gives.give reported.1.1 all refl refl;
+          appended = Appends-trans output mid new p.text reported.1.0 p.appended reported.1.2;
         }
+    json_ended is one end (Some error) reported = json_bad (json_rest is one end) refl reported
 
-    -- nothing more was printed
-    pub json_no_memory : UnwrittenJson job (record { input = known; input_left = now; output = output; output_now = mid })
-    json_no_memory =
-        let l = left_of now false (λ e. cc e) in
-        record {
-          input = p.taken ++ l.left;
-          front = p.gives.lines;
-          rest = lines_of (drop (base + at) p.taken ++ l.left);
-          text = p.text;
-          place = base + at;
-          taken = record { front = p.taken; left = l.left; are = refl; taken = p.consumed; rest = l.are };
-          there = all_lines job.raw p.taken (base + at) p.text p.gives l.left;
-          give = p.gives.give;
-          appended = all_front output mid p.text p.appended;
-        }
+  -- more bytes came
+  pub json_came : {next : Option (List ℕ)} {before after : List ℕ} → before ≡ drop at bytes → Yields now next before after
+      → JsonReading job known next output mid (base + at) 0 after
+  json_came {next} is yields =
+      let here : base + at ≡ base + at + 0 = omega arith in
+      record {
+        taken = p.taken ++ yields.came;
+        text = p.text;
+        consumed = Consumes-trans known now next p.taken yields.came p.consumed yields.consumed;
+        are = rest_behind p.gives yields.came ∙ ap (λ (t : List ℕ). t ++ yields.came) (place_is ∙ sym is) ∙ sym yields.are;
+        gives = subst (λ (n : ℕ). GivesLines job.raw (p.taken ++ yields.came) n p.text) here (gives_longer p.gives yields.came);
+        appended = p.appended;
+      }
 
-    -- reading failed, or memory ran out for it
-    pub json_read_fails : IsOneLine (drop at bytes) → (why : RunError) → IsUnread why
-        → FailsJson job (record { input = known; input_left = now; output = output; output_now = mid }) why
-    json_read_fails one UnreadableInput h = record {
-      bytes = p.taken;
-      place = base + at;
-      text = p.text;
-      taken = p.consumed;
-      gives = p.gives;
-      one_line =
-          subst IsOneLine (sym place_is) one;
-      appended = p.appended;
-    }
-    json_read_fails one NoMemory h = json_no_memory
-    json_read_fails one UnopenedInput h = absurd h
-    json_read_fails one (MisreadInput m) h = absurd h
-    json_read_fails one NotUtf8 h = absurd h
-    json_read_fails one UnwritableOutput h = absurd h
-    json_read_fails one ClosedPipe h = absurd h
+  -- nothing more was printed
+  pub json_no_memory : UnwrittenJson job (record { input = known; input_left = now; output = output; output_now = mid })
+  json_no_memory =
+      let l = left_of now false (λ e. cc e) in
+      record {
+        input = p.taken ++ l.left;
+        front = p.gives.lines;
+        rest = lines_of (drop (base + at) p.taken ++ l.left);
+        text = p.text;
+        place = base + at;
+        taken = record { front = p.taken; left = l.left; are = refl; taken = p.consumed; rest = l.are };
+        there = all_lines p.gives l.left;
+        give = p.gives.give;
+        appended = all_front output mid p.text p.appended;
+      }
+
+  unread : IsOneLine (drop at bytes) → (why : RunError) → IsUnread why
+      → FailsJson job (record { input = known; input_left = now; output = output; output_now = mid }) why
+  unread one why h = unread_by (FailsJson job (record { input = known; input_left = now; output = output; output_now = mid })) why h (record {
+    bytes = p.taken;
+    place = base + at;
+    text = p.text;
+    taken = p.consumed;
+    gives = p.gives;
+    one_line = subst IsOneLine (sym place_is) one;
+    appended = p.appended;
+  }) json_no_memory
+
+-- reading failed, or memory ran out for it
+pub json_read_fails : {job : JsonJob} {known now next output mid : Option (List ℕ)} {base at : ℕ} {bytes before after : List ℕ}
+    → JsonReading job known now output mid base at bytes → before ≡ drop at bytes → IsOneLine (drop at bytes) → LinesFail now next before after
+    → (why : RunError) → IsUnread why
+    → FailsJson job (record { input = known; input_left = next; output = output; output_now = mid }) why
+json_read_fails p is one f = unread (json_came p is f.yields) (f.one_line (subst IsOneLine (sym is) one))

@@ -5,10 +5,7 @@ use Rattle.std.specs.Prelude.{slice_index, ◌||◌}
 use Rattle.ttlv_run.specs.Guesses.{starts_packet, has_packet}
 
 -- it doesn't stand at a place, so it stands behind that, or not at all
-pub packet_behind :
-    (s : List ℕ) (i : ℕ)
-    → i < length s
-    → starts_packet (take (length s - i) (drop i s)) ≡ false
+pub packet_behind : (s : List ℕ) (i : ℕ) → i < length s → starts_packet (take (length s - i) (drop i s)) ≡ false
     → has_packet s ≡ has_packet (drop i s)
     → has_packet s ≡ has_packet (drop (i + 1) s)
 packet_behind s i lt none before =

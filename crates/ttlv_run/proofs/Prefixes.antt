@@ -4,24 +4,16 @@ use Rattle.std.proofs.Common.{arith, append-nil, append_assoc}
 use Rattle.std.specs.Prelude.{slice_index}
 use Rattle.std.proofs.Math.Seq.{drop-append_seam}
 use Rattle.kmip_ttlv_items.specs.ItemWalks.{AreBytes}
-use Rattle.ttlv_run.specs.declared.form.Form.{Form}
-use Rattle.ttlv_run.specs.declared.form.LinePart.{LinePart}
-use Rattle.ttlv_run.specs.declared.form.Step.{Step}
+use Rattle.ttlv_run.specs.{declared.form.Form.Form, declared.form.LinePart.LinePart, declared.form.Step.Step, declared.job.Encoding.Encoding}
+use Rattle.ttlv_run.specs.{declared.job.Job.Job, declared.messages.Place.Place as FaultPlace, Messages.Breaks, Messages.Continues, Texts.Names}
 use Rattle.ttlv_run.specs.declared.form.Step.TheVariants.{Counts, Skips, Wrong}
-use Rattle.ttlv_run.specs.declared.job.Encoding.{Encoding}
-use Rattle.ttlv_run.specs.declared.job.Job.{Job}
-use Rattle.ttlv_run.specs.declared.messages.Place.{Place as FaultPlace}
 use Rattle.ttlv_run.specs.Columns.{first_part, step, body, Reads, begins, counts, skips}
 use Rattle.ttlv_run.specs.Fronts.{DecodesTo, StandsFrontIn, StandsFront, StandsUpTo}
 use Rattle.ttlv_run.specs.Inputs.{Decodes, decode_form, form_of, encoding_of, StandsIn, Stands}
-use Rattle.ttlv_run.specs.Messages.{Breaks, Continues}
 use Rattle.ttlv_run.specs.Runs.{Streams, HasText, Faults, Unwritten}
-use Rattle.ttlv_run.specs.Texts.{Names}
 use Rattle.base64.specs.GeneralPurpose.{IsBytes}
 use Rattle.base64.proofs.EngineFacts.{front_bytes}
-use Rattle.ttlv_run.proofs.Counting.{read_bytes}
-use Rattle.ttlv_run.proofs.Groups.{digits_behind}
-use Rattle.ttlv_run.proofs.Windows.{bytes_drop}
+use Rattle.ttlv_run.proofs.{Counting.read_bytes, Groups.digits_behind, Windows.bytes_drop}
 
 -- where the reading of a text stands: its digits so far, the part of a line, and what is left
 record Place : Type 0 where
@@ -153,12 +145,8 @@ record Further (bytes all : List ℕ) (last : Bool) : Type 0 where
   are : all ≡ bytes ++ more
 
 further_of : (e : Encoding) (s bytes all : List ℕ) (last : Bool) → StandsUpTo e s bytes last → Stands e s all → Further bytes all last
-further_of e s bytes all true v w = record {
-  more = [];
-  none = λ _. refl;
-  are = stands_once (form_of (encoding_of e s)) s bytes all v w
-      ∙ sym (append-nil bytes);
-}
+further_of e s bytes all true v w =
+    record { more = []; none = λ _. refl; are = stands_once (form_of (encoding_of e s)) s bytes all v w ∙ sym (append-nil bytes) }
 further_of e s bytes all false v w =
     let p = front_of_all e s bytes all v w in
     record { more = p.0; none = λ end. cc end; are = p.1 }

@@ -1,9 +1,8 @@
 -- Runs over several inputs.
 use Rattle.std.proofs.Common.{◌≡◌, ◌≢◌, ℕ, ◌+◌, ◌<◌, Bor, List, length, take, get_or, arith}
 use Rattle.std.proofs.lemmas.Grind.{take_at_read}
-use Rattle.ttlv_run.specs.declared.job.Asked.{Asked}
+use Rattle.ttlv_run.specs.{declared.job.Asked.Asked, Texts.Names}
 use Rattle.ttlv_run.specs.Files.{At, Opening, FileDone, AllDone, one_more, greater, FilesDone}
-use Rattle.ttlv_run.specs.Texts.{Names}
 
 module _ {O I : Type 0} (how : Opening O I) (names : Names) (asked : Asked) (start : At O) (files : List (Bor (List ℕ))) where
   -- with one file more

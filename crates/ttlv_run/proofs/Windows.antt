@@ -1,50 +1,32 @@
 -- Messages among bytes that stand among those of all messages, and an input that comes piece by piece.
-use Rattle.std.proofs.Common.{◌≡◌, ◌⊎◌, inl, inr, ℕ, ◌+◌, ◌-◌, ◌<◌, ◌≤◌, Bool, true, false, ◌&&◌, if◌then◌else◌, List, [], ◌∷◌, ◌++◌, length, take, drop}
-use Rattle.std.proofs.Common.{take-add, get_or, Some, None, Option, IfSome, ap, sym, refl, subst, ◌∙◌, arith, append-nil, append_assoc}
+use Rattle.std.proofs.Common.{◌≡◌, ◌⊎◌, inl, inr, ℕ, ◌+◌, ◌-◌, ◌<◌, ◌≤◌, Bool, true, false, ◌&&◌, if◌then◌else◌, List, [], ◌++◌, length, take, drop, take-add}
+use Rattle.std.proofs.Common.{get_or, Some, None, Option, IfSome, ap, sym, refl, subst, ◌∙◌, arith, append-nil, append_assoc, nat_eq}
 use Rattle.std.specs.Prelude.{◌||◌, nat_le, nat_lt}
-use Rattle.std.specs.Int.{w32, from_be_bytes}
 use Rattle.std.specs.Io.KnownBytes.{Appends, Consumes, IsAtEnd, Keeps}
 use Rattle.std.proofs.KnownBytes.{Appends-nil, Appends-trans, Consumes-trans, Consumes-kept}
-use Rattle.std.proofs.lemmas.Bool.{cases_lt, leb-true, le-leb, ltb-true, lt-ltb, le-ltb, and_parts}
+use Rattle.std.proofs.lemmas.Bool.{cases_lt, or_cases, eqb-true, leb-true, le-leb, ltb-true, le-ltb, and_parts}
 use Rattle.std.proofs.lemmas.List.{take-append-drop, get_or-take, get_or-drop, get_or_past, get_or_append_left, get_or-append_right, take-append-le}
-use Rattle.std.proofs.lemmas.List.{drop-append-le, length-append, length-drop, length-take-le, drop_all, drop-drop}
-use Rattle.kmip_ttlv_types.specs.Places.{length_at}
-use Rattle.kmip_ttlv_types.specs.Streams.{AppendsFront}
+use Rattle.std.proofs.lemmas.List.{drop-append-le, length-append, length-drop, length-take-le, drop-drop}
+use Rattle.kmip_ttlv_types.specs.{Places.length_at, Streams.AppendsFront}
 use Rattle.kmip_ttlv_types.proofs.Taken.{AppendsFront-second}
-use Rattle.kmip_ttlv_items.specs.declared.found.Fault.{Fault}
-use Rattle.kmip_ttlv_items.specs.ItemWalks.{AreBytes}
+use Rattle.kmip_ttlv_items.specs.{declared.found.Fault.Fault, ItemWalks.AreBytes}
 use Rattle.kmip_ttlv_util.specs.Pieces.{SomeText}
-use Rattle.ttlv_run.specs.declared.form.Form.{Form}
-use Rattle.ttlv_run.specs.declared.job.Encoding.{Encoding}
-use Rattle.ttlv_run.specs.declared.job.Job.{Job}
-use Rattle.ttlv_run.specs.declared.job.Task.{Task}
-use Rattle.ttlv_run.specs.declared.messages.Place.{Place}
-use Rattle.ttlv_run.specs.declared.messages.Reached.{Reached}
-use Rattle.ttlv_run.specs.declared.messages.Reached.TheVariants.{Behind, Fault as AtFault}
-use Rattle.ttlv_run.specs.declared.run_error.RunError.{RunError}
-use Rattle.ttlv_run.specs.declared.run_error.RunError.TheVariants.{UnopenedInput, UnreadableInput, MisreadInput, NotUtf8, UnwritableOutput, ClosedPipe}
-use Rattle.ttlv_run.specs.declared.run_error.RunError.TheVariants.{NoMemory}
+use Rattle.ttlv_run.specs.declared.{form.Form.Form, job.Encoding.Encoding, job.Job.Job, job.Task.Task, messages.Place.Place, messages.Reached.Reached}
+use Rattle.ttlv_run.specs.declared.{messages.Reached.TheVariants.Behind, messages.Reached.TheVariants.Fault as AtFault, run_error.RunError.RunError}
 use Rattle.ttlv_run.specs.Fronts.{front_size, StandsFrontIn, StandsUpTo}
-use Rattle.ttlv_run.specs.Inputs.{TakesSome, IsUnread, form_of, encoding_of, StandsIn, Stands}
-use Rattle.ttlv_run.specs.Messages.{is_there, first_size, message_at, is_taken, Whole, whole_none, whole_more, IsWrong, Breaks, Continues}
-use Rattle.ttlv_run.specs.Runs.{Streams, Printed, Faults, Unwritten, Fronts, FrontsIn, FrontsIf, Fails}
-use Rattle.ttlv_run.specs.Streaming.{is_due, StandsAt, EndsAt, PrintsOn, ContinuesBehind, Yields, YieldsBy}
+use Rattle.ttlv_run.specs.Inputs.{TakesAll, TakesSome, IsUnread, form_of, encoding_of, StandsIn, Stands}
+use Rattle.ttlv_run.specs.Messages.{is_there, first_size, message_at, is_taken, Whole, whole_none, whole_more, IsWrong, Continues}
+use Rattle.ttlv_run.specs.Runs.{Printed, Faults, Unwritten, Fronts, Fails}
+use Rattle.ttlv_run.specs.Streaming.{is_due, StandsAt, EndsAt, PrintsUpTo, PrintsOn, ContinuesBehind, Yields, YieldsBy}
 use Rattle.ttlv_run.specs.Texts.{Names, IsMessageText}
-use Rattle.ttlv_run.proofs.Appending.{all_front}
-use Rattle.ttlv_run.proofs.Completion.{whole_goes, goes_behind}
-use Rattle.ttlv_run.proofs.FrontsDecided.{Decided, decided_on}
-
-true_is_false : true ≡ false → ⊥
-true_is_false e = cc
+use Rattle.ttlv_run.proofs.{Appending.all_front, Completion.whole_goes, Completion.goes_behind, Decided.unread_by}
+use Rattle.ttlv_run.proofs.FrontsDecided.{Decided, either_by, decided_on}
 
 -- the length in a header is that of its bytes, whatever stands behind them
 length_there : (r more : List ℕ) → 8 ≤ length r → length_at (r ++ more) 0 ≡ length_at r 0
 length_there r more le =
     let b : (k : ℕ) → k < 8 → get_or (r ++ more) k 0 ≡ get_or r k 0 = λ k lt. get_or_append_left r more 0 k (omega (arith, lt, le)) in
-    ap (λ x. from_be_bytes w32 (x ∷ get_or (r ++ more) 5 0 ∷ get_or (r ++ more) 6 0 ∷ get_or (r ++ more) 7 0 ∷ [])) (b 4 (omega arith))
-    ∙ ap (λ x. from_be_bytes w32 (get_or r 4 0 ∷ x ∷ get_or (r ++ more) 6 0 ∷ get_or (r ++ more) 7 0 ∷ [])) (b 5 (omega arith))
-    ∙ ap (λ x. from_be_bytes w32 (get_or r 4 0 ∷ get_or r 5 0 ∷ x ∷ get_or (r ++ more) 7 0 ∷ [])) (b 6 (omega arith))
-    ∙ ap (λ x. from_be_bytes w32 (get_or r 4 0 ∷ get_or r 5 0 ∷ get_or r 6 0 ∷ x ∷ [])) (b 7 (omega arith))
+    rw (b 4 (omega arith), b 5 (omega arith), b 6 (omega arith), b 7 (omega arith)) refl
 
 -- a message that is there
 there_parts : (r : List ℕ) → is_there r ≡ true → (8 ≤ length r) × (8 + length_at r 0 ≤ length r)
@@ -67,12 +49,12 @@ first_there r more h =
     let size : first_size (r ++ more) ≡ first_size r = size_of (r ++ more) here ∙ ap (λ (n : ℕ). 8 + n) same ∙ sym (size_of r h) in
     ap (λ (n : ℕ). take n (r ++ more)) size ∙ take-append-le (first_size r) r more (omega (arith, size_of r h, p.1))
 
-module _ (all : List ℕ) (base : ℕ) (bytes : List ℕ) (last : Bool) (stands : StandsAt all base bytes last) where
+module _ {all : List ℕ} {base : ℕ} {bytes : List ℕ} {last : Bool} (stands : StandsAt all base bytes last) where
   stands_long : length all ≡ base + (length bytes + length stands.more)
   stands_long = omega (arith, stands.within, length-drop base all, ap (λ (s : List ℕ). length s) stands.are, length-append bytes stands.more)
 
   -- a message among the bytes is that of all
-  pub same_message : (at : ℕ) → at ≤ length bytes → (last ≡ true) ⊎ (is_there (drop at bytes) ≡ true) → message_at all (base + at) ≡ message_at bytes at
+  same_message : (at : ℕ) → at ≤ length bytes → (last ≡ true) ⊎ (is_there (drop at bytes) ≡ true) → message_at all (base + at) ≡ message_at bytes at
   same_message at le due = ap (λ (r : List ℕ). take (first_size r) r) rest ∙ by due
     where
       rest : drop (base + at) all ≡ drop at bytes ++ stands.more
@@ -83,23 +65,18 @@ module _ (all : List ℕ) (base : ℕ) (bytes : List ℕ) (last : Bool) (stands 
       by (inl end) = ap (λ (r : List ℕ). take (first_size r) r) (ap (λ (m : List ℕ). drop at bytes ++ m) (stands.ends end) ∙ append-nil (drop at bytes))
       by (inr there) = first_there (drop at bytes) stands.more there
 
-  pub stands_before : (at : ℕ) → at < length bytes → base + at < length all
+  stands_before : (at : ℕ) → at < length bytes → base + at < length all
   stands_before at lt = omega (arith, lt, stands_long)
 
 -- a message is due
 due_parts : (bytes : List ℕ) (at : ℕ) (last : Bool) → is_due bytes at last ≡ true → (at < length bytes)
     × ((last ≡ true) ⊎ (is_there (drop at bytes) ≡ true))
-due_parts bytes at last h = (ltb-true at (length bytes) p.0, by last p.1)
-  where
-    p : (nat_lt at (length bytes) ≡ true) × ((last || is_there (drop at bytes)) ≡ true)
-    p = and_parts (nat_lt at (length bytes)) (last || is_there (drop at bytes)) h
-
-    by : (b : Bool) → (b || is_there (drop at bytes)) ≡ true → (b ≡ true) ⊎ (is_there (drop at bytes) ≡ true)
-    by true is = inl refl
-    by false is = inr is
+due_parts bytes at last h =
+    let p = and_parts (nat_lt at (length bytes)) (last || is_there (drop at bytes)) h in
+    (ltb-true at (length bytes) p.0, or_cases last (is_there (drop at bytes)) p.1)
 
 -- bytes, wherever they are looked for
-plain_bytes : (w : List ℕ) → AreBytes w → (k : ℕ) → get_or w k 0 < 256
+pub plain_bytes : (w : List ℕ) → AreBytes w → (k : ℕ) → get_or w k 0 < 256
 plain_bytes w h k = elim (cases_lt k (length w)) [ inl lt ↦ h k lt | inr le ↦ omega (arith, get_or_past w k 0 le) ]
 
 -- what is printed of the bytes up to a place, whatever stands in front of them and behind
@@ -108,66 +85,56 @@ UpTo names task base bytes last at t =
     (all front : List ℕ) → StandsAt all base bytes last → Whole names task all base front → Whole names task all (base + at) (front ++ t)
 
 -- the message that is due at a place
-module _ (names : Names) (task : Task) (base : ℕ) (bytes : List ℕ) (last : Bool) (at : ℕ) (m t reported : List ℕ) (is : m ≡ message_at bytes at)
+module _ {names : Names} {task : Task} {base : ℕ} {bytes : List ℕ} {last : Bool} (at : ℕ) {m : List ℕ} (t : List ℕ) (is : m ≡ message_at bytes at)
     (due : is_due bytes at last ≡ true) (up : UpTo names task base bytes last at t) where
   inside : at < length bytes
   inside = (due_parts bytes at last due).0
 
-  same : (all : List ℕ) → StandsAt all base bytes last → m ≡ message_at all (base + at)
-  same all stands = is ∙ sym (same_message all base bytes last stands at (omega (arith, inside)) (due_parts bytes at last due).1)
+  same : {all : List ℕ} → StandsAt all base bytes last → m ≡ message_at all (base + at)
+  same stands = is ∙ sym (same_message stands at (omega (arith, inside)) (due_parts bytes at last due).1)
 
-  left : (all : List ℕ) → StandsAt all base bytes last → base + at < length all
-  left all stands = stands_before all base bytes last stands at inside
-
-  decides_all : (all : List ℕ) → StandsAt all base bytes last → (f : Option Fault) → IsMessageText names task (base + at) m reported f
+  decides_all : {all reported : List ℕ} {f : Option Fault} → StandsAt all base bytes last → IsMessageText names task (base + at) m reported f
       → IsMessageText names task (base + at) (message_at all (base + at)) reported f
-  decides_all all stands f tells = subst (λ (s : List ℕ). IsMessageText names task (base + at) s reported f) (same all stands) tells
+  decides_all {reported = reported} {f} stands tells = subst (λ (s : List ℕ). IsMessageText names task (base + at) s reported f) (same stands) tells
 
   -- is whole
-  pub one_more : IsMessageText names task (base + at) m reported None → is_taken task m ≡ true → UpTo names task base bytes last (at + length m) (t ++ reported)
-  one_more tells taken all front stands whole =
-      whole_more (base + at) (base + (at + length m)) (front ++ t) (front ++ (t ++ reported)) reported (up all front stands whole) (left all stands)
-      (decides_all all stands None tells)
-      (ap (is_taken task) (sym (same all stands)) ∙ taken) (sym (append_assoc front t reported))
-      (omega (arith, ap (λ (s : List ℕ). length s) (same all stands)))
+  pub one_more : {reported : List ℕ} {found : Option Fault} → IsMessageText names task (base + at) m reported found → found ≡ None → is_taken task m ≡ true
+      → UpTo names task base bytes last (at + length m) (t ++ reported)
+  one_more {reported} tells none taken all front stands whole =
+      whole_more (base + at) (base + (at + length m)) (front ++ t) (front ++ (t ++ reported)) reported (up all front stands whole)
+      (stands_before stands at inside) (decides_all stands (subst (IsMessageText names task (base + at) m reported) none tells))
+      (ap (is_taken task) (sym (same stands)) ∙ taken) (sym (append_assoc front t reported)) (omega (arith, ap (λ (s : List ℕ). length s) (same stands)))
 
-  wrong_here : (all front : List ℕ) → StandsAt all base bytes last → Whole names task all base front → (place : Place) (f : Option Fault)
-      → IsMessageText names task (base + at) m reported f → IsWrong task m (base + at) place f → Breaks names task all (front ++ (t ++ reported)) place
-  wrong_here all front stands whole place f tells wrong = record {
+  -- has a fault, or a root that the task doesn't take
+  pub one_wrong : {reported : List ℕ} {place : Place} {found f : Option Fault} → IsMessageText names task (base + at) m reported found → found ≡ f
+      → IsWrong task m (base + at) place f
+      → PrintsOn names task base bytes last (AtFault place) (t ++ reported)
+  one_wrong {reported} {place} {f = f} tells found_is wrong all front stands whole = record {
     at = base + at;
     front = front ++ t;
     reported = reported;
     fault = f;
     whole = up all front stands whole;
-    left = left all stands;
-    tells = decides_all all stands f tells;
-    wrong = subst (λ (s : List ℕ). IsWrong task s (base + at) place f) (same all stands) wrong;
+    left = stands_before stands at inside;
+    tells = decides_all stands (subst (IsMessageText names task (base + at) m reported) found_is tells);
+    wrong = subst (λ (s : List ℕ). IsWrong task s (base + at) place f) (same stands) wrong;
     is = sym (append_assoc front t reported);
   }
 
-  -- has a fault, or a root that the task doesn't take
-  pub one_wrong : (place : Place) (f : Option Fault) → IsMessageText names task (base + at) m reported f → IsWrong task m (base + at) place f
-      → PrintsOn names task base bytes last (AtFault place) (t ++ reported)
-  one_wrong place f tells wrong all front stands whole = wrong_here all front stands whole place f tells wrong
-
   -- is printed up to where that fails
-  pub one_broken : (f : Option Fault) → IsMessageText names task (base + at) m reported f → ContinuesBehind names task base bytes last (t ++ reported)
-  one_broken f tells all front stands plain whole =
+  pub one_broken : {reported : List ℕ} (f : Option Fault) → IsMessageText names task (base + at) m reported f
+      → ContinuesBehind names task base bytes last (t ++ reported)
+  one_broken {reported} f tells all front stands plain whole =
       subst (Continues names task all) (append_assoc front t reported) (goes_behind names task all (plain_bytes all plain) (base + at) (front ++ t)
-      (left all stands) (up all front stands whole) reported f (decides_all all stands f tells))
+      (stands_before stands at inside) (up all front stands whole) reported f (decides_all stands tells))
 
 -- what is printed up to where printing ended goes on
 pub goes_on : (names : Names) (task : Task) (base : ℕ) (bytes : List ℕ) (last : Bool) (reached : Reached) (t : List ℕ) → EndsAt bytes last reached
     → PrintsOn names task base bytes last reached t → ContinuesBehind names task base bytes last t
 goes_on names task base bytes last (AtFault place) t end prints all front stands plain whole =
-    record {
-      more = [];
-      place = Some place;
-      prints = subst (λ (s : List ℕ). Breaks names task all s place) (sym (append-nil (front ++ t)))
-          (prints all front stands whole);
-    }
+    record { more = []; place = Some place; prints = rw (append-nil (front ++ t)) (prints all front stands whole) }
 goes_on names task base bytes last (Behind count) t end prints all front stands plain whole =
-    whole_goes names task all (plain_bytes all plain) (base + count) (front ++ t) (omega (arith, stands_long all base bytes last stands, by last end))
+    whole_goes names task all (plain_bytes all plain) (base + count) (front ++ t) (omega (arith, stands_long stands, by last end))
     (prints all front stands whole)
   where
     by : (b : Bool) → EndsAt bytes b (Behind count) → count ≤ length bytes
@@ -177,11 +144,10 @@ goes_on names task base bytes last (Behind count) t end prints all front stands 
 -- ---- the bytes of an input that comes piece by piece
 
 bytes_append : (s t : List ℕ) → AreBytes s → AreBytes t → AreBytes (s ++ t)
-bytes_append s t a b k lt =
-    elim (cases_lt k (length s)) [
-      | inl here ↦ omega (arith, get_or_append_left s t 0 k here, a k here)
-      | inr past ↦ omega (arith, get_or-append_right s t (length s) k 0 refl past, b (k - length s) (omega (arith, past, lt, length-append s t)))
-    ]
+bytes_append s t a b k lt = elim (cases_lt k (length s)) [
+  | inl here ↦ omega (arith, get_or_append_left s t 0 k here, a k here)
+  | inr past ↦ omega (arith, get_or-append_right s t (length s) k 0 refl past, b (k - length s) (omega (arith, past, lt, length-append s t)))
+]
 
 bytes_take : (n : ℕ) (s : List ℕ) → n ≤ length s → AreBytes s → AreBytes (take n s)
 bytes_take n s le h k lt =
@@ -215,8 +181,7 @@ came_behind a b buf all before k n same front within consumed ended = record {
   yields = record {
     came = take n (drop k buf);
     consumed = consumed;
-    are = ap (take (k + n)) same ∙ take-add k n buf
-        ∙ ap (λ (s : List ℕ). s ++ take n (drop k buf)) front;
+    are = ap (take (k + n)) same ∙ take-add k n buf ∙ ap (λ (s : List ℕ). s ++ take n (drop k buf)) front;
   };
   as_many = ap (λ (s : List ℕ). length (take (k + n) s)) same ∙ length-take-le (k + n) buf within
       ∙ ap (λ (m : ℕ). m + n) (sym (length-take-le k buf (omega (arith, within))) ∙ ap (λ (s : List ℕ). length s) front);
@@ -224,8 +189,8 @@ came_behind a b buf all before k n same front within consumed ended = record {
 }
 
 -- more bytes came behind those that came before
-pub comes_more : (a b c : Option (List ℕ)) (before mid after : List ℕ) → Yields a b before mid → Yields b c mid after → Yields a c before after
-comes_more a b c before mid after p q = record {
+pub comes_more : {a b c : Option (List ℕ)} {before mid after : List ℕ} → Yields a b before mid → Yields b c mid after → Yields a c before after
+comes_more {a} {b} {c} {before} p q = record {
   came = p.came ++ q.came;
   consumed = Consumes-trans a b c p.came q.came p.consumed q.consumed;
   are = q.are ∙ ap (λ (s : List ℕ). s ++ q.came) p.are ∙ append_assoc before p.came q.came;
@@ -246,8 +211,8 @@ pub record Shown (names : Names) (task : Task) (output output_now : Option (List
   pub whole : (more : List ℕ) → Whole names task (came ++ more) base text
   pub appended : Appends output output_now text
 
-pub shown_none : (names : Names) (task : Task) (output : Option (List ℕ)) (bytes : List ℕ) → Shown names task output output 0 bytes bytes
-shown_none names task output bytes = record {
+pub shown_none : {names : Names} {task : Task} {output : Option (List ℕ)} {bytes : List ℕ} → Shown names task output output 0 bytes bytes
+shown_none {output = output} = record {
   text = [];
   plain = no_bytes;
   within = omega arith;
@@ -262,10 +227,18 @@ pub record Standing (e : Encoding) (known now : Option (List ℕ)) (came : List 
   pub taken : TakesSome known now input
   pub stands : StandsUpTo e input came last
 
-module _ (names : Names) (job : Job) (output mid : Option (List ℕ)) (base : ℕ) (came bytes : List ℕ) (last : Bool)
-    (p : Shown names job.task output mid base came bytes) where
+-- whole messages were printed up to a place, behind which no other is there as a whole
+pub record Further (names : Names) (task : Task) (output output_now : Option (List ℕ)) (base : ℕ) (came bytes : List ℕ) : Type 0 where
+  pub shown : Shown names task output output_now base came bytes
+  pub plain : AreBytes bytes
+  pub none : is_there bytes ≡ false
+
+module _ {names : Names} {task : Task} {output mid : Option (List ℕ)} {base : ℕ} {came bytes : List ℕ} (p : Shown names task output mid base came bytes) where
+  shown_long : length came ≡ base + length bytes
+  shown_long = omega (arith, p.within, ap (λ (s : List ℕ). length s) p.are, length-drop base came)
+
   -- the bytes stand among those that came and others
-  stands : (more : List ℕ) → (last ≡ true → more ≡ []) → StandsAt (came ++ more) base bytes last
+  stands : {last : Bool} (more : List ℕ) → (last ≡ true → more ≡ []) → StandsAt (came ++ more) base bytes last
   stands more none = record {
     more = more;
     within = omega (arith, p.within, length-append came more);
@@ -273,99 +246,131 @@ module _ (names : Names) (job : Job) (output mid : Option (List ℕ)) (base : �
     ends = none;
   }
 
-  -- all that came are bytes
-  plain_all : AreBytes bytes → AreBytes came
-  plain_all plain = subst AreBytes (take-append-drop base came) (bytes_append (take base came) (drop base came) p.plain (subst AreBytes (sym p.are) plain))
+  -- all that came are bytes, and so are these with others
+  plain_all : AreBytes bytes → (more : List ℕ) → AreBytes more → AreBytes (came ++ more)
+  plain_all plain more others = bytes_append came more (subst AreBytes (take-append-drop base came)
+      (bytes_append (take base came) (drop base came) p.plain (subst AreBytes (sym p.are) plain))) others
 
   -- exactly what is printed of whole messages was printed
-  pub fronts : is_there bytes ≡ false → Fronts names job.task came output mid
+  pub fronts : is_there bytes ≡ false → Fronts names task came output mid
   fronts none = record {
     place = base;
     text = p.text;
-    whole = subst (λ (s : List ℕ). Whole names job.task s base p.text) (append-nil came) (p.whole []);
+    whole = subst (λ (s : List ℕ). Whole names task s base p.text) (append-nil came) (p.whole []);
     no_more = ap is_there p.are ∙ none;
     appended = p.appended;
   }
 
   -- more bytes came
-  pub more_shown : (others : List ℕ) → Shown names job.task output mid base (came ++ others) (bytes ++ others)
+  pub more_shown : (others : List ℕ) → Shown names task output mid base (came ++ others) (bytes ++ others)
   more_shown others = record {
     text = p.text;
     plain = subst AreBytes (sym (take-append-le base came others p.within)) p.plain;
     within = omega (arith, p.within, length-append came others);
     are = drop-append-le base came others p.within ∙ ap (λ (s : List ℕ). s ++ others) p.are;
-    whole = λ more. subst (λ (s : List ℕ). Whole names job.task s base p.text) (sym (append_assoc came others more)) (p.whole (others ++ more));
+    whole = λ more. subst (λ (s : List ℕ). Whole names task s base p.text) (sym (append_assoc came others more)) (p.whole (others ++ more));
     appended = p.appended;
   }
 
-  module _ (now : Option (List ℕ)) where
-    -- whole messages, and all is printed
-    pub whole_shown : (count : ℕ) → count ≡ length bytes → (reported : SomeText (PrintsOn names job.task base bytes last (Behind count)) (Appends mid now))
-        → Whole names job.task came (length came) (p.text ++ reported.text)
-    whole_shown count is reported =
-        let here = reported.is (came ++ []) p.text (stands [] (λ _. refl)) (p.whole []) in
-        let end : base + count ≡ length came = omega (arith, is, p.within, ap (λ (s : List ℕ). length s) p.are, length-drop base came) in
-        subst (λ (s : List ℕ). Whole names job.task s (length came) (p.text ++ reported.text)) (append-nil came)
-        (subst (λ (n : ℕ). Whole names job.task (came ++ []) n (p.text ++ reported.text)) end here)
+  -- what is printed up to where printing ended
+  module _ {last : Bool} (reached : Reached) (now : Option (List ℕ)) (reported : SomeText (PrintsOn names task base bytes last reached) (Appends mid now)) where
+    prints_to : {r : Reached} → reached ≡ r → (more : List ℕ) → (last ≡ true → more ≡ [])
+        → PrintsUpTo names task (came ++ more) base (p.text ++ reported.text) r
+    prints_to is more none = subst (PrintsUpTo names task (came ++ more) base (p.text ++ reported.text)) is
+        (reported.is (came ++ more) p.text (stands more none) (p.whole more))
+
+    printed_to : Appends output now (p.text ++ reported.text)
+    printed_to = Appends-trans output mid now p.text reported.text p.appended reported.holds
 
     -- whole messages, which are let go of
-    pub goes_further : AreBytes bytes → (count : ℕ) → last ≡ false → count ≤ length bytes → SomeText (PrintsOn names job.task base bytes last (Behind count))
-        (Appends mid now) → Shown names job.task output now (base + count) came (drop count bytes)
-    goes_further plain count unended le reported = record {
-      text = p.text ++ reported.text;
-      plain = subst AreBytes (ap (λ (s : List ℕ). take base came ++ take count s) (sym p.are) ∙ sym (take-add base count came))
-          (bytes_append (take base came) (take count bytes) p.plain (bytes_take count bytes le plain));
-      within = omega (arith, le, p.within, ap (λ (s : List ℕ). length s) p.are, length-drop base came);
-      are = sym (drop-drop count base came) ∙ ap (drop count) p.are;
-      whole = λ more. reported.is (came ++ more) p.text (stands more (λ end. absurd (true_is_false (sym end ∙ unended)))) (p.whole more);
-      appended = Appends-trans output mid now p.text reported.text p.appended reported.holds;
-    }
+    pub goes_further : {count : ℕ} → reached ≡ Behind count → EndsAt bytes last reached → last ≡ false → AreBytes bytes
+        → Further names task output now (base + count) came (drop count bytes)
+    goes_further {count} is ends unended plain =
+        let front : (count ≤ length bytes) × (is_there (drop count bytes) ≡ false) =
+        subst (λ (b : Bool). EndsAt bytes b (Behind count)) unended (subst (EndsAt bytes last) is ends) in
+        record {
+          shown = record {
+            text = p.text ++ reported.text;
+            plain = subst AreBytes (ap (λ (s : List ℕ). take base came ++ take count s) (sym p.are) ∙ sym (take-add base count came))
+                (bytes_append (take base came) (take count bytes) p.plain (bytes_take count bytes front.0 plain));
+            within = omega (arith, front.0, shown_long);
+            are = sym (drop-drop count base came) ∙ ap (drop count) p.are;
+            whole = λ more. prints_to is more (λ end. cc);
+            appended = printed_to;
+          };
+          plain = bytes_drop count bytes plain;
+          none = front.1;
+        }
 
-    module _ (known left : Option (List ℕ)) (k : Standing job.encoding known left came last) where
-      -- the streams, when printing ended here
-      abbrev pub now_at : Streams
-      now_at = record { input = known; input_left = left; output = output; output_now = now }
+module _ {names : Names} {job : Job} {output mid : Option (List ℕ)} {base : ℕ} {came bytes : List ℕ} (p : Shown names job.task output mid base came bytes)
+  where
+    module _ {last : Bool} {reached : Reached} {now known left : Option (List ℕ)}
+        (reported : SomeText (PrintsOn names job.task base bytes last reached) (Appends mid now))
+      where
+        -- whole messages, and all is printed
+        pub printed_all : {count : ℕ} {input : List ℕ} → reached ≡ Behind count → EndsAt bytes last reached → last ≡ true → TakesAll known left input
+            → Stands job.encoding input came
+            → Printed names job (record { input = known; input_left = left; output = output; output_now = now })
+        printed_all {count} {input} is ends end taken stands_for =
+            let all : count ≡ length bytes = subst (λ (b : Bool). EndsAt bytes b (Behind count)) end (subst (EndsAt bytes last) is ends) in
+            let text = p.text ++ reported.text in
+            let whole : Whole names job.task (came ++ []) (length came) text =
+            subst (λ (n : ℕ). Whole names job.task (came ++ []) n text) (omega (arith, all, shown_long p))
+            (prints_to p reached now reported is [] (λ _. refl)) in
+            record {
+              input = input;
+              text = text;
+              taken = taken;
+              has = record {
+                bytes = came;
+                stands = stands_for;
+                prints = subst (λ (s : List ℕ). Whole names job.task s (length came) text) (append-nil came) whole;
+              };
+              appended = printed_to p reached now reported;
+            }
 
-      -- a fault
-      pub faults : (place : Place) → SomeText (PrintsOn names job.task base bytes last (AtFault place)) (Appends mid now) → Faults names job now_at place
-      faults place reported = record {
-        input = k.input;
-        bytes = came;
-        last = last;
-        text = p.text ++ reported.text;
-        taken = k.taken;
-        stands = k.stands;
-        prints = λ more none. reported.is (came ++ more) p.text (stands more none) (p.whole more);
-        appended = Appends-trans output mid now p.text reported.text p.appended reported.holds;
-      }
+        -- a fault
+        pub faults : {place : Place} → reached ≡ AtFault place → Standing job.encoding known left came last
+            → Faults names job (record { input = known; input_left = left; output = output; output_now = now }) place
+        faults is k = record {
+          input = k.input;
+          bytes = came;
+          last = last;
+          text = p.text ++ reported.text;
+          taken = k.taken;
+          stands = k.stands;
+          prints = prints_to p reached now reported is;
+          appended = printed_to p reached now reported;
+        }
 
+    module _ {last : Bool} {known left : Option (List ℕ)} (plain : AreBytes bytes) (k : Standing job.encoding known left came last) where
       -- printing failed
-      pub fails_in : AreBytes bytes → SomeText (ContinuesBehind names job.task base bytes last) (AppendsFront mid now) → Unwritten names job now_at
-      fails_in plain reported = record {
+      pub fails_in : {now : Option (List ℕ)} → SomeText (ContinuesBehind names job.task base bytes last) (AppendsFront mid now)
+          → Unwritten names job (record { input = known; input_left = left; output = output; output_now = now })
+      fails_in {now} reported = record {
         input = k.input;
         bytes = came;
         last = last;
         text = p.text ++ reported.text;
         taken = k.taken;
         stands = k.stands;
-        continues = λ more none others. reported.is (came ++ more) p.text (stands more none) (bytes_append came more (plain_all plain) others) (p.whole more);
+        continues = λ more none others. reported.is (came ++ more) p.text (stands p more none) (plain_all p plain more others) (p.whole more);
         appended = AppendsFront-second output mid now p.text reported.text p.appended reported.holds;
       }
 
-  -- memory ran out behind whole messages
-  pub no_memory : AreBytes bytes → (known left : Option (List ℕ)) → (k : Standing job.encoding known left came last)
-      → Unwritten names job (record { input = known; input_left = left; output = output; output_now = mid })
-  no_memory plain known left k = record {
-    input = k.input;
-    bytes = came;
-    last = last;
-    text = p.text;
-    taken = k.taken;
-    stands = k.stands;
-    continues = λ more none others. whole_goes names job.task (came ++ more) (plain_bytes (came ++ more) (bytes_append came more (plain_all plain) others)) base
-        p.text (omega (arith, p.within, length-append came more)) (p.whole more);
-    appended = all_front output mid p.text p.appended;
-  }
+      -- memory ran out behind whole messages
+      pub no_memory : Unwritten names job (record { input = known; input_left = left; output = output; output_now = mid })
+      no_memory = record {
+        input = k.input;
+        bytes = came;
+        last = last;
+        text = p.text;
+        taken = k.taken;
+        stands = k.stands;
+        continues = λ more none others. whole_goes names job.task (came ++ more) (plain_bytes (came ++ more) (plain_all p plain more others)) base p.text
+            (omega (arith, p.within, length-append came more)) (p.whole more);
+        appended = all_front output mid p.text p.appended;
+      }
 
 -- ---- a raw input
 
@@ -376,13 +381,9 @@ pub record RawInput (e : Encoding) (known now : Option (List ℕ)) (came : List 
   pub enough : ended ≡ false → front_size e came ≤ length came
   pub at_end : ended ≡ true → IsAtEnd now
 
-module _ (e : Encoding) (known now : Option (List ℕ)) (came : List ℕ) (ended : Bool) (r : RawInput e known now came ended) where
+module _ {e : Encoding} {known now : Option (List ℕ)} {came : List ℕ} {ended : Bool} (r : RawInput e known now came ended) where
   still_decided : (more : List ℕ) → (ended ≡ true → more ≡ []) → Decided e came more
-  still_decided more none = decided_on e came more (by ended refl)
-    where
-      by : (b : Bool) → ended ≡ b → (front_size e came ≤ length came) ⊎ (more ≡ [])
-      by true is = inr (none is)
-      by false is = inl (r.enough is)
+  still_decided more none = decided_on e came more (either_by ended none r.enough)
 
   still_raw : (more : List ℕ) → (ended ≡ true → more ≡ []) → form_of (encoding_of e (came ++ more)) ≡ None
   still_raw more none = ap form_of (still_decided more none).encoding ∙ r.raw
@@ -403,14 +404,16 @@ module _ (e : Encoding) (known now : Option (List ℕ)) (came : List ℕ) (ended
       by false is = subst (λ (f : Option Form). StandsFrontIn f (came ++ l.left) came) (sym (still_raw l.left l.none)) (l.left, refl)
 
   -- more bytes came
-  pub more_raw : (next : Option (List ℕ)) (others : List ℕ) (then_ : Bool) → Consumes now next others → ended ≡ false → (then_ ≡ true → IsAtEnd next)
+  more_raw : {next : Option (List ℕ)} {then_ : Bool} (others : List ℕ) → Consumes now next others → ended ≡ false → (then_ ≡ true → IsAtEnd next)
       → RawInput e known next (came ++ others) then_
-  more_raw next others then_ consumed unended at_end = record {
-    consumed = Consumes-trans known now next came others r.consumed consumed;
-    raw = still_raw others (λ end. absurd (true_is_false (sym end ∙ unended)));
-    enough = λ _. omega (arith, r.enough unended, (still_decided others (λ end. absurd (true_is_false (sym end ∙ unended)))).size, length-append came others);
-    at_end = at_end;
-  }
+  more_raw {next} others consumed unended at_end =
+      let none : ended ≡ true → others ≡ [] = λ end. cc in
+      record {
+        consumed = Consumes-trans known now next came others r.consumed consumed;
+        raw = still_raw others none;
+        enough = λ _. omega (arith, r.enough unended, (still_decided others none).size, length-append came others);
+        at_end = at_end;
+      }
 
 -- what is known of raw messages that are printed as they come
 pub record Printing (names : Names) (job : Job) (known now output output_now : Option (List ℕ)) (base : ℕ) (bytes : List ℕ) (ended : Bool) : Type 0 where
@@ -418,61 +421,40 @@ pub record Printing (names : Names) (job : Job) (known now output output_now : O
   pub shown : Shown names job.task output output_now base came bytes
   pub input : RawInput job.encoding known now came ended
 
-module _ (names : Names) (job : Job) (known now output mid : Option (List ℕ)) (base : ℕ) (bytes : List ℕ) (ended : Bool)
+module _ {names : Names} {job : Job} {known now output mid : Option (List ℕ)} {base : ℕ} {bytes : List ℕ} {ended : Bool}
     (p : Printing names job known now output mid base bytes ended) where
-  pub standing : Standing job.encoding known now p.came ended
-  standing = raw_standing job.encoding known now p.came ended p.input
+  pub of_bytes : {b : List ℕ} → b ≡ bytes → Printing names job known now output mid base b ended
+  of_bytes is = record { came = p.came; shown = subst (Shown names job.task output mid base p.came) (sym is) p.shown; input = p.input }
 
   -- whole messages, and all is printed
-  pub printed : (output_now : Option (List ℕ)) (count : ℕ) → ended ≡ true → count ≡ length bytes
-      → SomeText (PrintsOn names job.task base bytes ended (Behind count)) (Appends mid output_now)
+  pub printed : {output_now : Option (List ℕ)} {reached : Reached} {count : ℕ} → reached ≡ Behind count → EndsAt bytes ended reached → ended ≡ true
+      → SomeText (PrintsOn names job.task base bytes ended reached) (Appends mid output_now)
       → Printed names job (record { input = known; input_left = now; output = output; output_now = output_now })
-  printed output_now count end is reported =
-      record {
-        input = p.came;
-        text = p.shown.text ++ reported.text;
-        taken = record { taken = p.input.consumed; ended = p.input.at_end end };
-        has = record {
+  printed is ends end reported = printed_all p.shown reported is ends end (record { taken = p.input.consumed; ended = p.input.at_end end })
+      (raw_stands job.encoding p.came p.input.raw)
+
+  module _ {new : Option (List ℕ)} {place : ℕ} {rest : List ℕ} (f : Further names job.task output new place p.came rest) (unended : ended ≡ false) where
+    -- more bytes came
+    pub more_came : {next : Option (List ℕ)} {before after : List ℕ} {count : ℕ} → before ≡ rest → YieldsBy now next before after count
+        → Printing names job known next output new place after (nat_eq count 0)
+    more_came {count = count} is y = record {
+      came = p.came ++ y.yields.came;
+      shown = rw (y.yields.are, is) (more_shown f.shown y.yields.came);
+      input = more_raw p.input y.yields.came y.yields.consumed unended (λ none. y.ended (eqb-true count 0 none));
+    }
+
+    -- reading failed, or memory ran out for it, in front of a message that isn't there as a whole
+    pub read_fails : (next : Option (List ℕ)) (why : RunError) → IsUnread why → Keeps now next
+        → Fails names job (record { input = known; input_left = next; output = output; output_now = new }) why
+    read_fails next why h keeps =
+        let still : RawInput job.encoding known next p.came false = record {
+          consumed = Consumes-kept known now next p.came p.input.consumed keeps;
+          raw = p.input.raw;
+          enough = λ _. p.input.enough unended;
+          at_end = λ end. cc;
+        } in
+        unread_by (Fails names job (record { input = known; input_left = next; output = output; output_now = new })) why h (record {
           bytes = p.came;
-          stands = raw_stands job.encoding p.came p.input.raw;
-          prints =
-              whole_shown names job output mid base p.came bytes ended p.shown output_now count is reported;
-        };
-        appended = Appends-trans output mid output_now p.shown.text reported.text p.shown.appended reported.holds;
-      }
-
-  -- more bytes came
-  pub more_came : (next : Option (List ℕ)) (after : List ℕ) (then_ : Bool) → Yields now next bytes after → ended ≡ false → (then_ ≡ true → IsAtEnd next)
-      → Printing names job known next output mid base after then_
-  more_came next after then_ yields unended at_end = record {
-    came = p.came ++ yields.came;
-    shown = subst (Shown names job.task output mid base (p.came ++ yields.came)) (sym yields.are)
-        (more_shown names job output mid base p.came bytes ended p.shown yields.came);
-    input = more_raw job.encoding known now p.came ended p.input next yields.came then_ yields.consumed unended at_end;
-  }
-
-  -- reading failed, or memory ran out for it, in front of a message that isn't there as a whole
-  pub read_fails : AreBytes bytes → (next : Option (List ℕ)) (why : RunError) → IsUnread why → is_there bytes ≡ false → Keeps now next → ended ≡ false
-      → Fails names job (record { input = known; input_left = next; output = output; output_now = mid }) why
-  read_fails plain next UnreadableInput h none keeps unended =
-      record {
-        bytes = p.came;
-        taken = Consumes-kept known now next p.came p.input.consumed keeps;
-        fronts = subst (λ (b : Bool). FrontsIf b names job p.came output mid)
-            (sym (le-ltb (length p.came) (front_size job.encoding p.came) (p.input.enough unended)))
-            (subst (λ (f : Option Form). FrontsIn f names job.task p.came output mid) (sym p.input.raw)
-            (fronts names job output mid base p.came bytes ended p.shown none));
-      }
-  read_fails plain next NoMemory h none keeps unended =
-      let still : RawInput job.encoding known next p.came false = record {
-        consumed = Consumes-kept known now next p.came p.input.consumed keeps;
-        raw = p.input.raw;
-        enough = λ _. p.input.enough unended;
-        at_end = λ end. absurd (true_is_false (sym end));
-      } in
-      inr (no_memory names job output mid base p.came bytes false p.shown plain known next (raw_standing job.encoding known next p.came false still))
-  read_fails plain next UnopenedInput h none keeps unended = absurd h
-  read_fails plain next (MisreadInput m) h none keeps unended = absurd h
-  read_fails plain next NotUtf8 h none keeps unended = absurd h
-  read_fails plain next UnwritableOutput h none keeps unended = absurd h
-  read_fails plain next ClosedPipe h none keeps unended = absurd h
+          taken = still.consumed;
+          fronts = rw (le-ltb (length p.came) (front_size job.encoding p.came) (p.input.enough unended), p.input.raw) (fronts f.shown f.none);
+        }) (inr (no_memory f.shown f.plain (raw_standing still)))

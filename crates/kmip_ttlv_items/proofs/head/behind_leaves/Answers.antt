@@ -9,8 +9,4 @@ leaves-init c = record { passed = passed_none c.args.bytes.now c.args.offset c.a
 pub leaves-preserved : goal.leaves-preserved
 leaves-preserved c =
     let leaf : IsLeafTo c.args.bytes.now c.leaves.at c.min-stop.result c.in-Some.next = c.in-Some.ensures in
-    record {
-      passed = passed_more c.args.bytes.now c.args.offset c.args.end c.min-stop.result c.leaves.at c.in-Some.next (omega arith)
-          (omega arith) c.leaves.invariant.passed leaf;
-      before = leaf.fits;
-    }
+    record { passed = passed_more {stop = c.min-stop.result} (omega arith) (omega arith) c.leaves.invariant.passed leaf; before = leaf.fits }

@@ -1,6 +1,5 @@
 use Rattle.std.proofs.Common.{ℕ, ◌<◌, List, [], length, get_or, inl, inr, arith, refl}
-use Rattle.std.proofs.lemmas.Bool.{cases_lt}
-use Rattle.std.proofs.lemmas.List.{get_or_past}
+use Rattle.std.proofs.lemmas.{Bool.cases_lt, List.get_or_past}
 use Rattle.kmip_ttlv_items.specs.ItemWalks.{AreBytes, at_first}
 use Rattle.kmip_ttlv_items.proofs.Completes.{ends}
 use Rattle.kmip_ttlv_items.proofs.laws.a_walk_ends.Goals as goal

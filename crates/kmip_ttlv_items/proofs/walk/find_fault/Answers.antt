@@ -1,7 +1,5 @@
 use Rattle.std.proofs.Common.{◌∙◌, ◌++◌, ◌∷◌, [], List, ℕ, subst}
-use Rattle.kmip_ttlv_items.specs.declared.found.Step.TheVariants.{End}
-use Rattle.kmip_ttlv_items.specs.ItemWalks.{Ended}
-use Rattle.kmip_ttlv_items.specs.Stepping.{Steps, StepsTo}
+use Rattle.kmip_ttlv_items.specs.{declared.found.Step.TheVariants.End, ItemWalks.Ended, Stepping.Steps, Stepping.StepsTo}
 use Rattle.kmip_ttlv_items.proofs.walk.find_fault.Goals as goal
 
 pub returns-in-End : goal.returns-in-End

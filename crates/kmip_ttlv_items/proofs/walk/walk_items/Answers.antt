@@ -1,8 +1,6 @@
 use Rattle.std.proofs.Common.{rules, arith, ◌∙◌, ◌<◌, ◌^◌, [], ◌∷◌, ◌++◌, length, refl, ap, sym, subst, length-append}
-use Rattle.kmip_ttlv_items.specs.Enclosing.{open_ends}
 use Rattle.kmip_ttlv_items.specs.Stepping.{Steps, StepsTo}
-use Rattle.kmip_ttlv_items.proofs.Steps.{overlaid_none, keeps_more}
-use Rattle.kmip_ttlv_items.proofs.Walks.{met_few}
+use Rattle.kmip_ttlv_items.proofs.{Steps.overlaid_none, Steps.keeps_more, Walks.met_few}
 use Rattle.kmip_ttlv_items.proofs.walk.walk_items.Goals as goal
 
 pub walk-init : goal.walk-init
@@ -11,9 +9,8 @@ walk-init g c = record { bytes = c.new-walk.ensures.bytes; keeps = ([], c.new-wa
 pub overflow_add-count : goal.overflow_add-count
 overflow_add-count g c =
     let found = c.walk.invariant.keeps.0 in
-    let few = met_few c.walk.walk.bytes.now c.walk.walk.offset (open_ends c.walk.walk.ends) found c.walk.invariant.keeps.1 in
     let long : length c.args.bytes.now < 2 ^ 64 = search rules in
-    omega (arith, few, long, ap length c.walk.invariant.bytes, c.walk.invariant.keeps.2)
+    omega (arith, (met_few c.walk.invariant.keeps.1), long, ap length c.walk.invariant.bytes, c.walk.invariant.keeps.2)
 
 pub walk-preserved : goal.walk-preserved
 walk-preserved g c =

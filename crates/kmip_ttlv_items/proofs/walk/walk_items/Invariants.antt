@@ -1,7 +1,5 @@
 use Rattle.std.proofs.Common.{◌≡◌, List, length, map}
-use Rattle.kmip_ttlv_items.specs.declared.found.FoundItem.{FoundItem}
-use Rattle.kmip_ttlv_items.specs.FoundItems.{overlaid}
-use Rattle.kmip_ttlv_items.specs.Stepping.{Met, left}
+use Rattle.kmip_ttlv_items.specs.{declared.found.FoundItem.FoundItem, FoundItems.overlaid, Stepping.Met, Stepping.left}
 use Rattle.kmip_ttlv_items.proofs.walk.walk_items.Given as goal
 
 abbrev pub invariant-walk : goal.invariant-walk

@@ -2,8 +2,7 @@ use Rattle.std.proofs.Common.{◌≡◌, ◌-◌, Some, length, take, drop, ◌�
 use Rattle.std.specs.Str.Parse.{AllDigits}
 use Rattle.std.proofs.lemmas.List.{take_all, length-drop}
 use Rattle.kmip_ttlv_types.specs.Names.{number, numeral}
-use Rattle.kmip_ttlv_ser.proofs.Prefixes.{digits_number, prefixed_number}
-use Rattle.kmip_ttlv_ser.proofs.names.number_of.Goals.{then-begins, else-begins}
+use Rattle.kmip_ttlv_ser.proofs.{Prefixes.digits_number, Prefixes.prefixed_number, names.number_of.Goals.then-begins, names.number_of.Goals.else-begins}
 use Rattle.kmip_ttlv_ser.proofs.names.number_of.Goals as goal
 
 pub returns-in-Some : goal.returns-in-Some

@@ -1,7 +1,5 @@
 use Rattle.std.proofs.Common.{◌+◌, ◌-◌, ◌*◌, length}
-use Rattle.kmip_ttlv_util.specs.Diagnostics.{diag_style}
-use Rattle.kmip_ttlv_util.specs.Pieces.{SomeText}
-use Rattle.kmip_ttlv_util.specs.Walks.{place_of}
+use Rattle.kmip_ttlv_util.specs.{Diagnostics.diag_style, Pieces.SomeText, Walks.place_of}
 use Rattle.kmip_ttlv_util.proofs.Loop.{Walking}
 use Rattle.kmip_ttlv_util.proofs.diagnostic.diagnose_to.Given as goal
 

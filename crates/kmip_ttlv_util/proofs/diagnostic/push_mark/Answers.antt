@@ -1,14 +1,11 @@
-use Rattle.std.proofs.Common.{◌≡◌, ◌-◌, ℕ, List, [], ◌++◌, ◌∷◌, ◌∙◌, ap, sym, subst, arith, append_assoc}
+use Rattle.std.proofs.Common.{◌≡◌, ◌≤◌, ◌-◌, drop, get_or, Option, ℕ, List, [], ◌++◌, ◌∷◌, ◌∙◌, ap, sym, subst, arith, append_assoc}
 use Rattle.std.specs.Str.{IsUtf8}
-use Rattle.std.proofs.lemmas.Str.{IsUtf8-from_ascii, IsAscii-append}
-use Rattle.std.proofs.lemmas.Str.Ascii.{IsAscii-nil, IsAscii-cons}
-use Rattle.kmip_ttlv_types.specs.Digits.{six_digits}
-use Rattle.kmip_ttlv_util.specs.LastDigits.{last_digits}
+use Rattle.std.proofs.lemmas.Str.{IsUtf8-from_ascii, IsAscii-append, Ascii.IsAscii-nil, Ascii.IsAscii-cons}
+use Rattle.kmip_ttlv_types.specs.{declared.typ.TtlvType.TtlvType, Digits.six_digits}
+use Rattle.kmip_ttlv_util.specs.{LastDigits.last_digits, Letters.letter}
 use Rattle.kmip_ttlv_util.specs.Outlines.{mark, value_text, stripped}
-use Rattle.kmip_ttlv_util.specs.Letters.{letter}
-use Rattle.kmip_ttlv_util.proofs.Saying.{ok_same, err_same, breaks_same, err_now, ok_then, err_then}
-use Rattle.kmip_ttlv_util.proofs.HexDigits.{two_of, last_ascii}
-use Rattle.kmip_ttlv_util.proofs.PrefixNumbers.{behind}
+use Rattle.kmip_ttlv_util.proofs.Saying.{breaks_same, err_now, does_then, does_same, err_front, begins_equal}
+use Rattle.kmip_ttlv_util.proofs.{HexDigits.two_of, HexDigits.last_ascii, PrefixNumbers.behind}
 use Rattle.kmip_ttlv_util.proofs.diagnostic.push_mark.Goals as goal
 
 pub from_utf8_unchecked-requires : goal.from_utf8_unchecked-requires
@@ -17,41 +14,30 @@ from_utf8_unchecked-requires g c =
     subst IsUtf8 (sym digits) (IsUtf8-from_ascii _ (IsAscii-append (last_digits 2 c.deref.result.now) (c.letter.result ∷ []) (last_ascii 2 c.deref.result.now)
     (IsAscii-cons c.letter.result [] c.letter.ensures.ascii IsAscii-nil)))
 
-pub returns-in_err-push_str-clause-err : goal.returns-in_err-push_str-clause-err
+-- the last two digits and a letter begin the mark of a tag whose other digits are omitted
+marked : (prefix : List ℕ) (r tag n : ℕ) (eight s : List ℕ) (l : ℕ) (typ : TtlvType) (v : Option ℕ) → 2 ≡ 6 - r → r ≤ 6 → n ≡ tag
+    → drop r (six_digits tag) ≡ stripped prefix (six_digits tag) → eight ≡ last_digits 8 n → l ≡ letter typ
+    → s ≡ get_or eight 6 0 ∷ get_or eight 7 0 ∷ l ∷ [] → s ++ value_text v ≡ mark prefix tag typ v
 unfolding mark
+marked prefix r tag n eight s l typ v two few same left is letter-is all =
+    let text = all ∙ ap (λ (s : List ℕ). s ++ (l ∷ [])) (two_of eight n is ∙ (ap (λ (k : ℕ). last_digits k n) two ∙ behind r tag n _ few same left)) in
+    rw (text, letter-is) (append_assoc (stripped prefix (six_digits tag)) (letter typ ∷ []) (value_text v))
+
+pub returns-in_err-push_str-clause-err : goal.returns-in_err-push_str-clause-err
 returns-in_err-push_str-clause-err g c =
-    let r = c.left_out.result in
-    let n = c.deref.result.now in
-    let detail_value = stripped c.args.prefix.now.text.now (six_digits c.args.tag) in
-    let two : 2 ≡ 6 - r = omega arith in
-    let digits : last_digits 2 n ≡ detail_value = ap (λ (k : ℕ). last_digits k n) two
-    ∙ behind r c.args.tag n _ c.left_out.ensures.bounded c.deref.ensures c.left_out.ensures.stripped in
-    let text = c.from_utf8_unchecked.ensures ∙ ap (λ (s : List ℕ). s ++ (c.letter.result ∷ [])) (two_of c.eight-digits.result n c.eight-digits.ensures ∙ digits)
-    ∙ ap (λ (l : ℕ). detail_value ++ (l ∷ [])) c.letter.ensures.letter in
-    let whole = ap (λ (s : List ℕ). s ++ value_text c.args.value) text ∙ append_assoc detail_value (letter c.args.typ ∷ []) (value_text c.args.value) in
-    err_now g.S.TextSink.adds g.S.TextSink.breaks _ _ _ _ (breaks_same g.S.TextSink.adds g.S.TextSink.breaks _ _ _ _
-    (g.met.S.TextSink.breaks_first _ _ _ (value_text c.args.value) c.in_err-push_str.ensures.err) whole)
+    let whole = marked c.args.prefix.now.text.now c.left_out.result c.args.tag c.deref.result.now c.eight-digits.result _ c.letter.result c.args.typ
+    c.args.value (omega arith) c.left_out.ensures.bounded c.deref.ensures c.left_out.ensures.stripped c.eight-digits.ensures c.letter.ensures.letter
+    c.from_utf8_unchecked.ensures in
+    err_front g.met.S.TextSink.breaks_first _ (g.met.S.TextSink.breaks_first _ _ _ (value_text c.args.value) c.in_err-push_str.ensures.err) (begins_equal whole)
 
 pub returns-then-left_out-eq4 : goal.returns-then-left_out-eq4
-unfolding mark
 returns-then-left_out-eq4 g c =
-    let r = c.left_out.result in
-    let n = c.deref.result.now in
-    let detail_value = stripped c.args.prefix.now.text.now (six_digits c.args.tag) in
-    let two : 2 ≡ 6 - r = omega arith in
-    let digits : last_digits 2 n ≡ detail_value = ap (λ (k : ℕ). last_digits k n) two
-    ∙ behind r c.args.tag n _ c.left_out.ensures.bounded c.deref.ensures c.left_out.ensures.stripped in
-    let text = c.from_utf8_unchecked.ensures ∙ ap (λ (s : List ℕ). s ++ (c.letter.result ∷ [])) (two_of c.eight-digits.result n c.eight-digits.ensures ∙ digits)
-    ∙ ap (λ (l : ℕ). detail_value ++ (l ∷ [])) c.letter.ensures.letter in
-    let whole = ap (λ (s : List ℕ). s ++ value_text c.args.value) text ∙ append_assoc detail_value (letter c.args.typ ∷ []) (value_text c.args.value) in
-    record {
-      ok = ok_same g.S.TextSink.adds g.S.TextSink.breaks c.push_value.result _ _ _ _
-          (ok_then g.S.TextSink.adds g.S.TextSink.breaks g.met.S.TextSink.adds_both c.push_value.result _ _ _ _ (value_text c.args.value)
-          c.in_ok-push_str.ensures.ok c.push_value.ensures.ok) whole;
-      err = err_same g.S.TextSink.adds g.S.TextSink.breaks c.push_value.result _ _ _ _
-          (err_then g.S.TextSink.adds g.S.TextSink.breaks g.met.S.TextSink.breaks_second c.push_value.result _ _ _ _ (value_text c.args.value)
-          c.in_ok-push_str.ensures.ok c.push_value.ensures.err) whole;
-    }
+    let whole = marked c.args.prefix.now.text.now c.left_out.result c.args.tag c.deref.result.now c.eight-digits.result _ c.letter.result c.args.typ
+    c.args.value (omega arith) c.left_out.ensures.bounded c.deref.ensures c.left_out.ensures.stripped c.eight-digits.ensures c.letter.ensures.letter
+    c.from_utf8_unchecked.ensures in
+    let d = does_then g.met.S.TextSink.adds_both g.met.S.TextSink.breaks_second c.push_value.result (value_text c.args.value) c.in_ok-push_str.ensures.ok
+    record { ok = c.push_value.ensures.ok; err = c.push_value.ensures.err } in
+    record { ok = rw (← whole) d.ok; err = rw (← whole) d.err }
 
 pub from_utf8_unchecked-requires-2 : goal.from_utf8_unchecked-requires-2
 from_utf8_unchecked-requires-2 g c = IsUtf8-from_ascii _ (IsAscii-cons c.letter-2.result [] c.letter-2.ensures.ascii IsAscii-nil)
@@ -73,16 +59,9 @@ returns-in_err-push_str-2-clause-err g c =
 pub returns : goal.returns
 unfolding mark
 returns g c =
-    let text = c.from_utf8_unchecked-2.ensures ∙ ap (λ (l : ℕ). l ∷ []) c.letter-2.ensures.letter in
-    let whole = ap (λ (s : List ℕ). s ++ value_text c.args.value) text in
-    record {
-      ok = ok_then g.S.TextSink.adds g.S.TextSink.breaks g.met.S.TextSink.adds_both c.push_value-2.result _ _ _ _ (letter c.args.typ ∷ value_text c.args.value)
-          c.in_ok-push_tag.ensures.ok (ok_same g.S.TextSink.adds g.S.TextSink.breaks c.push_value-2.result _ _ _ _
-          (ok_then g.S.TextSink.adds g.S.TextSink.breaks g.met.S.TextSink.adds_both c.push_value-2.result _ _ _ _ (value_text c.args.value)
-          c.in_ok-push_str-2.ensures.ok c.push_value-2.ensures.ok) whole);
-      err = err_then g.S.TextSink.adds g.S.TextSink.breaks g.met.S.TextSink.breaks_second c.push_value-2.result _ _ _ _
-          (letter c.args.typ ∷ value_text c.args.value) c.in_ok-push_tag.ensures.ok
-          (err_same g.S.TextSink.adds g.S.TextSink.breaks c.push_value-2.result _ _ _ _
-          (err_then g.S.TextSink.adds g.S.TextSink.breaks g.met.S.TextSink.breaks_second c.push_value-2.result _ _ _ _ (value_text c.args.value)
-          c.in_ok-push_str-2.ensures.ok c.push_value-2.ensures.err) whole);
-    }
+    let whole = ap (λ (s : List ℕ). s ++ value_text c.args.value) (c.from_utf8_unchecked-2.ensures ∙ ap (λ (l : ℕ). l ∷ []) c.letter-2.ensures.letter) in
+    let d = does_then g.met.S.TextSink.adds_both g.met.S.TextSink.breaks_second c.push_value-2.result
+    (letter c.args.typ ∷ value_text c.args.value) c.in_ok-push_tag.ensures.ok
+    (does_same (does_then g.met.S.TextSink.adds_both g.met.S.TextSink.breaks_second _ (value_text c.args.value) c.in_ok-push_str-2.ensures.ok
+    record { ok = c.push_value-2.ensures.ok; err = c.push_value-2.ensures.err }) whole) in
+    record { ok = d.ok; err = d.err }

@@ -1,14 +1,11 @@
 use Rattle.std.proofs.Common.{ap, sym}
 use Rattle.kmip_ttlv_util.specs.Outlines.{value_text}
-use Rattle.kmip_ttlv_util.proofs.Saying.{adds_same, ok_same, err_same}
+use Rattle.kmip_ttlv_util.proofs.Saying.{adds_same}
 use Rattle.kmip_ttlv_util.proofs.diagnostic.push_value.Goals as goal
 
 pub returns-in-Some : goal.returns-in-Some
 returns-in-Some g c =
-    record {
-      ok = ok_same g.S.TextSink.adds g.S.TextSink.breaks c.push_number.result _ _ _ _ c.push_number.ensures.ok (ap value_text (sym c.in-Some.is));
-      err = err_same g.S.TextSink.adds g.S.TextSink.breaks c.push_number.result _ _ _ _ c.push_number.ensures.err (ap value_text (sym c.in-Some.is));
-    }
+    record { ok = rw (← ap value_text (sym c.in-Some.is)) c.push_number.ensures.ok; err = rw (← ap value_text (sym c.in-Some.is)) c.push_number.ensures.err }
 
 pub returns-in-None-clause-ok : goal.returns-in-None-clause-ok
 returns-in-None-clause-ok g c =

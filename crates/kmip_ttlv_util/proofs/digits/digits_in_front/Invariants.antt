@@ -1,7 +1,6 @@
 use Rattle.std.proofs.Common.{◌≡◌, ◌+◌, ◌-◌, ◌<◌, ◌≤◌, ◌^◌, length, take, drop}
 use Rattle.std.specs.List.{prefix_len}
-use Rattle.kmip_ttlv_util.specs.Letters.{is_hex}
-use Rattle.kmip_ttlv_util.specs.LastDigits.{last_digits}
+use Rattle.kmip_ttlv_util.specs.{Letters.is_hex, LastDigits.last_digits}
 use Rattle.kmip_ttlv_util.proofs.digits.digits_in_front.Given as goal
 
 abbrev pub invariant-loop-n : goal.invariant-loop-n

@@ -1,5 +1,5 @@
 use Rattle.std.specs.Prelude.{codes}
-use Rattle.kmip_ttlv_util.proofs.Saying.{err_now, ok_then, err_then}
+use Rattle.kmip_ttlv_util.proofs.Saying.{err_now, does_then}
 use Rattle.kmip_ttlv_util.proofs.digits.push_other.Goals as goal
 
 pub returns-in_err-push_str-clause-err : goal.returns-in_err-push_str-clause-err
@@ -8,9 +8,6 @@ returns-in_err-push_str-clause-err g c =
 
 pub returns : goal.returns
 returns g c =
-    record {
-      ok = ok_then g.S.TextSink.adds g.S.TextSink.breaks g.met.S.TextSink.adds_both c.push_digits.result _ _ _ (codes "0x") _ (c.in_ok-push_str.ensures.ok)
-          (c.push_digits.ensures.ok);
-      err = err_then g.S.TextSink.adds g.S.TextSink.breaks g.met.S.TextSink.breaks_second c.push_digits.result _ _ _ (codes "0x") _
-          (c.in_ok-push_str.ensures.ok) (c.push_digits.ensures.err);
-    }
+    let d = does_then g.met.S.TextSink.adds_both g.met.S.TextSink.breaks_second c.push_digits.result _ c.in_ok-push_str.ensures.ok
+    record { ok = c.push_digits.ensures.ok; err = c.push_digits.ensures.err } in
+    record { ok = d.ok; err = d.err }

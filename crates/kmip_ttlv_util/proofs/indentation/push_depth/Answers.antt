@@ -1,8 +1,7 @@
 use Rattle.std.proofs.Common.{rules, ◌≡◌, List, ℕ, ◌++◌}
-use Rattle.std.specs.Prelude.{codes}
-use Rattle.std.specs.Fmt.{decimal}
+use Rattle.std.specs.{Prelude.codes, Fmt.decimal}
 use Rattle.kmip_ttlv_util.specs.Lines.{indent, depth_mark}
-use Rattle.kmip_ttlv_util.proofs.Saying.{adds_same, breaks_same, err_now, ok_then, err_then}
+use Rattle.kmip_ttlv_util.proofs.Saying.{adds_same, breaks_same, err_now, does_then}
 use Rattle.kmip_ttlv_util.proofs.indentation.push_depth.Goals as goal
 
 -- the indentation of 64 levels, and an opening bracket
@@ -27,11 +26,7 @@ unfolding depth_mark
 returns g c =
     let text : c.format.result.now ≡ decimal c.args.depth = search rules in
     let number = adds_same g.S.TextSink.adds g.S.TextSink.breaks _ _ _ _ c.in_ok-push_str-2.ensures.ok text in
-    record {
-      ok = ok_then g.S.TextSink.adds g.S.TextSink.breaks g.met.S.TextSink.adds_both c.push_str-3.result _ _ _ levels _ (c.in_ok-push_str.ensures.ok)
-          (ok_then g.S.TextSink.adds g.S.TextSink.breaks g.met.S.TextSink.adds_both c.push_str-3.result _ _ _ (decimal c.args.depth) _ number
-          c.push_str-3.ensures.ok);
-      err = err_then g.S.TextSink.adds g.S.TextSink.breaks g.met.S.TextSink.breaks_second c.push_str-3.result _ _ _ levels _ (c.in_ok-push_str.ensures.ok)
-          (err_then g.S.TextSink.adds g.S.TextSink.breaks g.met.S.TextSink.breaks_second c.push_str-3.result _ _ _ (decimal c.args.depth) _ number
-          c.push_str-3.ensures.err);
-    }
+    let d = does_then g.met.S.TextSink.adds_both g.met.S.TextSink.breaks_second c.push_str-3.result _ c.in_ok-push_str.ensures.ok
+    (does_then g.met.S.TextSink.adds_both g.met.S.TextSink.breaks_second _ _ number
+    record { ok = c.push_str-3.ensures.ok; err = c.push_str-3.ensures.err }) in
+    record { ok = d.ok; err = d.err }

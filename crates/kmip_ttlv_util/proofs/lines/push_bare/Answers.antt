@@ -1,7 +1,6 @@
 use Rattle.std.proofs.Common.{◌≡◌, ◌∷◌, ℕ, List, ap, sym, subst, arith, ◌∙◌}
 use Rattle.std.specs.Str.{IsUtf8}
 use Rattle.std.proofs.lemmas.Str.{IsUtf8-from_ascii}
-use Rattle.kmip_ttlv_util.proofs.Saying.{ok_same, err_same}
 use Rattle.kmip_ttlv_util.proofs.HexDigits.{six_of, six_shown, tagged_ascii}
 use Rattle.kmip_ttlv_util.proofs.lines.push_bare.Goals as goal
 
@@ -15,7 +14,4 @@ returns g c =
     let six : c.shown.result ≡ 6 = omega arith in
     let text = c.from_utf8_unchecked.ensures ∙ ap (λ (s : List ℕ). 84 ∷ 97 ∷ 103 ∷ 58 ∷ 32 ∷ 48 ∷ 120 ∷ s)
     (six_shown 4 c.shown.result c.args.n c.eight-d.result c.eight-d.ensures six c.shown.ensures.digits) in
-    record {
-      ok = ok_same g.S.TextSink.adds g.S.TextSink.breaks c.push_str.result c.args.out.now c.push_str.new.self _ _ c.push_str.ensures.ok text;
-      err = err_same g.S.TextSink.adds g.S.TextSink.breaks c.push_str.result c.args.out.now c.push_str.new.self _ _ c.push_str.ensures.err text;
-    }
+    record { ok = rw (← text) c.push_str.ensures.ok; err = rw (← text) c.push_str.ensures.err }

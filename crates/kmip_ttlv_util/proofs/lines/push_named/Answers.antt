@@ -1,6 +1,6 @@
 use Rattle.std.specs.Prelude.{codes}
 use Rattle.kmip_ttlv_util.specs.Lines.{hex_padded}
-use Rattle.kmip_ttlv_util.proofs.Saying.{err_now, ok_then, err_then}
+use Rattle.kmip_ttlv_util.proofs.Saying.{err_now, does_then}
 use Rattle.kmip_ttlv_util.proofs.lines.push_named.Goals as goal
 
 pub returns-in_err-push_str-clause-err : goal.returns-in_err-push_str-clause-err
@@ -20,13 +20,8 @@ returns-in_err-push_four-clause-err g c =
 
 pub returns : goal.returns
 returns g c =
-    record {
-      ok = ok_then g.S.TextSink.adds g.S.TextSink.breaks g.met.S.TextSink.adds_both c.push_str-3.result _ _ _ c.args.name.now _ (c.in_ok-push_str.ensures.ok)
-          (ok_then g.S.TextSink.adds g.S.TextSink.breaks g.met.S.TextSink.adds_both c.push_str-3.result _ _ _ (codes " (") _ (c.in_ok-push_str-2.ensures.ok)
-          (ok_then g.S.TextSink.adds g.S.TextSink.breaks g.met.S.TextSink.adds_both c.push_str-3.result _ _ _ (hex_padded 4 c.args.n) (codes ")")
-          (c.in_ok-push_four.ensures.ok) (c.push_str-3.ensures.ok)));
-      err = err_then g.S.TextSink.adds g.S.TextSink.breaks g.met.S.TextSink.breaks_second c.push_str-3.result _ _ _ c.args.name.now _
-          (c.in_ok-push_str.ensures.ok) (err_then g.S.TextSink.adds g.S.TextSink.breaks g.met.S.TextSink.breaks_second c.push_str-3.result _ _ _ (codes " (") _
-          (c.in_ok-push_str-2.ensures.ok) (err_then g.S.TextSink.adds g.S.TextSink.breaks g.met.S.TextSink.breaks_second c.push_str-3.result _ _ _
-          (hex_padded 4 c.args.n) (codes ")") (c.in_ok-push_four.ensures.ok) (c.push_str-3.ensures.err)));
-    }
+    let d = does_then g.met.S.TextSink.adds_both g.met.S.TextSink.breaks_second c.push_str-3.result _ c.in_ok-push_str.ensures.ok
+    (does_then g.met.S.TextSink.adds_both g.met.S.TextSink.breaks_second _ _ c.in_ok-push_str-2.ensures.ok
+    (does_then g.met.S.TextSink.adds_both g.met.S.TextSink.breaks_second _ _ c.in_ok-push_four.ensures.ok
+    record { ok = c.push_str-3.ensures.ok; err = c.push_str-3.ensures.err })) in
+    record { ok = d.ok; err = d.err }

@@ -1,9 +1,7 @@
 use Rattle.std.proofs.Common.{◌++◌, ap, sym, ℕ, List, Option, Some}
-use Rattle.std.specs.Prelude.{codes}
-use Rattle.std.specs.Borrow.{Bor}
-use Rattle.std.specs.Option.{option_map}
+use Rattle.std.specs.{Prelude.codes, Borrow.Bor, Option.option_map}
 use Rattle.kmip_ttlv_util.specs.Lines.{indent, tag_named}
-use Rattle.kmip_ttlv_util.proofs.Saying.{ok_same, err_same, err_now, ok_then, err_then}
+use Rattle.kmip_ttlv_util.proofs.Saying.{err_now, does_same, does_then}
 use Rattle.kmip_ttlv_util.proofs.lines.push_named_part.Goals as goal
 
 pub returns-in_err-push_str-clause-err : goal.returns-in_err-push_str-clause-err
@@ -13,16 +11,9 @@ returns-in_err-push_str-clause-err g c =
 
 pub returns : goal.returns
 returns g c =
-    let is = ap (tag_named (Some c.in-Some.name.now)) c.deref-2.ensures in
     let text = ap (λ (o : Option (Bor (List ℕ))). indent c.args.depth ++ (codes "Tag: " ++ tag_named (option_map (λ s. s.now) o) c.args.tag))
     (sym c.in-Some.is) in
-    record {
-      ok = ok_same g.S.TextSink.adds g.S.TextSink.breaks c.push_named.result _ _ _ _
-          (ok_then g.S.TextSink.adds g.S.TextSink.breaks g.met.S.TextSink.adds_both c.push_named.result _ _ _ _ _ (c.in_ok-push_indent.ensures.ok)
-          (ok_then g.S.TextSink.adds g.S.TextSink.breaks g.met.S.TextSink.adds_both c.push_named.result _ _ _ (codes "Tag: ") _ (c.in_ok-push_str.ensures.ok)
-          (ok_same g.S.TextSink.adds g.S.TextSink.breaks c.push_named.result _ _ _ _ c.push_named.ensures.ok is))) text;
-      err = err_same g.S.TextSink.adds g.S.TextSink.breaks c.push_named.result _ _ _ _
-          (err_then g.S.TextSink.adds g.S.TextSink.breaks g.met.S.TextSink.breaks_second c.push_named.result _ _ _ _ _ (c.in_ok-push_indent.ensures.ok)
-          (err_then g.S.TextSink.adds g.S.TextSink.breaks g.met.S.TextSink.breaks_second c.push_named.result _ _ _ (codes "Tag: ") _
-          (c.in_ok-push_str.ensures.ok) (err_same g.S.TextSink.adds g.S.TextSink.breaks c.push_named.result _ _ _ _ c.push_named.ensures.err is))) text;
-    }
+    let d = does_then g.met.S.TextSink.adds_both g.met.S.TextSink.breaks_second c.push_named.result _ c.in_ok-push_indent.ensures.ok
+    (does_then g.met.S.TextSink.adds_both g.met.S.TextSink.breaks_second _ _ c.in_ok-push_str.ensures.ok
+    (does_same record { ok = c.push_named.ensures.ok; err = c.push_named.ensures.err } (ap (tag_named (Some c.in-Some.name.now)) c.deref-2.ensures))) in
+    record { ok = rw (← text) d.ok; err = rw (← text) d.err }

@@ -1,5 +1,5 @@
 use Rattle.std.specs.Prelude.{codes}
-use Rattle.kmip_ttlv_util.proofs.Saying.{err_now, ok_then, err_then}
+use Rattle.kmip_ttlv_util.proofs.Saying.{err_now, does_then}
 use Rattle.kmip_ttlv_util.proofs.lines.push_rare.Goals as goal
 
 pub returns-in_err-push_str-clause-err : goal.returns-in_err-push_str-clause-err
@@ -8,9 +8,6 @@ returns-in_err-push_str-clause-err g c =
 
 pub returns : goal.returns
 returns g c =
-    record {
-      ok = ok_then g.S.TextSink.adds g.S.TextSink.breaks g.met.S.TextSink.adds_both c.push_four.result _ _ _ (codes "Tag: ") _ (c.in_ok-push_str.ensures.ok)
-          (c.push_four.ensures.ok);
-      err = err_then g.S.TextSink.adds g.S.TextSink.breaks g.met.S.TextSink.breaks_second c.push_four.result _ _ _ (codes "Tag: ") _
-          (c.in_ok-push_str.ensures.ok) (c.push_four.ensures.err);
-    }
+    let d = does_then g.met.S.TextSink.adds_both g.met.S.TextSink.breaks_second c.push_four.result _ c.in_ok-push_str.ensures.ok
+    record { ok = c.push_four.ensures.ok; err = c.push_four.ensures.err } in
+    record { ok = d.ok; err = d.err }

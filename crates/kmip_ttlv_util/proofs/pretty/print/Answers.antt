@@ -1,6 +1,5 @@
 use Rattle.std.specs.Prelude.{string_bytes}
-use Rattle.kmip_ttlv_util.specs.TagNames.{name_in}
-use Rattle.kmip_ttlv_util.specs.Pretty.{IsPrinted}
+use Rattle.kmip_ttlv_util.specs.{TagNames.name_in, Pretty.IsPrinted}
 use Rattle.kmip_ttlv_util.proofs.Saying.{from_none}
 use Rattle.kmip_ttlv_util.proofs.pretty.print.Goals as goal
 

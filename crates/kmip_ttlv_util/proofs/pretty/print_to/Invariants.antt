@@ -1,8 +1,5 @@
 use Rattle.std.proofs.Common.{ℕ, ◌+◌, ◌-◌, ◌*◌, List, length}
-use Rattle.kmip_ttlv_util.specs.Pieces.{SomeText}
-use Rattle.kmip_ttlv_util.specs.Walks.{place_of}
-use Rattle.kmip_ttlv_util.specs.TagNames.{name_in}
-use Rattle.kmip_ttlv_util.specs.Pretty.{pretty_style}
+use Rattle.kmip_ttlv_util.specs.{Pieces.SomeText, Walks.place_of, TagNames.name_in, Pretty.pretty_style}
 use Rattle.kmip_ttlv_util.proofs.Loop.{Walking}
 use Rattle.kmip_ttlv_util.proofs.pretty.print_to.Given as goal
 

@@ -1,5 +1,5 @@
 use Rattle.std.specs.Prelude.{codes}
-use Rattle.kmip_ttlv_util.proofs.Saying.{err_now, ok_then, err_then}
+use Rattle.kmip_ttlv_util.proofs.Saying.{err_now, does_then}
 use Rattle.kmip_ttlv_util.proofs.pretty.push_bracketed.Goals as goal
 
 pub returns-in_err-push_str-clause-err : goal.returns-in_err-push_str-clause-err
@@ -13,11 +13,7 @@ returns-in_err-push_str-2-clause-err g c =
 
 pub returns : goal.returns
 returns g c =
-    record {
-      ok = ok_then g.S.TextSink.adds g.S.TextSink.breaks g.met.S.TextSink.adds_both c.push_str-3.result _ _ _ (codes " (") _ (c.in_ok-push_str.ensures.ok)
-          (ok_then g.S.TextSink.adds g.S.TextSink.breaks g.met.S.TextSink.adds_both c.push_str-3.result _ _ _ c.args.text.now _ (c.in_ok-push_str-2.ensures.ok)
-          (c.push_str-3.ensures.ok));
-      err = err_then g.S.TextSink.adds g.S.TextSink.breaks g.met.S.TextSink.breaks_second c.push_str-3.result _ _ _ (codes " (") _ (c.in_ok-push_str.ensures.ok)
-          (err_then g.S.TextSink.adds g.S.TextSink.breaks g.met.S.TextSink.breaks_second c.push_str-3.result _ _ _ c.args.text.now _
-          (c.in_ok-push_str-2.ensures.ok) (c.push_str-3.ensures.err));
-    }
+    let d = does_then g.met.S.TextSink.adds_both g.met.S.TextSink.breaks_second c.push_str-3.result _ c.in_ok-push_str.ensures.ok
+    (does_then g.met.S.TextSink.adds_both g.met.S.TextSink.breaks_second _ _ c.in_ok-push_str-2.ensures.ok
+    record { ok = c.push_str-3.ensures.ok; err = c.push_str-3.ensures.err }) in
+    record { ok = d.ok; err = d.err }

@@ -1,4 +1,4 @@
-use Rattle.kmip_ttlv_util.proofs.Saying.{err_now, ok_then, err_then}
+use Rattle.kmip_ttlv_util.proofs.Saying.{err_now, does_then}
 use Rattle.kmip_ttlv_util.proofs.pretty.push_item.Goals as goal
 
 pub returns-in_err-push_line-clause-err : goal.returns-in_err-push_line-clause-err
@@ -7,9 +7,6 @@ returns-in_err-push_line-clause-err g c =
 
 pub returns : goal.returns
 returns g c =
-    record {
-      ok = ok_then g.S.TextSink.adds g.S.TextSink.breaks g.met.S.TextSink.adds_both c.push_warning.result _ _ _ _ _ (c.in_ok-push_line.ensures.ok)
-          (c.push_warning.ensures.ok);
-      err = err_then g.S.TextSink.adds g.S.TextSink.breaks g.met.S.TextSink.breaks_second c.push_warning.result _ _ _ _ _ (c.in_ok-push_line.ensures.ok)
-          (c.push_warning.ensures.err);
-    }
+    let d = does_then g.met.S.TextSink.adds_both g.met.S.TextSink.breaks_second c.push_warning.result _ c.in_ok-push_line.ensures.ok
+    record { ok = c.push_warning.ensures.ok; err = c.push_warning.ensures.err } in
+    record { ok = d.ok; err = d.err }

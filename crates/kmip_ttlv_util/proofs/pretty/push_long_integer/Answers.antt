@@ -1,8 +1,7 @@
 use Rattle.std.proofs.Common.{rules, ◌≡◌, ap}
-use Rattle.std.specs.Int.{w64, cast_signed}
-use Rattle.std.specs.Fmt.{signed_decimal}
+use Rattle.std.specs.{Int.w64, Int.cast_signed, Fmt.signed_decimal}
 use Rattle.kmip_ttlv_util.specs.Pretty.{bracketed}
-use Rattle.kmip_ttlv_util.proofs.Saying.{ok_same, err_same, err_now, ok_then, err_then}
+use Rattle.kmip_ttlv_util.proofs.Saying.{err_now, does_same, does_then}
 use Rattle.kmip_ttlv_util.proofs.pretty.push_long_integer.Goals as goal
 
 pub returns-in_err-push_six-clause-err : goal.returns-in_err-push_six-clause-err
@@ -12,9 +11,6 @@ returns-in_err-push_six-clause-err g c =
 pub returns : goal.returns
 returns g c =
     let text : bracketed c.format.result.now ≡ bracketed (signed_decimal (cast_signed w64 c.args.n)) = ap bracketed (search rules) in
-    record {
-      ok = ok_then g.S.TextSink.adds g.S.TextSink.breaks g.met.S.TextSink.adds_both c.push_bracketed.result _ _ _ _ _ (c.in_ok-push_six.ensures.ok)
-          (ok_same g.S.TextSink.adds g.S.TextSink.breaks c.push_bracketed.result _ _ _ _ c.push_bracketed.ensures.ok text);
-      err = err_then g.S.TextSink.adds g.S.TextSink.breaks g.met.S.TextSink.breaks_second c.push_bracketed.result _ _ _ _ _ (c.in_ok-push_six.ensures.ok)
-          (err_same g.S.TextSink.adds g.S.TextSink.breaks c.push_bracketed.result _ _ _ _ c.push_bracketed.ensures.err text);
-    }
+    let d = does_then g.met.S.TextSink.adds_both g.met.S.TextSink.breaks_second c.push_bracketed.result _ c.in_ok-push_six.ensures.ok
+    (does_same record { ok = c.push_bracketed.ensures.ok; err = c.push_bracketed.ensures.err } text) in
+    record { ok = d.ok; err = d.err }

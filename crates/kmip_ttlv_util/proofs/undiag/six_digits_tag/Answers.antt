@@ -1,8 +1,6 @@
 use Rattle.std.proofs.Common.{◌≡◌, ◌+◌, ◌*◌, ◌%◌, ◌^◌, ◌<◌, [], ◌∷◌, ℕ, List, Option, Some, None, ap, sym, ◌∙◌, arith, IfSome}
-use Rattle.kmip_ttlv_types.specs.Digits.{six_digits}
-use Rattle.kmip_ttlv_types.specs.Names.{tag_of}
-use Rattle.kmip_ttlv_util.proofs.PrefixNumbers.{joined_fits, joined_digits}
-use Rattle.kmip_ttlv_util.proofs.ReadBack.{six_tag}
+use Rattle.kmip_ttlv_types.specs.{Digits.six_digits, Names.tag_of}
+use Rattle.kmip_ttlv_util.proofs.{PrefixNumbers.joined_fits, PrefixNumbers.joined_digits, ReadBack.six_tag}
 use Rattle.kmip_ttlv_util.proofs.undiag.six_digits_tag.Goals as goal
 
 pub overflow_add-prefix-2 : goal.overflow_add-prefix-2

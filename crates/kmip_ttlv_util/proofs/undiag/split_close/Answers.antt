@@ -1,6 +1,5 @@
 use Rattle.std.proofs.Common.{◌≡◌, ◌≢◌, ◌∷◌, Bor, ℕ, List, Option, Some, None, arith}
-use Rattle.std.specs.Prelude.{IfNone}
-use Rattle.std.specs.Option.{MatchOption}
+use Rattle.std.specs.{Prelude.IfNone, Option.MatchOption}
 use Rattle.std.proofs.lemmas.Str.Pattern.{strip_prefix_char}
 use Rattle.kmip_ttlv_util.proofs.undiag.split_close.Goals as goal
 

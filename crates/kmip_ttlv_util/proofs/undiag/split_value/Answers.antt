@@ -1,9 +1,6 @@
-use Rattle.std.proofs.Common.{◌≡◌, length, Some, None, ◌∙◌, sym, ap, arith}
-use Rattle.std.proofs.Common.{eqb}
+use Rattle.std.proofs.Common.{◌≡◌, length, Some, None, ◌∙◌, sym, ap, arith, eqb}
 use Rattle.std.specs.List.{position_or_len}
-use Rattle.std.proofs.lemmas.Bool.{eqb-true, eqb-false}
-use Rattle.std.proofs.lemmas.List.{length-take-le}
-use Rattle.std.proofs.lemmas.Str.Pattern.{split_once_first}
+use Rattle.std.proofs.lemmas.{Bool.eqb-true, Bool.eqb-false, List.length-take-le, Str.Pattern.split_once_first}
 use Rattle.kmip_ttlv_util.specs.Undiag.{front_value}
 use Rattle.kmip_ttlv_util.proofs.Fronts.{value_none, value_empty, value_some}
 use Rattle.kmip_ttlv_util.proofs.undiag.split_value.Goals as goal

@@ -4,13 +4,13 @@ use Rattle.kmip_ttlv_write.proofs.Holding.{place, closable, close_holds}
 use Rattle.kmip_ttlv_write.proofs.emit.close.Goals as goal
 
 pub overflow_cast-place : goal.overflow_cast-place
-overflow_cast-place c = let k = closable c.args.out.now c.args.place c.requires in omega (arith, k.short)
+overflow_cast-place c = omega (arith, (closable c.requires).short)
 
 pub set_length-requires : goal.set_length-requires
-set_length-requires c = let k = closable c.args.out.now c.args.place c.requires in omega (arith, k.header, k.room)
+set_length-requires c = let k = closable c.requires in omega (arith, k.header, k.room)
 
 pub overflow_sub-result : goal.overflow_sub-result
-overflow_sub-result c = let k = closable c.args.out.now c.args.place c.requires in omega (arith, k.link, c.length_at-link.ensures)
+overflow_sub-result c = omega (arith, (closable c.requires).link, c.length_at-link.ensures)
 
 pub returns-clause-holds : goal.returns-clause-holds
 returns-clause-holds c = λ o h.

@@ -9,6 +9,5 @@ leaving-preserved c =
     record {
       len = c.close-place.ensures.len ∙ v.len;
       some = record { opened = close_one v.some.opened; holds = c.close-place.ensures.holds v.some.opened v.some.holds };
-      holds = λ o h. left_more c.args.depth o c.leaving.out c.close-place.new.out c.leaving.place c.close-place.result c.leaving-test.true
-          c.close-place.ensures.holds (v.holds o h);
+      holds = λ o h. left_more c.leaving-test.true c.close-place.ensures.holds (v.holds o h);
     }

@@ -1,11 +1,7 @@
 use Rattle.std.proofs.Common.{arith, List, ℕ, ◌++◌, length, take, ap, ◌∙◌}
-use Rattle.kmip_ttlv_types.specs.ItemTypes.{pad_len}
-use Rattle.kmip_ttlv_types.specs.Trees.{leaf_bytes}
-use Rattle.kmip_ttlv_types.specs.Places.{size}
+use Rattle.kmip_ttlv_types.specs.{ItemTypes.pad_len, Trees.leaf_bytes, Places.size}
 use Rattle.kmip_ttlv_write.specs.GivenItems.{given_content}
-use Rattle.kmip_ttlv_write.proofs.Opens.{leaf_len}
-use Rattle.kmip_ttlv_write.proofs.Emitting.{leaf_size}
-use Rattle.kmip_ttlv_write.proofs.Holding.{leaf_holds}
+use Rattle.kmip_ttlv_write.proofs.{Opens.leaf_len, Emitting.leaf_size, Holding.leaf_holds}
 use Rattle.kmip_ttlv_write.proofs.emit.put_value.Goals as goal
 
 pub returns-clause-holds : goal.returns-clause-holds
@@ -16,14 +12,8 @@ returns-clause-holds c = λ o h small.
     c.content_at-content.ensures in
     let e = c.content_at-content.ensures in
     let is = leaf_size c.args.lent.now c.args.typ i c.requires.leaf c.requires.value in
-    leaf_holds c.args.out.now c.put_leaf-at.new.out c.args.place c.put_leaf-at.result (size c.args.typ i.length) i.tag c.args.typ content o h small is
-    (omega (
-      arith,
-      c.put_leaf-at.ensures.place,
-      c.put_leaf-at.ensures.len,
-      c.requires.room.room,
-      is,
-      leaf_len i.tag c.args.typ content,
-      ap length e,
-      ap (λ (s : List ℕ). pad_len (length s)) e,
-    )) front
+    let len = ap length e in
+    let pad = ap (λ (s : List ℕ). pad_len (length s)) e in
+    let at = c.put_leaf-at.ensures in
+    leaf_holds c.put_leaf-at.result (size c.args.typ i.length) i.tag c.args.typ content h small is
+    (omega (arith, at.place, at.len, c.requires.room.room, is, leaf_len i.tag c.args.typ content, len, pad)) front

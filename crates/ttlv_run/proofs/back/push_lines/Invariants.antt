@@ -1,6 +1,5 @@
 use Rattle.std.proofs.Common.{◌-◌, length}
-use Rattle.kmip_ttlv_util.specs.Pieces.{SomeText}
-use Rattle.kmip_ttlv_util.specs.TagNames.{name_in}
+use Rattle.kmip_ttlv_util.specs.{Pieces.SomeText, TagNames.name_in}
 use Rattle.ttlv_run.proofs.BackLines.{Lined}
 use Rattle.ttlv_run.proofs.back.push_lines.Given as goal
 

@@ -12,8 +12,7 @@ years-preserved c =
       left = (
         on.fuel,
         omega (arith, on.few, c.days_in_year-rest.ensures),
-        l.2 ∙ on.same ∙ ap (λ (k : ℕ). in_year on.fuel (y + 1) (c.years.rest - k))
-            (sym c.days_in_year-rest.ensures),
+        l.2 ∙ on.same ∙ ap (λ (k : ℕ). in_year on.fuel (y + 1) (c.years.rest - k)) (sym c.days_in_year-rest.ensures),
       );
       few = omega (arith, c.years.invariant.few);
       within = omega (arith, c.years.invariant.within, year_some y, c.years-test.true);

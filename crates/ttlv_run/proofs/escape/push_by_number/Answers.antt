@@ -13,12 +13,11 @@ returns-in_err-push_short_hex-clause-err g c =
     (g.met.S.TextSink.breaks_first _ _ (short_hex c.args.c) _ c.in_err-push_short_hex.ensures.err))
 
 pub returns : goal.returns
-returns g c =
-    record {
-      ok = ok_then g.S.TextSink.adds g.S.TextSink.breaks g.met.S.TextSink.adds_both c.push_str-2.result _ _ _ (codes "\\u{") _ c.in_ok-push_str.ensures.ok
-          (ok_then g.S.TextSink.adds g.S.TextSink.breaks g.met.S.TextSink.adds_both c.push_str-2.result _ _ _ (short_hex c.args.c)
-          (codes "}") c.in_ok-push_short_hex.ensures.ok c.push_str-2.ensures.ok);
-      err = err_then g.S.TextSink.adds g.S.TextSink.breaks g.met.S.TextSink.breaks_second c.push_str-2.result _ _ _ (codes "\\u{") _ c.in_ok-push_str.ensures.ok
-          (err_then g.S.TextSink.adds g.S.TextSink.breaks g.met.S.TextSink.breaks_second c.push_str-2.result _ _ _ (short_hex c.args.c)
-          (codes "}") c.in_ok-push_short_hex.ensures.ok c.push_str-2.ensures.err);
-    }
+returns g c = record {
+  ok = ok_then g.S.TextSink.adds g.S.TextSink.breaks g.met.S.TextSink.adds_both c.push_str-2.result _ _ _ (codes "\\u{") _ c.in_ok-push_str.ensures.ok
+      (ok_then g.S.TextSink.adds g.S.TextSink.breaks g.met.S.TextSink.adds_both c.push_str-2.result _ _ _ (short_hex c.args.c)
+      (codes "}") c.in_ok-push_short_hex.ensures.ok c.push_str-2.ensures.ok);
+  err = err_then g.S.TextSink.adds g.S.TextSink.breaks g.met.S.TextSink.breaks_second c.push_str-2.result _ _ _ (codes "\\u{") _ c.in_ok-push_str.ensures.ok
+      (err_then g.S.TextSink.adds g.S.TextSink.breaks g.met.S.TextSink.breaks_second c.push_str-2.result _ _ _ (short_hex c.args.c)
+      (codes "}") c.in_ok-push_short_hex.ensures.ok c.push_str-2.ensures.err);
+}

@@ -1,6 +1,4 @@
-use Rattle.std.proofs.Common.{[]}
-use Rattle.std.proofs.lemmas.Str.{IsUtf8-from_ascii}
-use Rattle.std.proofs.lemmas.Str.Ascii.{IsAscii-nil, IsAscii-cons}
+use Rattle.std.proofs.{Common.[], lemmas.Str.IsUtf8-from_ascii, lemmas.Str.Ascii.IsAscii-nil, lemmas.Str.Ascii.IsAscii-cons}
 use Rattle.ttlv_run.proofs.escape.push_digit.Goals as goal
 
 pub from_utf8_unchecked-requires : goal.from_utf8_unchecked-requires

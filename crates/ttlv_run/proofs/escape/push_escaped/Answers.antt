@@ -1,13 +1,10 @@
 use Rattle.std.proofs.Common.{◌≡◌, ◌<◌, ◌+◌, ◌++◌, ◌∷◌, [], List, ℕ, length, take, drop, get_or, map, flat_map, sym, ap, ◌∙◌, map-id}
 use Rattle.std.specs.Str.{chars, is_utf8}
-use Rattle.std.proofs.lemmas.Grind.{take_at_read}
-use Rattle.std.proofs.lemmas.List.{take-append-drop}
-use Rattle.std.proofs.lemmas.Str.{IsUtf8-from_is_utf8}
-use Rattle.std.proofs.lemmas.Iterator.{YieldsList-from_chars}
+use Rattle.std.proofs.lemmas.{Grind.take_at_read, Grind.flat_map-append, List.take-append-drop, Str.IsUtf8-from_is_utf8, Iterator.YieldsList-from_chars}
 use Rattle.std.proofs.lemmas.Iterator.Consumers.{YieldsList-so_far, YieldsList-turn, YieldsList-end}
 use Rattle.kmip_ttlv_util.proofs.Saying.{adds_same, breaks_rest, err_now}
 use Rattle.ttlv_run.specs.Texts.{escaped_char, escaped}
-use Rattle.ttlv_run.proofs.Completion.{flat_map-append, flat_map-more}
+use Rattle.ttlv_run.proofs.Completion.{flat_map-more}
 use Rattle.ttlv_run.proofs.escape.push_escaped.Goals as goal
 
 -- the characters so far, this one, and the others

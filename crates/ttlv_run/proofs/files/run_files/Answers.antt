@@ -1,6 +1,5 @@
 use Rattle.std.proofs.Common.{rules, arith, ◌≡◌}
-use Rattle.ttlv_run.specs.Files.{no_file}
-use Rattle.ttlv_run.specs.Texts.{names_of}
+use Rattle.ttlv_run.specs.{Files.no_file, Texts.names_of}
 use Rattle.ttlv_run.proofs.Sequences.{done_more, done_last}
 use Rattle.ttlv_run.proofs.files.run_files.Goals as goal
 

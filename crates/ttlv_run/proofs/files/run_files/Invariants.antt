@@ -1,6 +1,5 @@
 use Rattle.std.proofs.Common.{◌≢◌, take}
-use Rattle.ttlv_run.specs.Files.{AllDone}
-use Rattle.ttlv_run.specs.Texts.{names_of}
+use Rattle.ttlv_run.specs.{Files.AllDone, Texts.names_of}
 use Rattle.ttlv_run.proofs.files.run_files.Given as goal
 
 abbrev pub invariant-files : goal.invariant-files

@@ -1,8 +1,7 @@
 use Rattle.std.proofs.Common.{◌≡◌, ◌+◌, ◌-◌, ◌*◌, ◌^◌, true, length}
 use Rattle.std.specs.Io.KnownBytes.{IsAtEnd}
 use Rattle.ttlv_run.specs.Streaming.{buffered}
-use Rattle.ttlv_run.proofs.JsonReads.{JsonReading}
-use Rattle.ttlv_run.proofs.Windows.{as_number}
+use Rattle.ttlv_run.proofs.{JsonReads.JsonReading, Windows.as_number}
 use Rattle.ttlv_run.proofs.from_json.respond.Given as goal
 
 abbrev pub invariant-lines : goal.invariant-lines

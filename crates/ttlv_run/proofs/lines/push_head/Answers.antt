@@ -15,12 +15,11 @@ returns-in_err-push_beginning-clause-err g c =
 
 pub returns : goal.returns
 unfolding tag_part
-returns g c =
-    record {
-      ok = ok_then g.S.TextSink.adds g.S.TextSink.breaks g.met.S.TextSink.adds_both c.push_color-2.result _ _ _ _ _ c.in_ok-push_color.ensures.ok
-          (ok_then g.S.TextSink.adds g.S.TextSink.breaks g.met.S.TextSink.adds_both c.push_color-2.result _ _ _ _ _ c.in_ok-push_beginning.ensures.ok
-          c.push_color-2.ensures.ok);
-      err = err_then g.S.TextSink.adds g.S.TextSink.breaks g.met.S.TextSink.breaks_second c.push_color-2.result _ _ _ _ _ c.in_ok-push_color.ensures.ok
-          (err_then g.S.TextSink.adds g.S.TextSink.breaks g.met.S.TextSink.breaks_second c.push_color-2.result _ _ _ _ _ c.in_ok-push_beginning.ensures.ok
-          c.push_color-2.ensures.err);
-    }
+returns g c = record {
+  ok = ok_then g.S.TextSink.adds g.S.TextSink.breaks g.met.S.TextSink.adds_both c.push_color-2.result _ _ _ _ _ c.in_ok-push_color.ensures.ok
+      (ok_then g.S.TextSink.adds g.S.TextSink.breaks g.met.S.TextSink.adds_both c.push_color-2.result _ _ _ _ _ c.in_ok-push_beginning.ensures.ok
+      c.push_color-2.ensures.ok);
+  err = err_then g.S.TextSink.adds g.S.TextSink.breaks g.met.S.TextSink.breaks_second c.push_color-2.result _ _ _ _ _ c.in_ok-push_color.ensures.ok
+      (err_then g.S.TextSink.adds g.S.TextSink.breaks g.met.S.TextSink.breaks_second c.push_color-2.result _ _ _ _ _ c.in_ok-push_beginning.ensures.ok
+      c.push_color-2.ensures.err);
+}

@@ -28,16 +28,15 @@ returns-in_err-push_content-clause-err g c =
 
 pub returns : goal.returns
 unfolding item_line
-returns g c =
-    record {
-      ok = ok_then g.S.TextSink.adds g.S.TextSink.breaks g.met.S.TextSink.adds_both c.push_str.result _ _ _ _ _ c.in_ok-push_offset.ensures.ok
-          (ok_then g.S.TextSink.adds g.S.TextSink.breaks g.met.S.TextSink.adds_both c.push_str.result _ _ _ _ _ c.in_ok-push_head.ensures.ok
-          (ok_then g.S.TextSink.adds g.S.TextSink.breaks g.met.S.TextSink.adds_both c.push_str.result _ _ _ _ _ c.in_ok-push_data_part.ensures.ok
-          (ok_then g.S.TextSink.adds g.S.TextSink.breaks g.met.S.TextSink.adds_both c.push_str.result _ _ _ _ _ c.in_ok-push_content.ensures.ok
-          c.push_str.ensures.ok)));
-      err = err_then g.S.TextSink.adds g.S.TextSink.breaks g.met.S.TextSink.breaks_second c.push_str.result _ _ _ _ _ c.in_ok-push_offset.ensures.ok
-          (err_then g.S.TextSink.adds g.S.TextSink.breaks g.met.S.TextSink.breaks_second c.push_str.result _ _ _ _ _ c.in_ok-push_head.ensures.ok
-          (err_then g.S.TextSink.adds g.S.TextSink.breaks g.met.S.TextSink.breaks_second c.push_str.result _ _ _ _ _ c.in_ok-push_data_part.ensures.ok
-          (err_then g.S.TextSink.adds g.S.TextSink.breaks g.met.S.TextSink.breaks_second c.push_str.result _ _ _ _ _ c.in_ok-push_content.ensures.ok
-          c.push_str.ensures.err)));
-    }
+returns g c = record {
+  ok = ok_then g.S.TextSink.adds g.S.TextSink.breaks g.met.S.TextSink.adds_both c.push_str.result _ _ _ _ _ c.in_ok-push_offset.ensures.ok
+      (ok_then g.S.TextSink.adds g.S.TextSink.breaks g.met.S.TextSink.adds_both c.push_str.result _ _ _ _ _ c.in_ok-push_head.ensures.ok
+      (ok_then g.S.TextSink.adds g.S.TextSink.breaks g.met.S.TextSink.adds_both c.push_str.result _ _ _ _ _ c.in_ok-push_data_part.ensures.ok
+      (ok_then g.S.TextSink.adds g.S.TextSink.breaks g.met.S.TextSink.adds_both c.push_str.result _ _ _ _ _ c.in_ok-push_content.ensures.ok
+      c.push_str.ensures.ok)));
+  err = err_then g.S.TextSink.adds g.S.TextSink.breaks g.met.S.TextSink.breaks_second c.push_str.result _ _ _ _ _ c.in_ok-push_offset.ensures.ok
+      (err_then g.S.TextSink.adds g.S.TextSink.breaks g.met.S.TextSink.breaks_second c.push_str.result _ _ _ _ _ c.in_ok-push_head.ensures.ok
+      (err_then g.S.TextSink.adds g.S.TextSink.breaks g.met.S.TextSink.breaks_second c.push_str.result _ _ _ _ _ c.in_ok-push_data_part.ensures.ok
+      (err_then g.S.TextSink.adds g.S.TextSink.breaks g.met.S.TextSink.breaks_second c.push_str.result _ _ _ _ _ c.in_ok-push_content.ensures.ok
+      c.push_str.ensures.err)));
+}

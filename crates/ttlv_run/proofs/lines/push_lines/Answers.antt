@@ -1,16 +1,25 @@
-use Rattle.std.proofs.Common.{◌≡◌, ◌∙◌, ◌+◌, ◌<◌, ap, sym, refl, subst, List, [], ◌∷◌, ◌++◌, ℕ, get_or, arith}
+use Rattle.std.proofs.Common.{◌≡◌, ◌∙◌, ◌+◌, ap, sym, refl, subst, List, [], ◌∷◌, ◌++◌, ℕ, arith}
 use Rattle.kmip_ttlv_types.specs.Places.{size}
-use Rattle.kmip_ttlv_items.specs.Enclosing.{open_ends}
-use Rattle.kmip_ttlv_items.specs.ItemWalks.{Ended}
-use Rattle.kmip_ttlv_items.specs.Stepping.{Steps, StepsTo}
+use Rattle.kmip_ttlv_items.specs.{ItemWalks.Ended, Stepping.Steps, Stepping.StepsTo, declared.found.FoundItem.FoundItem}
 use Rattle.kmip_ttlv_util.proofs.Saying.{adds_same, breaks_same}
-use Rattle.ttlv_run.specs.declared.lines.Reach.{Reach}
-use Rattle.ttlv_run.specs.Items.{IsGood}
-use Rattle.ttlv_run.specs.Texts.{names_of, reach_after, no_reach, item_text, lines_from}
+use Rattle.ttlv_run.specs.{declared.job.Look.Look, declared.lines.Reach.Reach, Items.IsGood}
+use Rattle.ttlv_run.specs.Texts.{Names, names_of, reach_after, no_reach, item_text, lines_from}
 use Rattle.ttlv_run.proofs.Completion.{reach_all, lines-more, reach-more}
-use Rattle.ttlv_run.proofs.Good.{whole_good}
-use Rattle.ttlv_run.proofs.Printing.{err_holds, lines_rest, broken_lines}
+use Rattle.ttlv_run.proofs.{Good.whole_good, Printing.err_holds, Printing.broken_lines}
 use Rattle.ttlv_run.proofs.lines.push_lines.Goals as goal
+
+-- one line more
+one_line_more : (names : Names) (look : Look) {before reach : Reach} (i : FoundItem) (found : List FoundItem) → reach ≡ reach_after names look before i
+    → before ≡ reach_all names look no_reach found
+    → (reach ≡ reach_all names look no_reach (found ++ (i ∷ [])))
+    × ((at : ℕ) (message : List ℕ) → lines_from names look at message no_reach found ++ item_text names look reach at message i
+    ≡ lines_from names look at message no_reach (found ++ (i ∷ [])))
+one_line_more names look i found is before_is =
+    let same = is ∙ ap (λ (r : Reach). reach_after names look r i) before_is in (
+      same ∙ sym (reach-more names look 0 [] no_reach i found),
+      λ at message. ap (λ (r : Reach). lines_from names look at message no_reach found ++ item_text names look r at message i) same
+          ∙ sym (lines-more names look at message no_reach i found),
+    )
 
 pub items-init : goal.items-init
 items-init g c = record { bytes = c.new-walk.ensures.bytes; reported = ([], c.new-walk.ensures.met, refl, g.met.S.TextSink.adds_none c.args.out.now) }
@@ -25,26 +34,16 @@ push_item-requires-clause-good g c =
 
 pub items-preserved : goal.items-preserved
 items-preserved g c =
-    let i = c.in-Item.item in
-    let yields : StepsTo c.items.walk c.next.new.self i = subst (Steps c.items.walk c.next.new.self) c.in-Item.is c.in_ok-item.ensures.ok in
-    let found = c.items.invariant.reported.0 in
-    let names = names_of c.args.names.now in
-    let look = c.args.look in
-    let message = c.args.message.now in
-    let first = lines_from names look c.args.at message no_reach found in
-    let reach : c.reach_after-reach.result ≡ reach_after names look (reach_all names look no_reach found) i = c.reach_after-reach.ensures
-    ∙ ap (λ (r : Reach). reach_after names look r i) c.items.invariant.reported.2 in
-    let more : first ++ item_text names look c.reach_after-reach.result c.args.at message i ≡ lines_from names look c.args.at message no_reach
-    (found ++ (i ∷ [])) =
-    ap (λ (r : Reach). first ++ item_text names look r c.args.at message i) reach ∙ sym (lines-more names look c.args.at message no_reach i found) in
+    let yields : StepsTo c.items.walk c.next.new.self c.in-Item.item = subst (Steps c.items.walk c.next.new.self) c.in-Item.is c.in_ok-item.ensures.ok in
+    let r = c.items.invariant.reported in
+    let k = one_line_more (names_of c.args.names.now) c.args.look c.in-Item.item r.0 c.reach_after-reach.ensures r.2 in
     record {
       bytes = c.next.ensures.bytes ∙ c.items.invariant.bytes;
       reported = (
-        found ++ (i ∷ []),
-        yields.met found c.items.invariant.reported.1,
-        reach ∙ sym (reach-more names look c.args.at message no_reach i found),
-        adds_same g.S.TextSink.adds g.S.TextSink.breaks _ _ _ _
-            (g.met.S.TextSink.adds_both _ _ _ first _ c.items.invariant.reported.3 c.in_ok-push_item-in-Item.ensures.ok) more,
+        r.0 ++ (c.in-Item.item ∷ []),
+        yields.met r.0 r.1,
+        k.0,
+        adds_same g.S.TextSink.adds g.S.TextSink.breaks _ _ _ _ (g.met.S.TextSink.adds_both _ _ _ _ _ r.3 c.in_ok-push_item-in-Item.ensures.ok) (k.1 _ _),
       );
     }
 
@@ -66,38 +65,17 @@ returns-in-End-clause-ok g c =
 -- out of memory: the lines so far are a beginning
 pub returns-in_err-item-clause-err : goal.returns-in_err-item-clause-err
 returns-in_err-item-clause-err g c =
-    let names = names_of c.args.names.now in
-    let message = c.args.message.now in
-    let plain : (k : ℕ) → get_or message k 0 < 256 = λ k. omega (arith, c.type_inv.message k) in
-    let walk = c.items.walk in
-    let found = c.items.invariant.reported.0 in
-    let rest = lines_rest names c.args.at message plain c.args.look walk.bytes.now walk.offset (open_ends walk.ends) found c.items.invariant.bytes
-    c.items.invariant.reported.1 in
-    let after = g.met.S.TextSink.breaks_after _ _ _ c.items.invariant.reported.3 in
-    err_holds _ _ (broken_lines g.S.TextSink.adds g.S.TextSink.breaks g.met.S.TextSink.breaks_first names c.args.at message plain c.args.look found _ _
-    rest after)
+    let r = c.items.invariant.reported in
+    err_holds _ _ (broken_lines g.S.TextSink.breaks _ _ g.met.S.TextSink.breaks_first (λ k. omega (arith, c.type_inv.message k)) c.items.invariant.bytes r.1
+    (g.met.S.TextSink.breaks_after _ _ _ r.3))
 
 -- the sink failed in a line, behind which others follow
 pub returns-in_err-push_item-in-Item-clause-err : goal.returns-in_err-push_item-in-Item-clause-err
 returns-in_err-push_item-in-Item-clause-err g c =
-    let names = names_of c.args.names.now in
-    let message = c.args.message.now in
-    let plain : (k : ℕ) → get_or message k 0 < 256 = λ k. omega (arith, c.type_inv.message k) in
-    let i = c.in-Item.item in
-    let yields : StepsTo c.items.walk c.next.new.self i = subst (Steps c.items.walk c.next.new.self) c.in-Item.is c.in_ok-item.ensures.ok in
-    let walk = c.next.new.self in
-    let found = c.items.invariant.reported.0 in
-    let look = c.args.look in
-    let first = lines_from names look c.args.at message no_reach found in
-    let reach : c.reach_after-reach.result ≡ reach_after names look (reach_all names look no_reach found) i = c.reach_after-reach.ensures
-    ∙ ap (λ (r : Reach). reach_after names look r i) c.items.invariant.reported.2 in
-    let more : first ++ item_text names look c.reach_after-reach.result c.args.at message i ≡ lines_from names look c.args.at message no_reach
-    (found ++ (i ∷ [])) =
-    ap (λ (r : Reach). first ++ item_text names look r c.args.at message i) reach ∙ sym (lines-more names look c.args.at message no_reach i found) in
-    let bytes = c.next.ensures.bytes ∙ c.items.invariant.bytes in
-    let rest = lines_rest names c.args.at message plain c.args.look walk.bytes.now walk.offset (open_ends walk.ends) (found ++ (i ∷ [])) bytes
-    (yields.met found c.items.invariant.reported.1) in
-    let second = g.met.S.TextSink.breaks_second _ _ _ first _ c.items.invariant.reported.3 c.in_err-push_item-in-Item.ensures.err in
-    let here = breaks_same g.S.TextSink.adds g.S.TextSink.breaks _ _ _ _ second more in
-    err_holds _ _ (broken_lines g.S.TextSink.adds g.S.TextSink.breaks g.met.S.TextSink.breaks_first names c.args.at message plain c.args.look
-    (found ++ (i ∷ [])) _ _ rest here)
+    let yields : StepsTo c.items.walk c.next.new.self c.in-Item.item = subst (Steps c.items.walk c.next.new.self) c.in-Item.is c.in_ok-item.ensures.ok in
+    let r = c.items.invariant.reported in
+    let k = one_line_more (names_of c.args.names.now) c.args.look c.in-Item.item r.0 c.reach_after-reach.ensures r.2 in
+    let here = breaks_same g.S.TextSink.adds g.S.TextSink.breaks _ _ _ _
+    (g.met.S.TextSink.breaks_second _ _ _ _ _ r.3 c.in_err-push_item-in-Item.ensures.err) (k.1 _ _) in
+    err_holds _ _ (broken_lines g.S.TextSink.breaks _ _ g.met.S.TextSink.breaks_first (λ k. omega (arith, c.type_inv.message k))
+    (c.next.ensures.bytes ∙ c.items.invariant.bytes) (yields.met r.0 r.1) here)

@@ -1,10 +1,9 @@
-use Rattle.std.proofs.Common.{rules, arith, ◌≡◌, ◌<◌, ◌^◌, ◌++◌, ◌==◌, ◌%◌, ◌/◌, ◌*◌, Bool, true, [], ℕ, List, Option, None, Bor, ap, sym, refl, ◌∙◌}
-use Rattle.std.proofs.Common.{append_assoc, append-nil}
+use Rattle.std.proofs.Common.{rules, arith, ◌≡◌, ◌<◌, ◌^◌, ◌++◌, true, [], ℕ, List, Option, None, Bor, ap, sym, refl, ◌∙◌, append-nil}
 use Rattle.std.specs.Prelude.{option_map}
 use Rattle.kmip_ttlv_util.specs.TagNames.{name_in}
-use Rattle.kmip_ttlv_util.proofs.Saying.{adds_same, breaks_same, err_now}
-use Rattle.ttlv_run.specs.Masks.{behind_mark, set_name, still_first, bit_names, mask_names, value_named}
-use Rattle.ttlv_run.proofs.Bits.{first_place, next_place, none_left, none_named}
+use Rattle.kmip_ttlv_util.proofs.Saying.{adds_same, breaks_rest, err_now}
+use Rattle.ttlv_run.specs.Masks.{behind_mark, bit_names, mask_names, value_named}
+use Rattle.ttlv_run.proofs.Bits.{first_place, next_place, bits_on, none_left, none_named}
 use Rattle.ttlv_run.proofs.masks.push_mask.Goals as goal
 
 pub bits-init : goal.bits-init
@@ -18,20 +17,11 @@ bits-preserved g c =
     let names : ℕ → Option (List ℕ) = value_named (name_in c.args.names.now.own) (option_map (λ (s : Bor (List ℕ)). s.now) c.args.list) c.args.tag in
     let n = next_place names c.bits.bit c.bits.rest c.bits.is_first c.bits.invariant.0 c.bits-test.true in
     let w = c.bits.invariant.1 in
-    let name = option_map (λ s. s.now) c.set_name-name.result in
-    let behind = behind_mark c.bits.is_first name in
-    let set = set_name names c.bits.bit (c.bits.rest % 2 == 1) in
-    let tail = bit_names names n.to.left (c.bits.bit * 2) (c.bits.rest / 2) (still_first c.bits.is_first set) in
-    let same : behind ≡ behind_mark c.bits.is_first set = ap (behind_mark c.bits.is_first) c.set_name-name.ensures in
-    let first_is : c.still_first-is_first.result ≡ still_first c.bits.is_first set = c.still_first-is_first.ensures
-    ∙ ap (still_first c.bits.is_first) c.set_name-name.ensures in
-    let front : mask_names (value_named (name_in c.args.names.now.own) (option_map (λ (s : Bor (List ℕ)). s.now) c.args.list) c.args.tag) c.args.mask
-    ≡ (w.text ++ behind) ++ tail =
-    w.is ∙ ap (λ (s : List ℕ). w.text ++ s) n.names_are ∙ ap (λ (s : List ℕ). w.text ++ (s ++ tail)) (sym same) ∙ sym (append_assoc w.text behind tail) in (
+    let behind = behind_mark c.bits.is_first (option_map (λ s. s.now) c.set_name-name.result) in (
       n.to,
       record {
         text = w.text ++ behind;
-        is = front ∙ ap (λ (b : Bool). (w.text ++ behind) ++ bit_names names n.to.left (c.bits.bit * 2) (c.bits.rest / 2) b) (sym first_is);
+        is = bits_on n w.text w.is c.set_name-name.ensures c.still_first-is_first.ensures;
         holds = g.met.S.TextSink.adds_both _ _ _ w.text behind w.holds c.in_ok-push_bit.ensures.ok;
       },
     )
@@ -42,17 +32,9 @@ returns-in_err-push_bit-clause-err g c =
     let names : ℕ → Option (List ℕ) = value_named (name_in c.args.names.now.own) (option_map (λ (s : Bor (List ℕ)). s.now) c.args.list) c.args.tag in
     let n = next_place names c.bits.bit c.bits.rest c.bits.is_first c.bits.invariant.0 c.bits-test.true in
     let w = c.bits.invariant.1 in
-    let name = option_map (λ s. s.now) c.set_name-name.result in
-    let behind = behind_mark c.bits.is_first name in
-    let set = set_name names c.bits.bit (c.bits.rest % 2 == 1) in
-    let tail = bit_names names n.to.left (c.bits.bit * 2) (c.bits.rest / 2) (still_first c.bits.is_first set) in
-    let same : behind ≡ behind_mark c.bits.is_first set = ap (behind_mark c.bits.is_first) c.set_name-name.ensures in
-    let whole : w.text ++ (behind ++ tail) ≡ mask_names (value_named (name_in c.args.names.now.own) (option_map (λ (s : Bor (List ℕ)). s.now) c.args.list)
-    c.args.tag) c.args.mask =
-    ap (λ (s : List ℕ). w.text ++ (s ++ tail)) same ∙ ap (λ (s : List ℕ). w.text ++ s) (sym n.names_are) ∙ sym w.is in
-    let first = g.met.S.TextSink.breaks_first _ _ behind tail c.in_err-push_bit.ensures.err in
-    err_now g.S.TextSink.adds g.S.TextSink.breaks _ _ _ _ (breaks_same g.S.TextSink.adds g.S.TextSink.breaks _ _ _ _
-    (g.met.S.TextSink.breaks_second _ _ _ w.text (behind ++ tail) w.holds first) whole)
+    let here = g.met.S.TextSink.breaks_second _ _ _ w.text _ w.holds c.in_err-push_bit.ensures.err in
+    err_now g.S.TextSink.adds g.S.TextSink.breaks _ _ _ _ (breaks_rest g.S.TextSink.adds g.S.TextSink.breaks g.met.S.TextSink.breaks_first _ _ _ _ _ here
+    (sym (bits_on n w.text w.is c.set_name-name.ensures refl)))
 
 -- no bit is left
 pub returns-clause-ok : goal.returns-clause-ok

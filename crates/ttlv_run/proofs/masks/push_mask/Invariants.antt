@@ -1,7 +1,6 @@
 use Rattle.std.proofs.Common.{◌≡◌, ◌++◌, ℕ, List, Bor}
 use Rattle.std.specs.Prelude.{option_map}
-use Rattle.kmip_ttlv_util.specs.TagNames.{name_in}
-use Rattle.kmip_ttlv_util.specs.Pieces.{SomeText}
+use Rattle.kmip_ttlv_util.specs.{TagNames.name_in, Pieces.SomeText}
 use Rattle.ttlv_run.specs.Masks.{bit_names, mask_names, value_named}
 use Rattle.ttlv_run.proofs.Bits.{Place}
 use Rattle.ttlv_run.proofs.masks.push_mask.Given as goal

@@ -2,7 +2,6 @@ use Rattle.ttlv_run.proofs.Decided.{decides_more}
 use Rattle.ttlv_run.proofs.misread.report_bytes.Goals as goal
 
 pub returns-then-writable : goal.returns-then-writable
-returns-then-writable g c =
-    λ known front h.
+returns-then-writable g c = λ known front h.
     decides_more c.send.result c.args.writable c.is_ok.result known _ _ front c.args.bytes.now c.if-writable.true c.is_ok.ensures.value c.send.ensures.ok
     c.send.ensures.err h

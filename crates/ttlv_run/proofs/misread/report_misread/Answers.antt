@@ -1,8 +1,7 @@
 use Rattle.std.proofs.Common.{◌≡◌, rules, subst}
 use Rattle.std.specs.Fmt.{decimal}
 use Rattle.kmip_ttlv_types.specs.Streams.{AppendsFront}
-use Rattle.ttlv_run.proofs.Appending.{decided_front}
-use Rattle.ttlv_run.proofs.Decided.{misread_is}
+use Rattle.ttlv_run.proofs.{Appending.decided_front, Decided.misread_is}
 use Rattle.ttlv_run.proofs.misread.report_misread.Goals as goal
 
 pub returns : goal.returns

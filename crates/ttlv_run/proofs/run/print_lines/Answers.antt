@@ -1,28 +1,18 @@
-use Rattle.std.proofs.Common.{rules, ◌≡◌, ◌∙◌, ap}
+use Rattle.std.proofs.Common.{rules, ◌∙◌, ap}
 use Rattle.kmip_ttlv_types.specs.Streams.{AppendsFront}
-use Rattle.kmip_ttlv_util.specs.Pieces.{SomeText, Moves}
-use Rattle.kmip_ttlv_util.specs.TagNames.{name_in}
-use Rattle.kmip_ttlv_util.specs.Waiting.{waiting}
+use Rattle.kmip_ttlv_util.specs.{Pieces.SomeText, TagNames.name_in}
 use Rattle.ttlv_run.specs.Backs.{ReadsFront}
-use Rattle.ttlv_run.proofs.BackLines.{back_front}
-use Rattle.ttlv_run.proofs.Printing.{sent_front}
+use Rattle.ttlv_run.proofs.{BackLines.back_front, Printing.sent_front}
 use Rattle.ttlv_run.proofs.run.print_lines.Goals as goal
 
 -- the output failed at the end, or out of memory
 pub returns-in-Err-finish-clause-err : goal.returns-in-Err-finish-clause-err
 returns-in-Err-finish-clause-err g c =
     let has = g.W.Write.contents in
-    let tags = name_in c.args.names.now.tags in
-    let kind = ReadsFront tags c.args.prefix.now c.args.bytes.now c.args.last in
-    let first = c.new-pieces.result in
-    let last = c.print_back.new.out in
-    let end = c.finish.new.self in
     let p = c.in-Ok.ensures.ok in
-    let is = back_front tags c.args.prefix.now c.args.bytes.now c.args.base c.args.last c.in-Ok.reached p.text p.is in
-    let s : SomeText kind (λ t. (last.writer.ghost_name ≡ first.writer.ghost_name) × Moves (has first.writer.now) (has last.writer.now) (waiting first.buffer) t
-    (waiting last.buffer)) = record { text = p.text; is = is; holds = p.holds } in
-    let name = c.finish.ensures.same_reference ∙ s.holds.0 ∙ c.new-pieces.ensures.same_reference in
-    let written : SomeText kind (AppendsFront (has c.args.output.now) (has end.writer.now)) = sent_front kind first.writer.ghost_name last.writer.ghost_name
-    (has c.args.output.now) (has first.writer.now) (has last.writer.now) (waiting first.buffer) (has end.writer.now) (waiting last.buffer) s
-    (ap has c.new-pieces.ensures.writer) c.new-pieces.ensures.empty c.in-Err-finish.ensures.err in
+    let kinds = back_front (name_in c.args.names.now.tags) c.args.prefix.now c.args.bytes.now c.args.base c.args.last c.in-Ok.reached in
+    let name = c.finish.ensures.same_reference ∙ p.holds.0 ∙ c.new-pieces.ensures.same_reference in
+    let written : SomeText (ReadsFront (name_in c.args.names.now.tags) c.args.prefix.now c.args.bytes.now c.args.last)
+    (AppendsFront (has c.args.output.now) (has c.finish.new.self.writer.now)) =
+    sent_front kinds p (ap has c.new-pieces.ensures.writer) c.new-pieces.ensures.empty c.in-Err-finish.ensures.err in
     search rules

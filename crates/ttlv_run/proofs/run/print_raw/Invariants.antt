@@ -1,13 +1,11 @@
 use Rattle.std.proofs.Common.{ℕ, ◌+◌, ◌-◌, ◌*◌, ◌^◌, List, Option, length}
 use Rattle.std.specs.Io.KnownBytes.{Consumes}
-use Rattle.ttlv_run.specs.Streaming.{buffered}
-use Rattle.ttlv_run.specs.Texts.{names_of}
+use Rattle.ttlv_run.specs.{Streaming.buffered, Texts.names_of}
 use Rattle.ttlv_run.proofs.Windows.{Printing, as_number}
 use Rattle.ttlv_run.proofs.run.print_raw.Given as goal
 
 abbrev pub invariant-pieces : goal.invariant-pieces
-invariant-pieces g l =
-    (known : Option (List ℕ)) → Consumes known (g.R.Read.remaining l.fn.input) (buffered l.fn.window)
+invariant-pieces g l = (known : Option (List ℕ)) → Consumes known (g.R.Read.remaining l.fn.input) (buffered l.fn.window)
     → Printing (names_of l.names) l.job known (g.R.Read.remaining l.input) (g.W.Write.contents l.fn.output) (g.W.Write.contents l.output) l.base
     (buffered l.window) l.ended
 

@@ -1,17 +1,13 @@
 use Rattle.std.proofs.Common.{◌≤◌, length, ap, arith}
 use Rattle.ttlv_run.specs.Fronts.{front_size}
-use Rattle.ttlv_run.specs.Streaming.{buffered}
-use Rattle.ttlv_run.proofs.FrontsDecided.{size_most}
-use Rattle.ttlv_run.proofs.Windows.{comes_more}
+use Rattle.ttlv_run.proofs.{FrontsDecided.size_most, Windows.comes_more}
 use Rattle.ttlv_run.proofs.run.read_front.Goals as goal
 
 pub returns-then-branch-eq0-clause-ok : goal.returns-then-branch-eq0-clause-ok
 returns-then-branch-eq0-clause-ok g c =
-    let left = g.R.Read.remaining in
     let more = c.in_ok-read_more.ensures.ok in
     record {
-      yields = comes_more (left c.args.input.now) (left c.pieces.input) (left c.read_more.new.input) (buffered c.args.window.now) (buffered c.pieces.window)
-          (buffered c.read_more.new.self) c.pieces.invariant more.yields;
+      yields = comes_more c.pieces.invariant more.yields;
       enough = λ e. cc e;
       at_end = λ e. more.ended c.if-branch-eq0.true;
     }
@@ -23,7 +19,4 @@ pieces-smaller g c =
     omega (arith, most, more, c.if-branch-eq0.false, c.pieces-test.true, c.front_size.ensures, ap length c.buffered.ensures.are)
 
 pub pieces-preserved : goal.pieces-preserved
-pieces-preserved g c =
-    let left = g.R.Read.remaining in
-    comes_more (left c.args.input.now) (left c.pieces.input) (left c.read_more.new.input) (buffered c.args.window.now) (buffered c.pieces.window)
-    (buffered c.read_more.new.self) c.pieces.invariant c.in_ok-read_more.ensures.ok.yields
+pieces-preserved g c = comes_more c.pieces.invariant c.in_ok-read_more.ensures.ok.yields

@@ -1,9 +1,7 @@
 use Rattle.std.proofs.Common.{◌≡◌, ◌+◌, ◌-◌, ◌*◌, ◌^◌, true, length}
 use Rattle.std.specs.Io.KnownBytes.{IsAtEnd}
-use Rattle.ttlv_run.specs.Streaming.{buffered}
-use Rattle.ttlv_run.specs.Texts.{names_of}
-use Rattle.ttlv_run.proofs.BackStreams.{BackReading}
-use Rattle.ttlv_run.proofs.Windows.{as_number}
+use Rattle.ttlv_run.specs.{Streaming.buffered, Texts.names_of}
+use Rattle.ttlv_run.proofs.{BackStreams.BackReading, Windows.as_number}
 use Rattle.ttlv_run.proofs.run.respond_back.Given as goal
 
 abbrev pub invariant-pieces : goal.invariant-pieces

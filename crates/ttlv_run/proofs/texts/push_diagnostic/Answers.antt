@@ -1,6 +1,5 @@
 use Rattle.std.proofs.Common.{◌∷◌, [], length}
-use Rattle.kmip_ttlv_util.specs.Diagnostics.{hostile}
-use Rattle.kmip_ttlv_util.specs.Traces.{trace}
+use Rattle.kmip_ttlv_util.specs.{Diagnostics.hostile, Traces.trace}
 use Rattle.kmip_ttlv_util.proofs.Saying.{err_now, ok_then, err_then}
 use Rattle.ttlv_run.proofs.texts.push_diagnostic.Goals as goal
 

@@ -11,12 +11,11 @@ returns-in_err-push_decimal-clause-err g c =
     (g.met.S.TextSink.breaks_first _ _ _ _ c.in_err-push_decimal.ensures.err))
 
 pub returns : goal.returns
-returns g c =
-    record {
-      ok = ok_then g.S.TextSink.adds g.S.TextSink.breaks g.met.S.TextSink.adds_both c.push_str-2.result _ _ _ _ _ c.in_ok-push_str.ensures.ok
-          (ok_then g.S.TextSink.adds g.S.TextSink.breaks g.met.S.TextSink.adds_both c.push_str-2.result _ _ _ _ _ c.in_ok-push_decimal.ensures.ok
-          c.push_str-2.ensures.ok);
-      err = err_then g.S.TextSink.adds g.S.TextSink.breaks g.met.S.TextSink.breaks_second c.push_str-2.result _ _ _ _ _ c.in_ok-push_str.ensures.ok
-          (err_then g.S.TextSink.adds g.S.TextSink.breaks g.met.S.TextSink.breaks_second c.push_str-2.result _ _ _ _ _ c.in_ok-push_decimal.ensures.ok
-          c.push_str-2.ensures.err);
-    }
+returns g c = record {
+  ok = ok_then g.S.TextSink.adds g.S.TextSink.breaks g.met.S.TextSink.adds_both c.push_str-2.result _ _ _ _ _ c.in_ok-push_str.ensures.ok
+      (ok_then g.S.TextSink.adds g.S.TextSink.breaks g.met.S.TextSink.adds_both c.push_str-2.result _ _ _ _ _ c.in_ok-push_decimal.ensures.ok
+      c.push_str-2.ensures.ok);
+  err = err_then g.S.TextSink.adds g.S.TextSink.breaks g.met.S.TextSink.breaks_second c.push_str-2.result _ _ _ _ _ c.in_ok-push_str.ensures.ok
+      (err_then g.S.TextSink.adds g.S.TextSink.breaks g.met.S.TextSink.breaks_second c.push_str-2.result _ _ _ _ _ c.in_ok-push_decimal.ensures.ok
+      c.push_str-2.ensures.err);
+}

@@ -5,32 +5,20 @@ use Rattle.kmip_ttlv_items.proofs.item_walk.ItemWalk.pass_leaves.Goals as goal
 
 pub behind_leaves-self-requires-clause-before : goal.behind_leaves-self-requires-clause-before
 behind_leaves-self-requires-clause-before g c =
-    let es = open_ends c.args.self.now.ends in
-    let at = first_of es c.in-Some.end c.in-Some.ensures in
-    (stands_before c.args.self.now.bytes.now c.args.self.now.offset c.in-Some.end at.0 es at.1 c.args.self.now.stands).0
+    (stands_before (first_of (open_ends c.args.self.now.ends) c.in-Some.ensures).1 c.args.self.now.stands).0
 
 pub behind_leaves-self-requires-clause-within : goal.behind_leaves-self-requires-clause-within
 behind_leaves-self-requires-clause-within g c =
-    let es = open_ends c.args.self.now.ends in
-    let at = first_of es c.in-Some.end c.in-Some.ensures in
-    (stands_before c.args.self.now.bytes.now c.args.self.now.offset c.in-Some.end at.0 es at.1 c.args.self.now.stands).1
+    (stands_before (first_of (open_ends c.args.self.now.ends) c.in-Some.ensures).1 c.args.self.now.stands).1
 
 pub invariant_of-self : goal.invariant_of-self
-invariant_of-self g c =
-    let es = open_ends c.args.self.now.ends in
-    let at = first_of es c.in-Some.end c.in-Some.ensures in
-    record {
-      stands = stands_passed c.args.self.now.bytes.now c.args.self.now.offset c.behind_leaves-self.result c.in-Some.end at.0 es at.1
-          c.behind_leaves-self.ensures c.args.self.now.stands;
-    }
+invariant_of-self g c = record {
+  stands = stands_passed (first_of (open_ends c.args.self.now.ends) c.in-Some.ensures).1 c.behind_leaves-self.ensures c.args.self.now.stands;
+}
 
 pub returns-in-Some : goal.returns-in-Some
-returns-in-Some g c =
-    let es = open_ends c.args.self.now.ends in
-    let at = first_of es c.in-Some.end c.in-Some.ensures in
-    record {
-      bytes = refl;
-      met = λ xs m. met_passed c.args.self.now.bytes.now c.args.self.now.offset c.behind_leaves-self.result c.in-Some.end at.0 es xs at.1
-          c.behind_leaves-self.ensures m;
-      onward = omega (arith, c.behind_leaves-self.ensures.onward);
-    }
+returns-in-Some g c = record {
+  bytes = refl;
+  met = λ xs m. met_passed (first_of (open_ends c.args.self.now.ends) c.in-Some.ensures).1 c.behind_leaves-self.ensures m;
+  onward = omega (arith, c.behind_leaves-self.ensures.onward);
+}

@@ -6,8 +6,6 @@ use Rattle.kmip_ttlv_ser.proofs.emitter.Emitter.put_eight.Goals as goal
 
 pub returns : goal.returns
 returns g c = λ s h.
-    let t = c.in-Some.tag in
     let content = to_be_bytes w64 c.args.number in
-    let are = ap (λ b. s.bytes ++ b) (sym (append-nil (leaf_bytes t c.args.typ content))) in
-    wrote_leaf g.O.Output.given c.args.self.now _ s t c.args.typ content _ h (sym c.tag.ensures ∙ c.in-Some.is) are
-    (c.put_long.ensures s.start s.bytes h.gave) refl refl
+    wrote_leaf c.args.typ content h (sym c.tag.ensures ∙ c.in-Some.is)
+    (ap (λ b. s.bytes ++ b) (sym (append-nil (leaf_bytes c.in-Some.tag c.args.typ content)))) (c.put_long.ensures s.start s.bytes h.gave) refl refl

@@ -1,5 +1,4 @@
-use Rattle.std.proofs.Common.{rules}
-use Rattle.std.proofs.Math.Path.{fun_ext}
+use Rattle.std.proofs.{Common.rules, Math.Path.fun_ext}
 use Rattle.kmip_ttlv_util.proofs.printer.PrettyPrinter.new.Goals as goal
 
 pub returns-clause-names : goal.returns-clause-names

@@ -1,10 +1,6 @@
 use Rattle.std.proofs.Common.{◌≡◌, ℕ, List, length, ap, ◌∙◌, arith}
-use Rattle.kmip_ttlv_util.specs.Diagnostics.{hostile}
-use Rattle.kmip_ttlv_util.specs.Traces.{trace}
-use Rattle.kmip_ttlv_util.specs.Pieces.{IsDiagnostic}
-use Rattle.kmip_ttlv_util.specs.Printers.{prefix_of}
-use Rattle.kmip_ttlv_util.proofs.Message.{exact}
-use Rattle.kmip_ttlv_util.proofs.Saying.{written_as}
+use Rattle.kmip_ttlv_util.specs.{Diagnostics.hostile, Traces.trace, Pieces.IsDiagnostic, Printers.prefix_of}
+use Rattle.kmip_ttlv_util.proofs.{Message.exact, Saying.written_as}
 use Rattle.kmip_ttlv_util.proofs.printer.PrettyPrinter.write_diag.Goals as goal
 
 pub returns : goal.returns

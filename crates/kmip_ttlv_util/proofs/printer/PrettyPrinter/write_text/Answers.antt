@@ -1,8 +1,5 @@
-use Rattle.kmip_ttlv_util.specs.Pieces.{IsReadable}
-use Rattle.kmip_ttlv_util.specs.Pretty.{IsPrinted}
-use Rattle.kmip_ttlv_util.specs.Printers.{names_of}
-use Rattle.kmip_ttlv_util.proofs.PrettyTexts.{message_pretty}
-use Rattle.kmip_ttlv_util.proofs.Saying.{written_as}
+use Rattle.kmip_ttlv_util.specs.{Pieces.IsReadable, Pretty.IsPrinted, Printers.names_of}
+use Rattle.kmip_ttlv_util.proofs.{PrettyTexts.message_pretty, Saying.written_as}
 use Rattle.kmip_ttlv_util.proofs.printer.PrettyPrinter.write_text.Goals as goal
 
 pub returns : goal.returns

@@ -4,9 +4,7 @@ use Rattle.ttlv_run.proofs.decoder.Decoder.push.Goals as goal
 
 pub returns-clause-made : goal.returns-clause-made
 returns-clause-made c = λ mark s bytes r.
-    let d = c.args.self.now in
+    let mid = c.take-made.new.self in
     let b = c.args.b in
-    let w = c.in-Some.first in
-    pushes d c.take-made.new.self mark s bytes b w r c.in-Some.is _ c.take-made.result c.take-made.ensures.offset
-    (record { form = refl; part = refl; phase = refl; begun = refl }) refl refl
-    (λ more. c.take-made.ensures.made (s ++ b ∷ more) bytes (b ∷ more) refl (waits d mark s bytes b r w c.in-Some.is more))
+    pushes mid r c.in-Some.is c.take-made.ensures.offset (record { form = refl; part = refl; phase = refl; begun = refl }) refl refl c.take-made.result
+    (λ more. c.take-made.ensures.made (s ++ b ∷ more) bytes (b ∷ more) refl (waits mid r c.in-Some.is b more))

@@ -1,6 +1,5 @@
 use Rattle.std.proofs.Common.{◌-◌, ◌^◌, length}
-use Rattle.ttlv_run.specs.Backs.{IsOneLine}
-use Rattle.ttlv_run.specs.Streaming.{buffered, Yields}
+use Rattle.ttlv_run.specs.{Backs.IsOneLine, Streaming.buffered, Streaming.Yields}
 use Rattle.ttlv_run.proofs.window.Window.read_lines.Given as goal
 
 abbrev pub invariant-pieces : goal.invariant-pieces
