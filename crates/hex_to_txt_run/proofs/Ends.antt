@@ -2,10 +2,9 @@
 use Rattle.std.proofs.Common.{◌≡◌, ℕ, List, ◌++◌, Option, Some, None, Result, Ok, Err, OnOk, OnErr, length, sym, ap, ◌∙◌, subst, append-nil, take_all, le_refl}
 use Rattle.std.specs.Io.KnownBytes.{Appends, Keeps}
 use Rattle.kmip_ttlv.specs.Streams.{AppendsFront}
-use Rattle.hex_to_txt_run.specs.Inputs.{TakesAll}
+use Rattle.hex_to_txt_run.specs.{Inputs.TakesAll, TaskTexts.TaskPrints, TaskTexts.TaskFails}
 use Rattle.hex_to_txt_run.specs.Reasons.{Reason, unknown_words, unreadable_input, not_hexadecimal, not_utf8, not_a_pair, unwritable_output, no_memory, line_of}
 use Rattle.hex_to_txt_run.specs.Tasks.{Task, pair_task, readable_task, diagnostic_task, read_back_task}
-use Rattle.hex_to_txt_run.specs.TaskTexts.{TaskPrints, TaskFails}
 use Rattle.hex_to_txt_run.specs.Runs.{Streams, Fails, Failed, HasNoText, Printed, Responds}
 
 -- whether the line was written in full or not, a beginning of it was

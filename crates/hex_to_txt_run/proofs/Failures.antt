@@ -1,18 +1,12 @@
 -- What errors of decoding and encoding mean for a pair.
 use Rattle.std.proofs.Common.{◌≡◌, ◌≢◌, ℕ, List, [], ◌++◌, Ok, refl, sym, subst, append-nil}
-use Rattle.kmip_ttlv_base.specs.declared.error.Error.{Error}
-use Rattle.kmip_ttlv_base.specs.declared.error.ErrorKind.{ErrorKind}
+use Rattle.kmip_ttlv_base.specs.declared.error.{Error.Error, ErrorKind.ErrorKind}
 use Rattle.kmip_ttlv_base.specs.declared.error.ErrorKind.TheVariants.{IoError, ResponseSizeExceedsLimit, MalformedTtlv, SerdeError, OutOfMemory, LengthOverflow}
 use Rattle.kmip_ttlv.specs.Errors.{out_of_memory, view_of_kind, kind_of}
-use Rattle.kmip_ttlv.specs.Values.{Value}
-use Rattle.kmip_ttlv.specs.Forms.{Form}
-use Rattle.kmip_ttlv.specs.Reads.{Begins}
+use Rattle.kmip_ttlv.specs.{Values.Value, Forms.Form, Reads.Begins}
 use Rattle.kmip_ttlv.specs.ReadResults.{ErrorStands, NothingBegins, sort_of_kind}
-use Rattle.hex_to_txt_run.specs.Inputs.{decoded}
-use Rattle.hex_to_txt_run.specs.Pair.{pair_form}
+use Rattle.hex_to_txt_run.specs.{Inputs.decoded, Pair.pair_form, Tasks.pair_task, TaskTexts.IsReasonOf, TaskTexts.TaskFails}
 use Rattle.hex_to_txt_run.specs.Reasons.{Reason, unknown_words, unreadable_input, not_hexadecimal, not_utf8, not_a_pair, unwritable_output, no_memory}
-use Rattle.hex_to_txt_run.specs.Tasks.{pair_task}
-use Rattle.hex_to_txt_run.specs.TaskTexts.{IsReasonOf, TaskFails}
 
 pub is_memory : {A : Type 0} (k : ErrorKind A) → view_of_kind k ≡ out_of_memory → k ≡ OutOfMemory
 is_memory OutOfMemory h = refl

@@ -3,8 +3,7 @@ use Rattle.std.proofs.Common.{◌≡◌, ℕ, ℤ, List, [], ◌∷◌, Some, No
 use Rattle.kmip_ttlv.specs.Errors.{Kind, io_error, exceeds_limit, malformed, mismatch, out_of_memory, length_overflow, Location}
 use Rattle.kmip_ttlv.specs.Names.{tag_of, number, transparent_name}
 use Rattle.kmip_ttlv.specs.Trees.{Tree, leaf_bytes, node_bytes, bytes, bytes_all}
-use Rattle.kmip_ttlv.specs.WrittenItems.{take_tag, some_item}
-use Rattle.kmip_ttlv.specs.Sizes.{FitsAfter}
+use Rattle.kmip_ttlv.specs.{WrittenItems.take_tag, WrittenItems.some_item, Sizes.FitsAfter}
 use Rattle.kmip_ttlv.specs.EncodeResults.{IsWrittenAs, FailsAs, origin}
 use Rattle.hex_to_txt_run.specs.Pair.{written_pair, pair_tree}
 

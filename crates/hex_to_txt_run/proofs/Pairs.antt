@@ -1,7 +1,6 @@
 -- The data of a pair.
 use Rattle.std.proofs.Common.{◌≡◌, ℕ, ℤ, List, [], ◌∷◌, refl, ap, sym, ◌∙◌, subst, Vec, Bor, length, slice_index_or, codes}
-use Rattle.kmip_ttlv_base.specs.declared.shape.Data.{Data}
-use Rattle.kmip_ttlv_base.specs.declared.shape.Data.TheVariants.{Struct}
+use Rattle.kmip_ttlv_base.specs.declared.shape.Data.{Data, TheVariants.Struct}
 use Rattle.kmip_ttlv.specs.Values.{Value, view, views, i32_value, struct_value, value, no_values}
 use Rattle.kmip_ttlv.specs.Gives.{Gives, FirstGives, IsI32, IsEmpty}
 use Rattle.kmip_ttlv_base.proofs.Views.{view-Struct}

@@ -2,15 +2,11 @@
 use Rattle.std.proofs.Common.{◌≡◌, ℕ, suc, ◌-◌, Bool, false, List, [], ◌∷◌, ◌++◌, Option, Some, Ok, if◌then◌else◌, length, refl, sym, ap, ◌∙◌, subst, arith}
 use Rattle.std.proofs.Common.{append_assoc, append-nil, length-append, codes}
 use Rattle.std.specs.List.{slice_get}
-use Rattle.std.proofs.lemmas.List.{get_or_push}
-use Rattle.std.proofs.lemmas.Option.{slice_get-get_or}
-use Rattle.kmip_ttlv.specs.declared.types.TtlvType.{TtlvType}
-use Rattle.kmip_ttlv.specs.declared.types.TtlvType.TheVariants.{Structure}
+use Rattle.std.proofs.lemmas.{List.get_or_push, Option.slice_get-get_or}
+use Rattle.kmip_ttlv.specs.{declared.types.TtlvType.TtlvType, declared.types.TtlvType.TheVariants.Structure, Lines.tag_part, Lines.typ_part, Undiag.undiag}
+use Rattle.kmip_ttlv.specs.{TagNames.no_names}
 use Rattle.kmip_ttlv.specs.Trees.{Tree, Trees, leaf, node, no_trees, tree}
 use Rattle.kmip_ttlv.specs.Pretty.{IsPrinted, IsPretty, pretty, pretty_all, pretty_line, data_shown}
-use Rattle.kmip_ttlv.specs.Lines.{tag_part, typ_part}
-use Rattle.kmip_ttlv.specs.Undiag.{undiag}
-use Rattle.kmip_ttlv.specs.TagNames.{no_names}
 use Rattle.hex_to_txt_run.specs.Inputs.{decoded}
 use Rattle.hex_to_txt_run.specs.TaskTexts.{ended, is_line_feed, PrintsReadable}
 

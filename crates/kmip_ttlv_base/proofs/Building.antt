@@ -1,12 +1,10 @@
 -- A visitor that builds data builds the value whose events it gets.
 use Rattle.std.proofs.Common.{◌≡◌, List, [], ◌∷◌, ◌++◌, refl, sym, ap, ◌∙◌, append_assoc, append-nil}
-use Rattle.kmip_ttlv_base.specs.Values.{Value, Values, no_values, value, values_of}
-use Rattle.kmip_ttlv_base.specs.Values.{boolean_value, i8_value, i16_value, i32_value, u32_value, i64_value, u64_value}
-use Rattle.kmip_ttlv_base.specs.Values.{date_time_value, interval_value, text_value, bytes_value, big_integer_value, none_value}
-use Rattle.kmip_ttlv_base.specs.Values.{some_value, seq_value, struct_value, newtype_value, unit_variant_value}
-use Rattle.kmip_ttlv_base.specs.Values.{newtype_variant_value, tuple_variant_value, unsupported_value}
-use Rattle.kmip_ttlv_base.specs.Visits.{a_some, a_seq, a_struct, a_newtype, a_newtype_variant, a_tuple_variant}
-use Rattle.kmip_ttlv_base.specs.Visits.{ended, visited, visited_in}
+use Rattle.kmip_ttlv_base.specs.Values.{Value, Values, no_values, value, values_of, boolean_value, i8_value, i16_value, i32_value, u32_value, i64_value}
+use Rattle.kmip_ttlv_base.specs.Values.{u64_value, date_time_value, interval_value, text_value, bytes_value, big_integer_value, none_value, some_value}
+use Rattle.kmip_ttlv_base.specs.Values.{seq_value, struct_value, newtype_value, unit_variant_value, newtype_variant_value, tuple_variant_value}
+use Rattle.kmip_ttlv_base.specs.Values.{unsupported_value}
+use Rattle.kmip_ttlv_base.specs.Visits.{a_some, a_seq, a_struct, a_newtype, a_newtype_variant, a_tuple_variant, ended, visited, visited_in}
 use Rattle.kmip_ttlv_base.specs.Builds.{Unfinished, within, appended, first_of, build_step}
 
 -- the values as a list
@@ -35,11 +33,9 @@ mutual
   builds (big_integer_value t) s = refl
   builds none_value s = refl
   builds (some_value v) s = ap (build_step (ended a_some)) (builds v (within [] (s.values ∷ s.around)))
-  builds (seq_value vs) s =
-      ap (build_step (ended a_seq)) (builds_in vs [] (s.values ∷ s.around))
+  builds (seq_value vs) s = ap (build_step (ended a_seq)) (builds_in vs [] (s.values ∷ s.around))
       ∙ ap (λ us. appended (seq_value us) s) (values_are vs)
-  builds (struct_value name vs) s =
-      ap (build_step (ended (a_struct name))) (builds_in vs [] (s.values ∷ s.around))
+  builds (struct_value name vs) s = ap (build_step (ended (a_struct name))) (builds_in vs [] (s.values ∷ s.around))
       ∙ ap (λ us. appended (struct_value name us) s) (values_are vs)
   builds (newtype_value name v) s =
       ap (build_step (ended (a_newtype name))) (builds v (within [] (s.values ∷ s.around)))

@@ -1,16 +1,15 @@
 -- The form of a shape, variant by variant: lemmas for the proof of a type's `shape`.
 use Rattle.std.proofs.Common.{◌≡◌, ℕ, Bool as Boole, List, refl, ap, ◌∙◌, Vec, Box, Bor}
-use Rattle.kmip_ttlv_base.specs.declared.shape.FieldShape.{FieldShape}
-use Rattle.kmip_ttlv_base.specs.declared.shape.VariantShape.{VariantShape}
+use Rattle.kmip_ttlv_base.specs.declared.shape.{FieldShape.FieldShape, VariantShape.VariantShape}
 use Rattle.kmip_ttlv_base.specs.declared.shape.Shape.{Shape, Row_of-FieldShape, end_of-FieldShape, more_of-FieldShape, items-the_row-FieldShape}
 use Rattle.kmip_ttlv_base.specs.declared.shape.Shape.{items_hidden-the_row-FieldShape-0, Row_of-VariantShape, end_of-VariantShape, more_of-VariantShape}
 use Rattle.kmip_ttlv_base.specs.declared.shape.Shape.{items-the_row-VariantShape, items_hidden-the_row-VariantShape-1}
 use Rattle.kmip_ttlv_base.specs.declared.shape.Shape.TheBlock.{hidden-the_row-FieldShape-0, hidden-the_row-VariantShape-1, hidden-the_row-Shape-2}
 use Rattle.kmip_ttlv_base.specs.declared.shape.Shape.TheVariants.{Struct, Option, Seq, Newtype, Enum}
 use Rattle.kmip_ttlv_base.specs.declared.shape.VariantContent.{Row_of-Shape, end_of-Shape, more_of-Shape, items-the_row-Shape, items_hidden-the_row-Shape-2}
-use Rattle.kmip_ttlv_base.specs.declared.shape.VariantContent.TheVariants as contents
 use Rattle.kmip_ttlv_base.specs.Forms.{struct, option, seq, newtype, enum, wrapped, field, variant, tuple, form, form_of, content_of, fields_in, fields_of}
 use Rattle.kmip_ttlv_base.specs.Forms.{variants_in, variants_of, forms_in, forms_of}
+use Rattle.kmip_ttlv_base.specs.declared.shape.VariantContent.TheVariants as contents
 
 fields-row : {A : Type 0} {n : _} (row : Row_of-FieldShape A n) → fields_in row ≡ fields_of (items-the_row-FieldShape A n row)
 fields-row end_of-FieldShape = refl

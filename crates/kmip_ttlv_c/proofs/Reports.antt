@@ -1,8 +1,7 @@
 -- Statuses of walks.
 use Rattle.std.proofs.Common.{◌≡◌, inl, inr, ℕ, suc, ◌<◌, ◌≤◌, true, false, List, [], ◌∷◌, length, Option, Some, None, ap, refl}
 use Rattle.std.specs.Option.{is_some}
-use Rattle.kmip_ttlv_items.specs.declared.found.Fault.{Fault}
-use Rattle.kmip_ttlv_items.specs.FoundItems.{overlaid}
+use Rattle.kmip_ttlv_items.specs.{declared.found.Fault.Fault, FoundItems.overlaid}
 use Rattle.kmip_ttlv_c.specs.declared.status.TheConstants.{OK, NO_ROOM, MALFORMED}
 use Rattle.kmip_ttlv_c.specs.LentItems.{ReportsWalk, ReportsCheck}
 

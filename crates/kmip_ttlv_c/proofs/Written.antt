@@ -1,10 +1,8 @@
 -- Items that are written into the caller's buffer.
 use Rattle.std.proofs.Common.{◌≡◌, ◌⊎◌, inl, inr, ℕ, ◌<◌, ◌≤◌, List, ◌++◌, length, map, drop, None, refl, ap, ◌∙◌, arith}
 use Rattle.kmip_ttlv_write.specs.FlatWrites.{FillsFront}
-use Rattle.kmip_ttlv_c.specs.declared.items.KmipTtlvItem.{KmipTtlvItem}
-use Rattle.kmip_ttlv_c.specs.declared.writing.KmipTtlvBadItem.{KmipTtlvBadItem}
-use Rattle.kmip_ttlv_c.specs.declared.status.TheConstants.{OK, NO_ROOM}
-use Rattle.kmip_ttlv_c.specs.Buffers.{Offers}
+use Rattle.kmip_ttlv_c.specs.{declared.items.KmipTtlvItem.KmipTtlvItem, declared.writing.KmipTtlvBadItem.KmipTtlvBadItem, declared.status.TheConstants.OK}
+use Rattle.kmip_ttlv_c.specs.{declared.status.TheConstants.NO_ROOM, Buffers.Offers}
 use Rattle.kmip_ttlv_c.specs.LentWrites.{c_given, c_bad, AnswersWrite, writes}
 
 module _ (items : List KmipTtlvItem) (lent : List ℕ) (len : ℕ) (old new : List ℕ) (h : FillsFront (map c_given items) lent len old new) (bad : KmipTtlvBadItem)
@@ -18,8 +16,7 @@ module _ (items : List KmipTtlvItem) (lent : List ℕ) (len : ℕ) (old new : Li
         status_is = refl;
         length_is = h.length_is;
         fits = omega (arith, h.length_is, le);
-        buffer = k.1
-            ∙ ap (λ (n : ℕ). h.text ++ drop n old) h.length_is;
+        buffer = k.1 ∙ ap (λ (n : ℕ). h.text ++ drop n old) h.length_is;
       }
       by (inr k) = absurd (omega (arith, k.0, le))
 

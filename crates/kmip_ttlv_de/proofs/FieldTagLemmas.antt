@@ -1,8 +1,6 @@
 -- The tags of a struct's fields as a set, field by field.
 use Rattle.std.proofs.Common.{◌≡◌, ℕ, List, true, false, cond, ◌||◌, ◌==◌, Some, None, BTreeSet, refl, sym, ap, ◌∙◌}
-use Rattle.std.specs.Ordering.{nat_cmp}
-use Rattle.std.specs.BTreeMap.{is_at}
-use Rattle.std.specs.BTreeSet.{contains}
+use Rattle.std.specs.{Ordering.nat_cmp, BTreeMap.is_at, BTreeSet.contains}
 use Rattle.kmip_ttlv_types.specs.Names.{tag_of}
 use Rattle.kmip_ttlv_base.specs.Forms.{Form, Fields, field}
 use Rattle.kmip_ttlv_reader.specs.Reads.{has_tag, names_tag}

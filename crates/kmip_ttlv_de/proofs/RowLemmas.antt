@@ -3,17 +3,14 @@ use Rattle.std.proofs.Common.{ℕ, List}
 use Rattle.std.specs.Str.{trim_end, chars, trim_start, is_utf8}
 use lib.Utf8.{encode}
 use Rattle.kmip_ttlv_types.specs.Names.{number, tag_of}
-use Rattle.kmip_ttlv_base.specs.declared.error.MalformedTtlvError.TheVariants as faults
-use Rattle.kmip_ttlv_base.specs.Errors.{Kind, malformed}
-use Rattle.kmip_ttlv_base.specs.Values.{Value}
-use Rattle.kmip_ttlv_base.specs.Forms.{Form}
+use Rattle.kmip_ttlv_base.specs.{Errors.Kind, Errors.malformed, Values.Value, Forms.Form}
 use Rattle.kmip_ttlv_reader.specs.Steps.{Outcome, fails}
-use Rattle.kmip_ttlv_reader.specs.Outcomes.{type_there, tag_wanted, length_there, structure_wanted, inside, end_there, content_there}
-use Rattle.kmip_ttlv_reader.specs.Outcomes.{type_wanted, leaf_outcome, opened, item_end, ignored, rest_outcome, all_outcome}
-use Rattle.kmip_ttlv_reader.specs.Outcomes.{field_outcome, goes_on, run_outcome, seq_outcome, number_outcome, enum_outcome, outcome}
-use Rattle.kmip_ttlv_reader.specs.Outcomes.{fields_outcome, struct_outcome, variant_outcome, content_outcome, tuple_outcome}
-use Rattle.kmip_ttlv_reader.specs.Outcomes.{forms_outcome, part_outcome, first_outcome, root_outcome}
+use Rattle.kmip_ttlv_reader.specs.Outcomes.{type_there, tag_wanted, length_there, structure_wanted, inside, end_there, content_there, type_wanted, leaf_outcome}
+use Rattle.kmip_ttlv_reader.specs.Outcomes.{opened, item_end, ignored, rest_outcome, all_outcome, field_outcome, goes_on, run_outcome, seq_outcome}
+use Rattle.kmip_ttlv_reader.specs.Outcomes.{number_outcome, enum_outcome, outcome, fields_outcome, struct_outcome, variant_outcome, content_outcome}
+use Rattle.kmip_ttlv_reader.specs.Outcomes.{tuple_outcome, forms_outcome, part_outcome, first_outcome, root_outcome}
 use Rattle.kmip_ttlv_reader.specs.Rules.{at_least, equal, in_brackets, member, rule, sides}
+use Rattle.kmip_ttlv_base.specs.declared.error.MalformedTtlvError.TheVariants as faults
 
 -- what a message is read as: a proof that unfolds it computes each step, each rule and each text
 unfoldable pub reading : Form → List ℕ → Outcome Value

@@ -4,27 +4,18 @@ use Rattle.std.proofs.Common.{Some, None, Result, Ok, Err, refl, sym, ap, arith,
 use Rattle.std.specs.Prelude.{max, nat_lt, slice_index}
 use Rattle.std.specs.Int.{w64, to_be_bytes, from_be_bytes, bytes_high_first}
 use Rattle.std.proofs.lemmas.Bool.{cases_lt, lt-ltb, le-ltb, ltb-true, ltb-false, eqb-true}
-use Rattle.std.proofs.lemmas.List.{append_cancel_right}
-use Rattle.std.proofs.lemmas.Nat.{be_bytes_8}
+use Rattle.std.proofs.lemmas.{List.append_cancel_right, Nat.be_bytes_8}
 use Rattle.hex.specs.Hex.{encode_upper, decode_of}
 use Rattle.hex.proofs.HexLemmas.{decode_of-encode_upper}
-use Rattle.json.specs.Token.{Token}
-use Rattle.json.specs.Lex.{tokens}
-use Rattle.json.specs.Json as json
-use Rattle.json.specs.Tree as tree
-use Rattle.json.specs.Tree.{json_tokens}
+use Rattle.json.specs.{Token.Token, Lex.tokens, Tree.json_tokens}
 use Rattle.json.proofs.Printed.Trees.{value-json_tokens}
 use Rattle.serde_json.specs.Data.{Data, null, boolean, string, array, object, Items, no_items, item, member}
-use Rattle.serde_json.specs.Read.{of_json}
-use Rattle.serde_json.specs.Written.{compact_text, outline}
-use Rattle.kmip_ttlv_types.specs.declared.typ.TtlvType.{TtlvType}
+use Rattle.serde_json.specs.{Read.of_json, Written.compact_text, Written.outline}
+use Rattle.kmip_ttlv_types.specs.{declared.typ.TtlvType.TtlvType, Leaves.is_valid}
 use Rattle.kmip_ttlv_types.specs.declared.typ.TtlvType.TheVariants.{Structure, Integer, LongInteger, BigInteger, Enumeration, Boolean, TextString, ByteString}
 use Rattle.kmip_ttlv_types.specs.declared.typ.TtlvType.TheVariants.{DateTime, Interval}
-use Rattle.kmip_ttlv_types.specs.Leaves.{is_valid}
 use Rattle.kmip_ttlv_types.specs.Trees.{Tree, Trees, leaf, node, no_trees, IsTreeText, AreTreeTexts}
-use Rattle.kmip_ttlv_types.specs.Trees as trees
-use Rattle.kmip_ttlv_items.specs.declared.found.FoundItem.{FoundItem}
-use Rattle.kmip_ttlv_items.specs.FoundItems.{Lists}
+use Rattle.kmip_ttlv_items.specs.{declared.found.FoundItem.FoundItem, FoundItems.Lists}
 use Rattle.kmip_ttlv_items.proofs.Spans.{leaf_not}
 use Rattle.kmip_ttlv_write.specs.GivenItems.{lines, lines_below}
 use Rattle.kmip_ttlv_json.specs.Jsons.{type_word, hex_text, is_true, value_json, item_json, tree_json, trees_json, json_line}
@@ -32,6 +23,9 @@ use Rattle.kmip_ttlv_json.specs.Laws.{no_secrets}
 use Rattle.kmip_ttlv_json.proofs.Found.{tree_plain}
 use Rattle.kmip_ttlv_json.proofs.ReadBack.{Back, tree_back, tokens_are}
 use Rattle.kmip_ttlv_json.proofs.TreeTexts.{ArePlain, AllPlain, plain_both, tag_plain}
+use Rattle.json.specs.Json as json
+use Rattle.json.specs.Tree as tree
+use Rattle.kmip_ttlv_types.specs.Trees as trees
 
 -- ---- one text is that of one value
 
@@ -92,9 +86,7 @@ tag_one a b p q e =
 
 -- the type of a name
 abbrev typ_in : List ℕ → TtlvType
-typ_in s =
-    if slice_index s 0 == 76 then LongInteger
-    else if slice_index s 0 == 69 then Enumeration
+typ_in s = if slice_index s 0 == 76 then LongInteger else if slice_index s 0 == 69 then Enumeration
     else if slice_index s 0 == 84 then TextString
     else if slice_index s 0 == 68 then DateTime
     else if slice_index s 0 == 66 then (if slice_index s 1 == 105 then BigInteger else if slice_index s 1 == 111 then Boolean else ByteString)

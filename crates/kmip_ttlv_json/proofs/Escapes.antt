@@ -4,8 +4,7 @@ use Rattle.std.proofs.Common.{refl, sym, ap, ap₂, arith, append-nil, map-id, I
 use Rattle.std.specs.Prelude.{slice_index, flat_map, encode_utf8}
 use Rattle.std.specs.Str.{chars}
 use Rattle.std.proofs.lemmas.Bool.{cases_lt, lt-ltb, le-ltb}
-use Rattle.std.proofs.lemmas.Grind.{take_at_read, flat_map-append}
-use Rattle.std.proofs.lemmas.List.{take-append-drop}
+use Rattle.std.proofs.lemmas.{Grind.take_at_read, Grind.flat_map-append, List.take-append-drop}
 use Rattle.std.proofs.lemmas.Str.{encode_ascii, encodes-chars, inside_one}
 use lib.Utf8.{encode, encodes}
 use Rattle.hex.specs.Hex.{upper_digits, encode_with, encode_upper}

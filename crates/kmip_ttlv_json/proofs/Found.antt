@@ -4,21 +4,16 @@ use Rattle.std.proofs.Common.{Some, None, refl, sym, ap, subst, arith, append_as
 use Rattle.std.specs.Prelude.{codes, Result, Ok, Err, OnErr}
 use Rattle.std.proofs.lemmas.Bool.{cases_lt}
 use Rattle.std.proofs.lemmas.List.{get_or-take, get_or-drop, get_or_past, length-take}
-use Rattle.kmip_ttlv_types.specs.declared.typ.TtlvType.{TtlvType}
+use Rattle.kmip_ttlv_types.specs.{declared.typ.TtlvType.TtlvType, ItemTypes.code, Places.length_at}
 use Rattle.kmip_ttlv_types.specs.declared.typ.TtlvType.TheVariants.{Structure, Integer, LongInteger, BigInteger, Enumeration, Boolean, TextString, ByteString}
 use Rattle.kmip_ttlv_types.specs.declared.typ.TtlvType.TheVariants.{DateTime, Interval}
-use Rattle.kmip_ttlv_types.specs.ItemTypes.{code}
-use Rattle.kmip_ttlv_types.specs.Places.{length_at}
-use Rattle.kmip_ttlv_items.specs.declared.found.FoundItem.{FoundItem}
-use Rattle.kmip_ttlv_items.specs.declared.found.Fault.{Fault}
-use Rattle.kmip_ttlv_items.specs.FoundItems.{Lists}
+use Rattle.kmip_ttlv_items.specs.{declared.found.FoundItem.FoundItem, declared.found.Fault.Fault, FoundItems.Lists}
 use Rattle.kmip_ttlv_items.specs.ItemWalks.{content_at, Ended, Meets, at_first, Ends}
 use Rattle.kmip_ttlv_items.proofs.Completes.{ends}
 use Rattle.kmip_ttlv_util.specs.Pieces.{SomeText}
 use Rattle.kmip_ttlv_write.specs.GivenItems.{Line, lines, line_of, given_of}
 use Rattle.kmip_ttlv_write.proofs.Uniques.{message_has_lines}
-use Rattle.kmip_ttlv_json.specs.declared.print.Spot.{Spot}
-use Rattle.kmip_ttlv_json.specs.Jsons.{json_line}
+use Rattle.kmip_ttlv_json.specs.{declared.print.Spot.Spot, Jsons.json_line}
 use Rattle.kmip_ttlv_json.specs.Parts.{closes, is_inside, spot_after, gap, opening, value_text, value_part, item_part, kind, parts, spot_behind, first_spot}
 use Rattle.kmip_ttlv_json.specs.Printings.{IsJson, IsThere, json_text}
 use Rattle.kmip_ttlv_json.proofs.TreeTexts.{ArePlain, AllPlain, kind_code, message_flat}
@@ -68,11 +63,10 @@ found_both w (x ∷ xs) ys = ap (λ (s : List Line). line_of w (given_of x) ∷ 
 
 -- the bytes of part of a message
 part_plain : (w : List ℕ) → ArePlain w → (n k : ℕ) → ArePlain (take n (drop k w))
-part_plain w plain n k j =
-    elim (cases_lt j n) [
-      | inl inside ↦ omega (arith, get_or-take n (drop k w) j 0 inside, get_or-drop k w j 0, plain (k + j))
-      | inr past ↦ omega (arith, get_or_past (take n (drop k w)) j 0 (omega (arith, length-take n (drop k w), past)))
-    ]
+part_plain w plain n k j = elim (cases_lt j n) [
+  | inl inside ↦ omega (arith, get_or-take n (drop k w) j 0 inside, get_or-drop k w j 0, plain (k + j))
+  | inr past ↦ omega (arith, get_or_past (take n (drop k w)) j 0 (omega (arith, length-take n (drop k w), past)))
+]
 
 lines_plain : (w : List ℕ) → ArePlain w → (xs : List FoundItem) → AllPlain (found_lines w xs)
 lines_plain w plain [] = tt

@@ -1,8 +1,6 @@
 -- Two ways to write bytes in hexadecimal are one.
 use Rattle.std.proofs.Common.{◌≡◌, ℕ, zero, suc, ◌/◌, ◌%◌, ◌<◌, true, List, [], ◌∷◌, get_or, refl, ap, sym, ◌∙◌, arith}
-use Rattle.std.specs.Prelude.{slice_index}
-use Rattle.std.specs.Fmt.{digit_glyph}
-use Rattle.std.specs.List.{flat_map}
+use Rattle.std.specs.{Prelude.slice_index, Fmt.digit_glyph, List.flat_map}
 use Rattle.hex.specs.Hex.{upper_digits, encode_with, encode_upper}
 use Rattle.kmip_ttlv_util.specs.Pretty.{two_digits, hex_bytes}
 

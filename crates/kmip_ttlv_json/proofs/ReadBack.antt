@@ -1,26 +1,22 @@
 -- A message's JSON is read back from its text.
 use Rattle.std.proofs.Common.{◌≡◌, ◌∙◌, ℕ, suc, ◌≤◌, Bool, true, false, ◌||◌, List, [], Option, Some, option_map, option_and_then, refl, ap, ap₂, sym, arith}
 use Rattle.std.proofs.Common.{append-nil}
-use Rattle.std.specs.Prelude.{max, codes}
-use Rattle.std.specs.Int.{bytes_high_first}
-use Rattle.json.specs.Token.{Token}
-use Rattle.json.specs.Lex.{tokens}
-use Rattle.json.specs.Json as json
-use Rattle.json.specs.Tree as tree
+use Rattle.std.specs.{Prelude.max, Prelude.codes, Int.bytes_high_first}
+use Rattle.json.specs.{Token.Token, Lex.tokens}
 use Rattle.json.specs.Tree.{json_tokens, HasNumbers, ItemsHaveNumbers}
-use Rattle.json.proofs.Printed.Tokens.{tokens-print}
-use Rattle.json.proofs.Printed.Trees.{value-json_tokens, ArePrintable-json_tokens}
+use Rattle.json.proofs.Printed.{Tokens.tokens-print, Trees.value-json_tokens, Trees.ArePrintable-json_tokens}
 use Rattle.serde_json.specs.Data.{Data, string, array, object, Items, item, no_members, member, put, depth, items_depth}
 use Rattle.serde_json.specs.Read.{read, max_depth, of_json, of_items}
 use Rattle.serde_json.specs.Written.{compact_text, outline, items_outline}
-use Rattle.serde_json.proofs.OnLiterals.{serde_json_on_literals}
-use Rattle.serde_json.proofs.Texts.{print-outline}
+use Rattle.serde_json.proofs.{OnLiterals.serde_json_on_literals, Texts.print-outline}
 use Rattle.kmip_ttlv_types.specs.declared.typ.TtlvType.{TtlvType}
 use Rattle.kmip_ttlv_types.specs.declared.typ.TtlvType.TheVariants.{Structure, Integer, LongInteger, BigInteger, Enumeration, Boolean, TextString, ByteString}
 use Rattle.kmip_ttlv_types.specs.declared.typ.TtlvType.TheVariants.{DateTime, Interval}
 use Rattle.kmip_ttlv_types.specs.Trees.{Tree, Trees, leaf, node, no_trees}
-use Rattle.kmip_ttlv_types.specs.Trees as trees
 use Rattle.kmip_ttlv_json.specs.Jsons.{type_word, hex_text, value_json, item_json, tree_json, trees_json}
+use Rattle.json.specs.Json as json
+use Rattle.json.specs.Tree as tree
+use Rattle.kmip_ttlv_types.specs.Trees as trees
 
 -- what its text needs to be read back as it
 pub record Back (d : Data) : Type 0 where

@@ -3,21 +3,13 @@ use Rattle.std.proofs.Common.{◌≡◌, ◌∙◌, ℕ, zero, suc, ◌+◌, ◌
 use Rattle.std.proofs.Common.{Err, refl, ap, sym, arith, append_assoc, length-append}
 use Rattle.std.proofs.lemmas.List.{take_at, drop_at}
 use Rattle.std.specs.Int.{w32, to_be_bytes}
-use Rattle.serde_json.specs.Data.{depth, items_depth}
-use Rattle.serde_json.specs.View.{view, items_view}
-use Rattle.serde_json.specs.declared.value.Value.{Value}
-use Rattle.kmip_ttlv_types.specs.declared.typ.TtlvType.TheVariants.{Structure}
-use Rattle.kmip_ttlv_types.specs.ItemTypes.{pad_len}
-use Rattle.kmip_ttlv_types.specs.Items.{header}
+use Rattle.serde_json.specs.{Data.depth, Data.items_depth, View.view, View.items_view, declared.value.Value.Value}
+use Rattle.kmip_ttlv_types.specs.{declared.typ.TtlvType.TheVariants.Structure, ItemTypes.pad_len, Items.header}
 use Rattle.kmip_ttlv_types.specs.Trees.{Tree, Trees, leaf, node, no_trees, tree, bytes, bytes_below, leaf_bytes, node_bytes, IsStructure, Fits, FitsBelow}
 use Rattle.kmip_ttlv_write.specs.OpenStructures.{add_last}
-use Rattle.kmip_ttlv_write.proofs.Opens.{below_last}
-use Rattle.kmip_ttlv_write.proofs.Patches.{lead}
-use Rattle.kmip_ttlv_json.specs.declared.failure.BadMember.{BadMember}
-use Rattle.kmip_ttlv_json.specs.declared.failure.JsonError.{JsonError}
+use Rattle.kmip_ttlv_write.proofs.{Opens.below_last, Patches.lead}
+use Rattle.kmip_ttlv_json.specs.{declared.failure.BadMember.BadMember, declared.failure.JsonError.JsonError, JsonTrees.both, Readings.Fails, Readings.is_node}
 use Rattle.kmip_ttlv_json.specs.declared.failure.JsonError.TheVariants.{NotJson, NotItem, NotStructure, TooLong, OutOfMemory}
-use Rattle.kmip_ttlv_json.specs.JsonTrees.{both}
-use Rattle.kmip_ttlv_json.specs.Readings.{Fails, is_node}
 
 -- ---- trees, one after the other
 

@@ -1,40 +1,29 @@
 -- A message is read back from its line.
 use Rattle.std.proofs.Common.{◌≡◌, ◌∙◌, ℕ, suc, ◌+◌, ◌<◌, ◌≤◌, ◌^◌, ◌==◌, true, false, List, ◌∷◌, length, if◌then◌else◌, Some, None, option_map}
 use Rattle.std.proofs.Common.{option_and_then, Ok, refl, ap, sym, arith, length-append}
-use Rattle.std.specs.Prelude.{nat_lt}
-use Rattle.std.specs.Option.{ok_or}
-use Rattle.std.specs.Result.{result_ok}
+use Rattle.std.specs.{Prelude.nat_lt, Option.ok_or, Result.result_ok}
 use Rattle.std.specs.Int.{w32, w64, to_be_bytes, from_be_bytes, bytes_high_first}
-use Rattle.std.proofs.lemmas.Bool.{ltb-true, eqb-true}
-use Rattle.std.proofs.lemmas.Nat.{be_bytes_8}
+use Rattle.std.proofs.lemmas.{Bool.ltb-true, Bool.eqb-true, Nat.be_bytes_8}
 use Rattle.hex.specs.Hex.{encode_with, encode_upper, upper_digits, decode_of, decode_sized}
 use Rattle.hex.proofs.HexLemmas.{IsDigits-upper_digits, decode_of-encode_upper, decode_pairs-encode_with}
 use Rattle.serde_json.specs.Data.{Data, string, array, depth}
-use Rattle.serde_json.specs.Read.{max_depth}
-use Rattle.serde_json.specs.Written.{compact_text}
-use Rattle.kmip_ttlv_types.specs.declared.typ.TtlvType.{TtlvType}
+use Rattle.serde_json.specs.{Read.max_depth, Written.compact_text}
+use Rattle.kmip_ttlv_types.specs.{declared.typ.TtlvType.TtlvType, Leaves.is_valid}
 use Rattle.kmip_ttlv_types.specs.declared.typ.TtlvType.TheVariants.{Structure, Integer, LongInteger, BigInteger, Enumeration, Boolean, TextString, ByteString}
 use Rattle.kmip_ttlv_types.specs.declared.typ.TtlvType.TheVariants.{DateTime, Interval}
-use Rattle.kmip_ttlv_types.specs.Leaves.{is_valid}
 use Rattle.kmip_ttlv_types.proofs.PlaceLemmas.{raw_with, text_length}
 use Rattle.kmip_ttlv_types.specs.Trees.{Tree, Trees, leaf, node, no_trees, bytes, bytes_below, IsTreeText, AreTreeTexts, IsStructure, Fits}
-use Rattle.kmip_ttlv_types.specs.Trees as trees
-use Rattle.kmip_ttlv_items.specs.declared.found.FoundItem.{FoundItem}
-use Rattle.kmip_ttlv_items.specs.FoundItems.{Lists}
+use Rattle.kmip_ttlv_items.specs.{declared.found.FoundItem.FoundItem, FoundItems.Lists}
 use Rattle.kmip_ttlv_items.proofs.Spans.{leaf_not}
 use Rattle.kmip_ttlv_write.specs.GivenItems.{lines, lines_below}
 use Rattle.kmip_ttlv_write.proofs.Opens.{leaf_len, node_len, padding_is}
 use Rattle.kmip_ttlv_json.specs.Jsons.{type_word, hex_text, is_true, value_json, item_json, tree_json, trees_json}
 use Rattle.kmip_ttlv_json.specs.JsonTrees.{boolean_bytes, tag_in, type_in, content_in, valid_in, leaf_in, node_of, typed_in, tagged_in, both, tree_of, below_of}
 use Rattle.kmip_ttlv_json.specs.JsonTrees.{trees_of}
-use Rattle.kmip_ttlv_json.specs.declared.failure.BadMember.TheVariants.{Value}
-use Rattle.kmip_ttlv_json.specs.Laws.{no_secrets}
-use Rattle.kmip_ttlv_json.specs.Readings.{Stands, is_node}
-use Rattle.kmip_ttlv_json.proofs.Found.{tree_plain}
-use Rattle.kmip_ttlv_json.proofs.ReadBack.{tree_back, text_back}
-use Rattle.kmip_ttlv_json.proofs.ReadingBack.{structure_fits}
-use Rattle.kmip_ttlv_json.proofs.Determining.{both_true}
+use Rattle.kmip_ttlv_json.specs.{declared.failure.BadMember.TheVariants.Value, Laws.no_secrets, Readings.Stands, Readings.is_node}
+use Rattle.kmip_ttlv_json.proofs.{Found.tree_plain, ReadBack.tree_back, ReadBack.text_back, ReadingBack.structure_fits, Determining.both_true}
 use Rattle.kmip_ttlv_json.proofs.TreeTexts.{ArePlain, AllPlain, plain_both, tag_plain}
+use Rattle.kmip_ttlv_types.specs.Trees as trees
 
 -- ---- the members of an item
 
@@ -61,8 +50,7 @@ type_returns DateTime = refl
 type_returns Interval = refl
 
 item_returns : (tag : ℕ) (typ : TtlvType) (v : Data) → tag < 2 ^ 24 → tree_of (item_json tag typ v) ≡ typed_in tag (Some typ) v (below_of v)
-item_returns tag typ v lt =
-    ap (λ o. tagged_in o (string (type_word typ)) v (below_of v)) (tag_returns tag lt)
+item_returns tag typ v lt = ap (λ o. tagged_in o (string (type_word typ)) v (below_of v)) (tag_returns tag lt)
     ∙ ap (λ o. typed_in tag o v (below_of v)) (type_returns typ)
 
 digits_return : (content : List ℕ) → ArePlain content → result_ok (decode_of (encode_upper content)) ≡ Some content

@@ -1,25 +1,20 @@
 -- What JSON is read as is a whole message.
 use Rattle.std.proofs.Common.{◌≡◌, ℕ, ◌/◌, ◌%◌, ◌<◌, ◌^◌, ◌==◌, Bool, true, false, List, [], ◌∷◌, length, if◌then◌else◌, Option, Some, None, option_map}
 use Rattle.std.proofs.Common.{option_and_then, Result, Ok, Err, refl, ap, sym, subst, arith}
-use Rattle.std.specs.Option.{ok_or}
-use Rattle.std.specs.Result.{result_ok}
-use Rattle.std.specs.Int.{w32, from_be_bytes}
+use Rattle.std.specs.{Option.ok_or, Result.result_ok, Int.w32, Int.from_be_bytes}
 use Rattle.std.proofs.lemmas.Bool.{eqb-true}
-use Rattle.hex.specs.declared.error.FromHexError.{FromHexError}
-use Rattle.hex.specs.declared.error.FromHexError.TheVariants.{OddLength, InvalidStringLength}
+use Rattle.hex.specs.declared.error.FromHexError.{FromHexError, TheVariants.OddLength, TheVariants.InvalidStringLength}
 use Rattle.hex.specs.Hex.{decode_pairs, decode_sized, IsBytes}
 use Rattle.hex.proofs.HexLemmas.{decode_pairs-ok}
 use Rattle.serde_json.specs.Data.{Data, null, boolean, number, string, array, object, Items, no_items, item, no_members, member}
 use Rattle.serde_json.specs.Find.{as_str}
-use Rattle.kmip_ttlv_types.specs.declared.typ.TtlvType.{TtlvType}
+use Rattle.kmip_ttlv_types.specs.{declared.typ.TtlvType.TtlvType, Leaves.is_valid}
 use Rattle.kmip_ttlv_types.specs.declared.typ.TtlvType.TheVariants.{Structure, Integer, LongInteger, BigInteger, Enumeration, Boolean, TextString, ByteString}
 use Rattle.kmip_ttlv_types.specs.declared.typ.TtlvType.TheVariants.{DateTime, Interval}
-use Rattle.kmip_ttlv_types.specs.Leaves.{is_valid}
 use Rattle.kmip_ttlv_types.specs.Trees.{Tree, Trees, leaf, node, no_trees, tree, bytes, IsTreeText, Fits, FitsBelow}
 use Rattle.kmip_ttlv_items.proofs.Spans.{leaf_not}
 use Rattle.kmip_ttlv_write.proofs.Opens.{AllTexts, leaf_text, node_text}
-use Rattle.kmip_ttlv_json.specs.declared.failure.BadMember.{BadMember}
-use Rattle.kmip_ttlv_json.specs.declared.failure.BadMember.TheVariants.{Members as BadMembers, Value}
+use Rattle.kmip_ttlv_json.specs.declared.failure.BadMember.{BadMember, TheVariants.Members as BadMembers, TheVariants.Value}
 use Rattle.kmip_ttlv_json.specs.JsonTrees.{behind_0x, tag_in, type_in, content_in, valid_in, leaf_in, node_of, typed_in, tagged_in, both, are_named, tree_of}
 use Rattle.kmip_ttlv_json.specs.JsonTrees.{below_of, trees_of}
 

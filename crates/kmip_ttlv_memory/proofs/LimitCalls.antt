@@ -14,8 +14,7 @@ use types.Kit.{now as at_once, done}
 use denote.Memory.{hidden_shr}
 use denote.Builtin.{bool, unit}
 use denote.Steps.{nothing, only}
-use denote.Triple.Statement.{Contract}
-use denote.Triple.Spec.{triple_of}
+use denote.Triple.{Statement.Contract, Spec.triple_of}
 use Rattle.kmip_ttlv_memory.specs.contracts.Limits as LI
 use Rattle.kmip_ttlv_memory.specs.contracts.is_beyond as BE
 use Rattle.kmip_ttlv_memory.specs.contracts.give_back as GB
@@ -39,8 +38,7 @@ module _ {M : Type 1} {𝓤 : Ura M} (𝓛 : Logic 𝓤) (at_mem : Memory → SP
 
   pub Beyond-goes : s < 2 ^ 64 → ent 𝓤 (sep 𝓤 (sem 𝓛 (hidden_shr LI.the_row κ m c.0 c.1)) (A.lft κ q))
       ((Beyond 𝓛 at_mem run).pre (at_beyond 𝓛 at_mem run κ q c m s))
-  Beyond-goes fs =
-      qed 𝓛 (‵ (hidden_shr LI.the_row κ m c.0 c.1) ∷ ‵ (flft κ q) ∷ []) ∵
+  Beyond-goes fs = qed 𝓛 (‵ (hidden_shr LI.the_row κ m c.0 c.1) ∷ ‵ (flft κ q) ∷ []) ∵
       nothing ! $ flt_i ! s (2 ^ 64) fs $ feq_i ! (List Val) (vint w64 s ∷ []) (vint w64 s ∷ []) refl $ fjoin ! $ fjoin ! $
       move ! (1 ∷ []) $ feq_i ! (List Val) (vptr c.0 c.1 ∷ []) (vptr c.0 c.1 ∷ []) refl $ fjoin ! $ fjoin ! $
       nothing ! $ move ! (2 ∷ []) $ join ! $ join ! $ nothing ! $ move ! (1 ∷ []) $ done !
@@ -55,15 +53,13 @@ module _ {M : Type 1} {𝓤 : Ura M} (𝓛 : Logic 𝓤) (at_mem : Memory → SP
       show ! (λ (b : Bool). guard 𝓤 (v ≡ vbool b) (A.lft κ q)) r $ check ! (ap only e) $ keep ! (0 ∷ []) $ done !))
 
   pub Back-goes : s < 2 ^ 64 → ent 𝓤 (sep 𝓤 (sem 𝓛 (hidden_shr LI.the_row κ m c.0 c.1)) (A.lft κ q)) ((Back 𝓛 at_mem run).pre (at_back 𝓛 at_mem run κ q c m s))
-  Back-goes fs =
-      qed 𝓛 (‵ (hidden_shr LI.the_row κ m c.0 c.1) ∷ ‵ (flft κ q) ∷ []) ∵
+  Back-goes fs = qed 𝓛 (‵ (hidden_shr LI.the_row κ m c.0 c.1) ∷ ‵ (flft κ q) ∷ []) ∵
       nothing ! $ flt_i ! s (2 ^ 64) fs $ feq_i ! (List Val) (vint w64 s ∷ []) (vint w64 s ∷ []) refl $ fjoin ! $ fjoin ! $
       move ! (1 ∷ []) $ feq_i ! (List Val) (vptr c.0 c.1 ∷ []) (vptr c.0 c.1 ∷ []) refl $ fjoin ! $ fjoin ! $
       nothing ! $ move ! (2 ∷ []) $ join ! $ join ! $ nothing ! $ move ! (1 ∷ []) $ done !
 
   pub Back-gives : (v : Val) → ent 𝓤 ((Back 𝓛 at_mem run).post (at_back 𝓛 at_mem run κ q c m s) v) (H.⇛ (guard 𝓤 (v ≡ vunit) (A.lft κ q)))
-  Back-gives v =
-      qed 𝓛 (types.Kit.raw ((Back 𝓛 at_mem run).post (at_back 𝓛 at_mem run κ q c m s) v) ∷ []) ∵ updating ! $
+  Back-gives v = qed 𝓛 (types.Kit.raw ((Back 𝓛 at_mem run).post (at_back 𝓛 at_mem run κ q c m s) v) ∷ []) ∵ updating ! $
       use1 𝓛 (later (some (λ (r : Unit {0}). ((‵ (flft κ q) ⊛ ‵ ftrue) ⊛ ‵ (unit.own_val r (v ∷ []))) ⊛ some
       (λ (ws : Unit {0} × (Unit {0} × Unit {0})). ‵ (fsep ftrue (fsep ftrue ftrue)) ⊛ ‵ ftrue)))) (id⊢ 𝓤 _) $ await ! tt $ pick ! (λ r.
       split ! $ split ! $ move ! (1 ∷ []) $ feq_l ! (λ e. split ! $ at_once ! $

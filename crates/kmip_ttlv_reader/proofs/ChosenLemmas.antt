@@ -1,16 +1,10 @@
 -- Variants that rules choose, one after the other.
 use Rattle.std.proofs.Common.{◌≡◌, ℕ, suc, ◌+◌, arith, List, [], ◌∷◌, ◌++◌, codes, Some, None, Result, Ok, Err, Option, refl, ap, ◌∙◌}
-use Rattle.kmip_ttlv_types.specs.declared.typ.TtlvType.{TtlvType}
-use Rattle.kmip_ttlv_types.specs.declared.typ.TtlvType.TheVariants.{Enumeration}
-use Rattle.kmip_ttlv_types.specs.Places.{tag_at}
+use Rattle.kmip_ttlv_types.specs.{declared.typ.TtlvType.TtlvType, declared.typ.TtlvType.TheVariants.Enumeration, Places.tag_at}
 use Rattle.kmip_ttlv_base.specs.Values.{Value, newtype_variant_value, unit_variant_value}
 use Rattle.kmip_ttlv_base.specs.Forms.{Form, Variants, variant, Content, wrapped, enum}
-use Rattle.kmip_ttlv_reader.specs.declared.failure.Failure.{Failure}
-use Rattle.kmip_ttlv_reader.specs.declared.scope.Scope.{Scope}
-use Rattle.kmip_ttlv_reader.specs.TagValues.{TagValue}
+use Rattle.kmip_ttlv_reader.specs.{declared.failure.Failure.Failure, declared.scope.Scope.Scope, TagValues.TagValue, ReadFaults.in_struct, Results.IsFailure}
 use Rattle.kmip_ttlv_reader.specs.Reads.{first_named, number_text, is_number_type}
-use Rattle.kmip_ttlv_reader.specs.ReadFaults.{in_struct}
-use Rattle.kmip_ttlv_reader.specs.Results.{IsFailure}
 use Rattle.kmip_ttlv_reader.specs.Rules.{Choice, chosen, number_decides, choice_invalid, choice, first_by, past, rule}
 use Rattle.kmip_ttlv_reader.specs.Steps.{Outcome, gives, ends_early, fails, Read, Reader, reads, mapped, ◌>>=◌, ◌>>◌}
 use Rattle.kmip_ttlv_reader.specs.Outcomes.{outcome, enum_outcome, picked, by_index, variant_outcome, content_outcome, number_outcome, type_there, type_wanted}

@@ -1,13 +1,9 @@
 -- What `strip_prefix`, `strip_suffix` and `split_once` at a text give.
 use Rattle.std.proofs.Common.{◌≡◌, ℕ, zero, suc, ◌-◌, ◌<◌, ◌≤◌, List, [], ◌∷◌, ◌++◌, true, false, Option, Some, None, option_map, MatchOption, Bor, length}
 use Rattle.std.proofs.Common.{take, drop, eqb, refl, sym, ap, ◌∙◌, subst, arith}
-use Rattle.std.proofs.lemmas.List.{drop_at}
-use Rattle.std.specs.Str.{IsCharBoundary, trim}
+use Rattle.std.proofs.lemmas.{List.drop_at, Bool.Decides.Decides-eqb, Slice.Eq.starts_is, Str.Pattern.starts_text, Str.Pattern.ends_text}
+use Rattle.std.specs.{Str.IsCharBoundary, Str.trim, List.starts_with, List.ends_with}
 use Rattle.std.specs.Str.Pattern.{LacksTextAt, FindsText, FindsTextPrefix, FindsTextSuffix, StripsPrefix, StripsSuffix, SplitsAroundMatch}
-use Rattle.std.specs.List.{starts_with, ends_with}
-use Rattle.std.proofs.lemmas.Bool.Decides.{Decides-eqb}
-use Rattle.std.proofs.lemmas.Slice.Eq.{starts_is}
-use Rattle.std.proofs.lemmas.Str.Pattern.{starts_text, ends_text}
 use Rattle.kmip_ttlv_types.specs.Names.{after_prefix}
 use Rattle.kmip_ttlv_reader.specs.Rules.{before_suffix, cut, sides}
 
@@ -49,8 +45,7 @@ cut_at : (p s rest : List ℕ) (i : ℕ) → ((k : ℕ) → k < i → LacksTextA
 cut_at p [] rest zero lacks le is = rw (present p [] rest is) refl
 cut_at p (c ∷ cs) rest zero lacks le is = rw (present p (c ∷ cs) rest is) refl
 cut_at p [] rest (suc i) lacks le is = absurd (omega arith)
-cut_at p (c ∷ cs) rest (suc i) lacks le is =
-    rw (absent p (c ∷ cs) (lacks 0 (omega arith)))
+cut_at p (c ∷ cs) rest (suc i) lacks le is = rw (absent p (c ∷ cs) (lacks 0 (omega arith)))
     (rw (cut_at p cs rest i (λ k lt. lacks (suc k) (omega arith)) (omega arith) is) refl)
 
 -- `split_once`

@@ -3,29 +3,24 @@ use Rattle.std.proofs.Common.{◌≡◌, ◌==◌, ◌&&◌, not, ℕ, zero, suc
 use Rattle.std.proofs.Common.{Some, None, refl, ap, sym, ◌∙◌, subst, arith}
 use Rattle.std.proofs.lemmas.Bool.{ltb-false, ltb-true, eqb-true, eqb-false}
 use Rattle.std.proofs.lemmas.List.{length-take-le, length-drop, take-append-drop}
-use Rattle.kmip_ttlv_types.specs.declared.typ.TtlvType.{TtlvType}
-use Rattle.kmip_ttlv_types.specs.declared.typ.TtlvType.TheVariants.{Enumeration, Structure}
-use Rattle.kmip_ttlv_types.specs.ItemTypes.{code}
-use Rattle.kmip_ttlv_types.specs.Items.{Raw, Splits}
-use Rattle.kmip_ttlv_types.specs.Names.{tag_of}
+use Rattle.kmip_ttlv_types.specs.{declared.typ.TtlvType.TtlvType, declared.typ.TtlvType.TheVariants.Enumeration, declared.typ.TtlvType.TheVariants.Structure}
+use Rattle.kmip_ttlv_types.specs.{ItemTypes.code, Items.Raw, Items.Splits, Names.tag_of}
 use Rattle.kmip_ttlv_types.specs.Places.{ItemAt, ItemsAt, code_at, length_at, size, tag_at}
 use Rattle.kmip_ttlv_types.proofs.PlaceLemmas.{code_one, items_in_order, plain_bytes, raw_with, splits_items_at, text_at_item}
 use Rattle.kmip_ttlv_base.specs.Forms.{Content, Fields, Form, Forms, Variants, enum, field, form, newtype, no_fields, no_forms, no_variants, option, seq}
 use Rattle.kmip_ttlv_base.specs.Forms.{struct, tuple, unit, variant, wrapped}
 use Rattle.kmip_ttlv_base.specs.Values.{Value, Values, newtype_value, seq_value, some_value, struct_value, tuple_variant_value, value}
-use Rattle.kmip_ttlv_reader.specs.TagValues.{TagValue}
-use Rattle.kmip_ttlv_reader.specs.ReadLaws.{AreBytes}
+use Rattle.kmip_ttlv_reader.specs.{TagValues.TagValue, ReadLaws.AreBytes, Wholes.AreWhole, Wholes.BeginsWhole}
 use Rattle.kmip_ttlv_reader.specs.Outcomes.{all_outcome, by_index, content_outcome, enum_outcome, field_outcome, fields_outcome, first_outcome, first_type}
 use Rattle.kmip_ttlv_reader.specs.Outcomes.{forms_outcome, goes_on, ignored, leaf_outcome, named_first, number_outcome, outcome, part_outcome, picked}
 use Rattle.kmip_ttlv_reader.specs.Outcomes.{rest_outcome, root_outcome, run_outcome, seq_outcome, struct_outcome, tuple_outcome, unit_wanted, variant_outcome}
-use Rattle.kmip_ttlv_reader.specs.Reads.{Begins, Reads, ReadsContent, ReadsField, ReadsFields, ReadsForms, ReadsRun, ReadsVariant}
-use Rattle.kmip_ttlv_reader.specs.Reads.{absent, by_number, by_rule, done, ends, first_named, has_fields, has_tag, here, inner, is_like, is_number_type}
-use Rattle.kmip_ttlv_reader.specs.Reads.{is_option, is_root, is_struct, leaf, may_follow, more, named, names, names_tag, next, no_part, number_text, part}
-use Rattle.kmip_ttlv_reader.specs.Reads.{parts, run, structure, takes, there, whole, wrap, wrap_some}
+use Rattle.kmip_ttlv_reader.specs.Reads.{Begins, Reads, ReadsContent, ReadsField, ReadsFields, ReadsForms, ReadsRun, ReadsVariant, absent, by_number, by_rule}
+use Rattle.kmip_ttlv_reader.specs.Reads.{done, ends, first_named, has_fields, has_tag, here, inner, is_like, is_number_type, is_option, is_root, is_struct}
+use Rattle.kmip_ttlv_reader.specs.Reads.{leaf, may_follow, more, named, names, names_tag, next, no_part, number_text, part, parts, run, structure, takes, there}
+use Rattle.kmip_ttlv_reader.specs.Reads.{whole, wrap, wrap_some}
 use Rattle.kmip_ttlv_reader.specs.Rules.{Choice, Verdict, number_decides, choice, choice_invalid, chosen, fails as rule_fails, first_by, holds, no_rule, past}
 use Rattle.kmip_ttlv_reader.specs.Rules.{refused, rule}
 use Rattle.kmip_ttlv_reader.specs.Steps.{Outcome, Read, Reader, ends_early, gives}
-use Rattle.kmip_ttlv_reader.specs.Wholes.{AreWhole, BeginsWhole}
 use Rattle.kmip_ttlv_reader.proofs.Onward.{ContentAt, Onward, StructureAt, content_at, content_is, early_has, failed, given, given_has, inside_is, item_end_is}
 use Rattle.kmip_ttlv_reader.proofs.Onward.{length_is, must_is, must_not_is, on_early, on_if, on_map, on_then, on_within, opened_is, sized_is, structure_is}
 use Rattle.kmip_ttlv_reader.proofs.Onward.{tag_is, type_is, wanted_is}
@@ -57,22 +52,20 @@ found_map le h f = record {
   not_back = omega (arith, h.not_back);
   not_past = h.not_past;
   there = h.there;
-  items = λ bytes ys at. let x = h.items bytes ys at in
-      (x.0, x.1, f x.0 ys x.1 x.2);
+  items = λ bytes ys at. let x = h.items bytes ys at in (x.0, x.1, f x.0 ys x.1 x.2);
   whole_left = h.whole_left;
 }
 
 -- one thing behind another
 found_then : {n : ℕ} {P Q R : List Raw → List Raw → Type 0} {b : List ℕ} {p e q m : ℕ} → Found n P b p e q → Found 0 Q b q e m
     → ((xs ys zs : List Raw) → ItemsAt b p e xs → P xs ys → Q ys zs → R xs zs) → Found n R b p e m
-found_then g h f =
-    record {
-      not_back = omega (arith, g.not_back, h.not_back);
-      not_past = h.not_past;
-      there = h.there;
-      items = λ bytes zs at. let y = h.items bytes zs at in let x = g.items bytes y.0 y.1 in (x.0, x.1, f x.0 y.0 zs x.1 x.2 y.2);
-      whole_left = λ w. h.whole_left (g.whole_left w);
-    }
+found_then g h f = record {
+  not_back = omega (arith, g.not_back, h.not_back);
+  not_past = h.not_past;
+  there = h.there;
+  items = λ bytes zs at. let y = h.items bytes zs at in let x = g.items bytes y.0 y.1 in (x.0, x.1, f x.0 y.0 zs x.1 x.2 y.2);
+  whole_left = λ w. h.whole_left (g.whole_left w);
+}
 
 -- where what is behind isn't whole, nor is the whole
 behind_cut : {n : ℕ} {P : List Raw → List Raw → Type 0} {b : List ℕ} {p e q : ℕ} (m : ℕ) → Found n P b p e q → NotWhole 0 b q e → NotWhole m b p e
@@ -86,8 +79,7 @@ found_none b p e le in_bytes f = record {
   not_past = le;
   there = in_bytes;
   items = λ bytes ys at. (ys, at, f ys at);
-  whole_left =
-      λ w. w;
+  whole_left = λ w. w;
 }
 
 item_made : (b : List ℕ) (p : ℕ) (t : TtlvType) (c : List ℕ) (q : ℕ) → AreBytes b → code t ≡ code_at b p → ContentAt b p t c q
@@ -99,18 +91,17 @@ item_made b p t c q bytes typ at =
 -- one item
 found_item : {P : List Raw → List Raw → Type 0} (b : List ℕ) (p e : ℕ) (t : TtlvType) (c : List ℕ) (q : ℕ) → code t ≡ code_at b p → ContentAt b p t c q → q ≤ e
     → (AreBytes b → (ys : List Raw) → P (raw_with (tag_at b p) t c ∷ ys) ys) → Found 1 P b p e q
-found_item b p e t c q typ at le f =
-    record {
-      not_back = omega (arith, at.behind);
-      not_past = le;
-      there = omega (arith, at.behind, at.there);
-      items = λ bytes ys behind. (
-        raw_with (tag_at b p) t c ∷ ys,
-        (item_made b p t c q bytes typ at, subst (λ (m : ℕ). ItemsAt b m e ys) at.behind behind),
-        f bytes ys,
-      );
-      whole_left = λ w. subst (λ (m : ℕ). AreWhole b m e) (sym at.behind) (item_after b p e t typ (omega (arith, at.behind)) w).1;
-    }
+found_item b p e t c q typ at le f = record {
+  not_back = omega (arith, at.behind);
+  not_past = le;
+  there = omega (arith, at.behind, at.there);
+  items = λ bytes ys behind. (
+    raw_with (tag_at b p) t c ∷ ys,
+    (item_made b p t c q bytes typ at, subst (λ (m : ℕ). ItemsAt b m e ys) at.behind behind),
+    f bytes ys,
+  );
+  whole_left = λ w. subst (λ (m : ℕ). AreWhole b m e) (sym at.behind) (item_after b p e t typ (omega (arith, at.behind)) w).1;
+}
 
 -- no items are left at the end
 items_none : (b : List ℕ) (q e : ℕ) (ys : List Raw) → q ≤ length b → e ≤ q → ItemsAt b q e ys → ys ≡ []
@@ -122,8 +113,7 @@ items_none b q e (y ∷ ys) le same items =
 
 leaf_found : (s : Form) (b : List ℕ) → Finds 1 (leaf_outcome s) (Reads s) b
 unfolding leaf_outcome
-leaf_found s b o k p e le in_bytes =
-    on_then (type_is b p (head_cut b p e)) (λ t typ.
+leaf_found s b o k p e le in_bytes = on_then (type_is b p (head_cut b p e)) (λ t typ.
     on_then (wanted_is (takes s t) (first_type s) b p t) (λ _ taken.
     on_then (content_is b p t (item_cut b p e t typ)) (λ c at.
     on_then (inside_is b p e t c.1) (λ _ in_e. given (found_item b p e t c.0 c.1 typ at.0 in_e (λ bytes ys. leaf taken at.1))))))
@@ -158,8 +148,7 @@ all_five a b c d e ha hb hc hd he = rw (ha, hb, hc, hd, he) refl
 
 ignored_found : (fs : Fields) (deny : Bool) (b : List ℕ) (o p e : ℕ) → Onward (NotWhole 1 b p e) (Found 1 (Follows fs deny) b p e) (ignored fs deny b o p e)
 unfolding ignored
-ignored_found fs deny b o p e =
-    on_then (type_is b p (head_cut b p e)) (λ t typ.
+ignored_found fs deny b o p e = on_then (type_is b p (head_cut b p e)) (λ t typ.
     on_then (must_is (has_fields fs) _) (λ _ some.
     on_then (must_not_is (names_tag fs (tag_at b p)) _) (λ _ other.
     on_then (must_not_is deny _) (λ _ ignores.
@@ -173,8 +162,7 @@ rest_found : (n : ℕ) (fs : Fields) (deny : Bool) (b : List ℕ) (o p e : ℕ) 
     → Onward (NotWhole 0 b p e) (λ q. (e ≤ q) × Found 0 (Follows fs deny) b p e q) (rest_outcome n fs deny b o p e)
 unfolding rest_outcome
 rest_found zero fs deny b o p e fuel le in_bytes = absurd (omega arith)
-rest_found (suc n) fs deny b o p e fuel le in_bytes =
-    on_if (nat_lt p e) _ _
+rest_found (suc n) fs deny b o p e fuel le in_bytes = on_if (nat_lt p e) _ _
     (λ lt. on_then (on_early (λ never w _. never w (omega (arith, ltb-true p e lt))) (ignored_found fs deny b o p e)) (λ q one.
     on_map (behind_cut 0 one) (λ r rest. (rest.0, found_map (omega arith) (found_then one rest.1 (λ xs ys zs _ f g h. f (g h))) (λ xs ys _ x. x)))
     (rest_found n fs deny b o q e (omega (arith, one.not_back)) one.not_past one.there)))
@@ -188,16 +176,14 @@ all_found : (fs : Fields) (deny : Bool) (read : Reader Values) (b : List ℕ) �
     → p ≤ length b → Onward (NotWhole 0 b p e) (λ r. (e ≤ r.next) × Found 0 (λ xs ys. ReadsAll fs deny k xs r.value r.stored ys) b p e r.next)
     (all_outcome fs deny read b o k p e)
 unfolding all_outcome
-all_found fs deny read b one o k p e le in_bytes =
-    on_then (one o k p e le in_bytes) (λ x head.
+all_found fs deny read b one o k p e le in_bytes = on_then (one o k p e le in_bytes) (λ x head.
     on_then (on_early (behind_cut 0 head) (rest_found (suc (length b)) fs deny b o x.next e (omega arith) head.not_past head.there)) (λ q rest.
     given (rest.0, found_then head rest.1 (λ xs ys zs _ f g. (ys, f, g)))))
 
 struct_found : (name : List ℕ) (fs : Fields) (deny : Bool) (read : Reader Values) (b : List ℕ) → Finds 0 read (ReadsFields fs) b
     → Finds 1 (struct_outcome name fs deny read) (λ k xs vs k' ys. Reads (struct name fs deny) k xs (struct_value name vs) k' ys) b
 unfolding struct_outcome
-struct_found name fs deny read b one o k p e le in_bytes =
-    on_then (opened_is name b p (head_cut b p e)) (λ stop at.
+struct_found name fs deny read b one o k p e le in_bytes = on_then (opened_is name b p (head_cut b p e)) (λ stop at.
     on_then (on_within (tag_at b p)
     (on_early (structure_cut b p e stop at.1) (all_found fs deny read b one (tag_at b p) k (p + 8) stop (omega (arith, at.1.stops)) at.1.content_there)))
     (λ a all.
@@ -214,9 +200,7 @@ names_at name b p e (x ∷ xs) lt items = ap (has_tag name) items.0.tag
 field_found : (name : List ℕ) (s : Form) (read : Reader Value) (b : List ℕ) → Finds 1 read (Reads s) b
     → Finds 0 (field_outcome name s read) (ReadsField name s) b
 unfolding field_outcome
-field_found name s read b one o k p e le in_bytes =
-    on_if (p == e) _ _
-    (λ at_end. on_if (is_option s) _ _
+field_found name s read b one o k p e le in_bytes = on_if (p == e) _ _ (λ at_end. on_if (is_option s) _ _
     (λ op. given (found_none b p e le in_bytes
     (λ ys items. absent op (ap (names name) (items_none b p e ys in_bytes (omega (arith, eqb-true p e at_end)) items))))) (λ _. failed))
     (λ differ. let lt : 1 + p ≤ e = omega (arith, eqb-false p e differ) in
@@ -242,8 +226,7 @@ like_first b first p e lt h (x ∷ xs) tag typ items = rw (items.0.tag, items.0.
 goes_is : (b : List ℕ) (first p e : ℕ) → p ≤ e → p ≤ length b → Onward (NotWhole 0 b p e) (λ t. (t ≡ true → 1 + p ≤ e) × LikeFirst b first p e t)
     (goes_on b first p e)
 unfolding goes_on
-goes_is b first p e le in_bytes =
-    on_if (p == e) _ _
+goes_is b first p e le in_bytes = on_if (p == e) _ _
     (λ at_end. given ((λ is. absurd cc), λ h xs tag typ items. ap (is_like h) (items_none b p e xs in_bytes (omega (arith, eqb-true p e at_end)) items)))
     (λ differ. let lt : 1 + p ≤ e = omega (arith, eqb-false p e differ) in
     on_then (type_is b p (λ short w _. head_cut b p e short w lt)) (λ t _. given ((λ _. lt), like_first b first p e lt)))
@@ -256,8 +239,7 @@ run_found : (s : Form) (read : Reader Value) (b : List ℕ) → Finds 1 read (Re
     → p ≤ length b → IsFound 0 (RunOf s b first k) b p e (run_outcome n read first b o k p e)
 unfolding run_outcome
 run_found s read b one zero first o k p e fuel le in_bytes = absurd (omega arith)
-run_found s read b one (suc n) first o k p e fuel le in_bytes =
-    on_then (goes_is b first p e le in_bytes) (λ go is.
+run_found s read b one (suc n) first o k p e fuel le in_bytes = on_then (goes_is b first p e le in_bytes) (λ go is.
     on_if go _ _
     (λ yes. on_then (on_early (λ never w _. never w (is.0 yes)) (one o k p e le in_bytes)) (λ x head.
     on_then (on_early (behind_cut 0 head) (run_found s read b one n first o x.stored x.next e (omega (arith, head.not_back)) head.not_past head.there))
@@ -274,8 +256,7 @@ seq_reads s b p e k k' k'' (h ∷ xs) ys zs v vs lt items x f = run x (f h items
 seq_found : (s : Form) (read : Reader Value) (b : List ℕ) → Finds 1 read (Reads s) b
     → Finds 1 (seq_outcome read) (λ k xs vs k' ys. Reads (seq s) k xs (seq_value vs) k' ys) b
 unfolding seq_outcome
-seq_found s read b one o k p e le in_bytes =
-    on_then (one o k p e le in_bytes) (λ x head.
+seq_found s read b one o k p e le in_bytes = on_then (one o k p e le in_bytes) (λ x head.
     on_then (on_early (behind_cut 1 head) (run_found s read b one (suc (length b)) p o x.stored x.next e (omega arith) head.not_past head.there)) (λ rs tail.
     given (found_then head tail (λ xs ys zs items f g. seq_reads s b p e k x.stored rs.stored xs ys zs x.value rs.value
     (omega (arith, head.not_back, head.not_past)) items f g))))
@@ -300,8 +281,7 @@ unit_is b o p t _ = failed
 number_found : (name : List ℕ) (vs : Variants) (t : TtlvType) (b : List ℕ) (o : ℕ) (k : List TagValue) (p e : ℕ) → choice vs k t ≡ number_decides
     → code t ≡ code_at b p → IsFound 1 (Reads (enum name vs) k) b p e (number_outcome name vs t b o k p e)
 unfolding number_outcome
-number_found name vs t b o k p e by_it typ =
-    on_then (wanted_is (is_number_type t) Enumeration b p t) (λ _ taken.
+number_found name vs t b o k p e by_it typ = on_then (wanted_is (is_number_type t) Enumeration b p t) (λ _ taken.
     on_then (length_is b p (head_cut b p e)) (λ _ _.
     on_then (sized_is b p 4 t (Some 4)) (λ _ _.
     on_then (content_is b p t (item_cut b p e t typ)) (λ c at.
@@ -340,8 +320,7 @@ index_found name vs at b one (Some i) t o k p e is typ le in_bytes =
 enum_found : (name : List ℕ) (vs : Variants) (at : ℕ → TtlvType → Reader Value) (b : List ℕ) → FindsVariants name vs at b
     → Finds 1 (enum_outcome name vs at) (Reads (enum name vs)) b
 unfolding enum_outcome
-enum_found name vs at b one o k p e le in_bytes =
-    on_then (type_is b p (head_cut b p e)) (λ t typ.
+enum_found name vs at b one o k p e le in_bytes = on_then (type_is b p (head_cut b p e)) (λ t typ.
     on_then (picked_is (choice vs k t) b p t) (λ i is. index_found name vs at b one i t o k p e is typ le in_bytes))
 
 -- ---- tuples
@@ -356,8 +335,7 @@ tuple_found : (name vname : List ℕ) (ss : Forms) (t : TtlvType) (read : Reader
     → (o : ℕ) (k : List TagValue) (p e : ℕ) → code t ≡ code_at b p
     → IsFound 1 (λ xs vs k' ys. ReadsContent name vname (tuple ss) k xs (tuple_variant_value name vname vs) k' ys) b p e (tuple_outcome t read b o k p e)
 unfolding tuple_outcome
-tuple_found name vname ss t read b one o k p e typ =
-    on_then (structure_is b p t) (λ _ is.
+tuple_found name vname ss t read b one o k p e typ = on_then (structure_is b p t) (λ _ is.
     on_then (length_is b p (head_cut b p e)) (λ n len.
     let at : StructureAt b p (p + 8 + n) = record { typ = ap code (sym is) ∙ typ; content_there = len.1; stops = ap (λ (m : ℕ). p + 8 + m) len.0 } in
     on_then (on_early (structure_cut b p e (p + 8 + n) at) (one o k (p + 8) (p + 8 + n) (omega arith) len.1)) (λ rs h.
@@ -446,8 +424,7 @@ named_any name (Some n) = given tt
 first_found : (name : List ℕ) (fs : Fields) (deny : Bool) (b : List ℕ)
     → Onward (BeginsWhole b → ⊥) (λ vs. AreBytes b → Begins (struct name fs deny) b (struct_value name vs)) (first_outcome name fs deny (fields_outcome fs) b)
 unfolding first_outcome
-first_found name fs deny b =
-    on_then (named_any name (tag_of name)) (λ _ _.
+first_found name fs deny b = on_then (named_any name (tag_of name)) (λ _ _.
     on_then (opened_is name b 0 (λ short. message_cut b (λ e. head_cut b 0 e short))) (λ stop at.
     on_then (on_within (tag_at b 0) (on_early (λ never. message_cut b (λ e. structure_cut b 0 e stop at.1 never))
     (all_found fs deny (fields_outcome fs) b (fields_found fs b) (tag_at b 0) [] 8 stop (omega (arith, at.1.stops)) at.1.content_there))) (λ a all.
@@ -462,8 +439,7 @@ begins_around s t b v w same f h = record {
   item_text = h.item_text;
   after = h.after;
   stored = h.stored;
-  is_text =
-      h.is_text;
+  is_text = h.is_text;
   is_structure = h.is_structure;
   parts = h.parts;
   reads = f [] h.stored (h.item ∷ []) [] h.reads;

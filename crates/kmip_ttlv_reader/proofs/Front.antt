@@ -1,8 +1,7 @@
 -- Fields, forms and variants of a list of them, by index.
 use Rattle.std.proofs.Common.{◌≡◌, ℕ, ◌+◌, ◌<◌, ◌≤◌, List, [], ◌∷◌, true, refl, arith, length, drop, get_or, ap, sym, ◌∙◌}
 use Rattle.std.proofs.lemmas.List.{drop_more}
-use Rattle.kmip_ttlv_base.specs.declared.shape.FieldShape.{FieldShape}
-use Rattle.kmip_ttlv_base.specs.declared.shape.Shape.{Shape}
+use Rattle.kmip_ttlv_base.specs.declared.shape.{FieldShape.FieldShape, Shape.Shape}
 use Rattle.kmip_ttlv_base.specs.Forms.{fields_of, field, form_of, forms_of, form}
 use Rattle.kmip_ttlv_reader.specs.Reads.{has_fields}
 

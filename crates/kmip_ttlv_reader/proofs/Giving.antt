@@ -3,31 +3,24 @@ use Rattle.std.proofs.Common.{◌≡◌, ◌==◌, ◌&&◌, ℕ, zero, suc, ◌
 use Rattle.std.proofs.Common.{not, ◌||◌, if◌then◌else◌, drop, Some, None, subst, cond, inl, inr}
 use Rattle.std.specs.Str.{bytes_eq}
 use Rattle.std.proofs.lemmas.Bool.{le-ltb, eq-eqb, eqb-true, ne_eqb, lt-ltb, and_parts, not-true}
-use Rattle.std.proofs.lemmas.List.{take-append-drop}
-use Rattle.std.proofs.lemmas.Slice.Eq.{bytes_eq-Decides}
-use Rattle.kmip_ttlv_types.specs.declared.typ.TtlvType.{TtlvType}
-use Rattle.kmip_ttlv_types.specs.declared.typ.TtlvType.TheVariants.{Structure}
-use Rattle.kmip_ttlv_types.specs.Items.{Raw, Splits}
+use Rattle.std.proofs.lemmas.{List.take-append-drop, Slice.Eq.bytes_eq-Decides}
+use Rattle.kmip_ttlv_types.specs.{declared.typ.TtlvType.TtlvType, declared.typ.TtlvType.TheVariants.Structure, Items.Raw, Items.Splits, ItemTypes.fixed_length}
+use Rattle.kmip_ttlv_types.specs.{ItemTypes.is_structure, Leaves.is_valid, Names.tag_of}
 use Rattle.kmip_ttlv_types.specs.Places.{ItemAt, ItemsAt, tag_at, length_at, size}
-use Rattle.kmip_ttlv_types.specs.ItemTypes.{fixed_length, is_structure}
-use Rattle.kmip_ttlv_types.specs.Leaves.{is_valid}
-use Rattle.kmip_ttlv_types.specs.Names.{tag_of}
 use Rattle.kmip_ttlv_types.proofs.PlaceLemmas.{type_of-code, items_at_splits, item_at_text, items_in_order}
 use Rattle.kmip_ttlv_base.specs.Forms.{Form, Fields, Variants, Content, Forms, option, int32, no_variants, variant, unit}
 use Rattle.kmip_ttlv_base.specs.Gives.{ContentGives, EachGives, FieldsGive, FormsGive, Gives, VariantsGive}
 use Rattle.kmip_ttlv_base.specs.Values.{Value, Values, none_value, unit_variant_value, some_value, newtype_value, newtype_variant_value}
 use Rattle.kmip_ttlv_reader.specs.TagValues.{TagValue}
 use Rattle.kmip_ttlv_reader.specs.Reads.{is_option, is_struct, has_tag, is_like, names_tag, has_fields, may_ignore, may_follow, takes, decoded_leaf}
-use Rattle.kmip_ttlv_reader.specs.Reads.{first_named, number_text}
-use Rattle.kmip_ttlv_reader.specs.Reads.{Reads, ReadsVariant, ReadsContent, ReadsForms, ReadsRun, ReadsFields, ReadsField, Begins, is_root, leaf, wrap_some}
-use Rattle.kmip_ttlv_reader.specs.Reads.{wrap, run, structure, by_rule, by_number, here, there, whole, parts, no_part, part, ends, more, done, next, absent}
-use Rattle.kmip_ttlv_reader.specs.Reads.{named, inner}
+use Rattle.kmip_ttlv_reader.specs.Reads.{first_named, number_text, Reads, ReadsVariant, ReadsContent, ReadsForms, ReadsRun, ReadsFields, ReadsField, Begins}
+use Rattle.kmip_ttlv_reader.specs.Reads.{is_root, leaf, wrap_some, wrap, run, structure, by_rule, by_number, here, there, whole, parts, no_part, part, ends}
+use Rattle.kmip_ttlv_reader.specs.Reads.{more, done, next, absent, named, inner}
 use Rattle.kmip_ttlv_reader.specs.Steps.{Outcome, gives, Read, Reader, reads, ◌>>=◌, mapped}
 use Rattle.kmip_ttlv_reader.specs.Outcomes.{type_there, tag_wanted, length_there, structure_wanted, inside, end_there, length_wanted, content_there}
 use Rattle.kmip_ttlv_reader.specs.Outcomes.{type_wanted, leaf_outcome, opened, item_end, ignored, rest_outcome, all_outcome, struct_outcome, field_outcome}
-use Rattle.kmip_ttlv_reader.specs.Outcomes.{goes_on}
-use Rattle.kmip_ttlv_reader.specs.Outcomes.{run_outcome, seq_outcome, outcome, fields_outcome, forms_outcome, variant_outcome, content_outcome, number_outcome}
-use Rattle.kmip_ttlv_reader.specs.Outcomes.{tuple_outcome, part_outcome, enum_outcome, first_outcome, root_outcome}
+use Rattle.kmip_ttlv_reader.specs.Outcomes.{goes_on, run_outcome, seq_outcome, outcome, fields_outcome, forms_outcome, variant_outcome, content_outcome}
+use Rattle.kmip_ttlv_reader.specs.Outcomes.{number_outcome, tuple_outcome, part_outcome, enum_outcome, first_outcome, root_outcome}
 use Rattle.kmip_ttlv_reader.proofs.NumberLemmas.{valid_length, number_length}
 
 -- ---- what the rules read, the form gives
@@ -105,11 +98,10 @@ length_given b p x item = rw (le-ltb (length b) (p + 8) (omega (arith, item.ther
 
 -- a name that is a tag's
 tag_named : (name : List ℕ) (n : ℕ) → has_tag name n ≡ true → tag_of name ≡ Some n
-tag_named name n e =
-    elim (tag_of name) as (λ o. tag_of name ≡ o → o ≡ Some n) [
-      | None ↦ λ h. absurd (let no : has_tag name n ≡ false = rw (has_tag, h) refl in cc)
-      | (Some m) ↦ λ h. ap Some (eqb-true m n (let yes : has_tag name n ≡ (m == n) = rw (has_tag, h) refl in cc))
-    ] refl
+tag_named name n e = elim (tag_of name) as (λ o. tag_of name ≡ o → o ≡ Some n) [
+  | None ↦ λ h. absurd (let no : has_tag name n ≡ false = rw (has_tag, h) refl in cc)
+  | (Some m) ↦ λ h. ap Some (eqb-true m n (let yes : has_tag name n ≡ (m == n) = rw (has_tag, h) refl in cc))
+] refl
 
 -- ---- leaves
 
@@ -401,8 +393,7 @@ given_message (structure {name = name} {fs = fs} {deny = deny} {h = h} {zs = zs}
       tag_named name h.tag n,
       opened_given name b 0 h items.0 n t,
       ← none,
-      all_given fs deny (fields_outcome fs) b (tag_at b 0) _ 8
-          (8 + length_at b 0) within_b g m,
+      all_given fs deny (fields_outcome fs) b (tag_at b 0) _ 8 (8 + length_at b 0) within_b g m,
     ) refl
 given_message r none root b e items = absurd cc
 

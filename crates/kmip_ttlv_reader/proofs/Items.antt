@@ -1,11 +1,8 @@
 -- The items of a sequence, read one after the other as values of a type.
 use Rattle.std.proofs.Common.{◌≡◌, ℕ, suc, List, [], ◌∷◌, ◌++◌, refl, ap, sym, true, false, map}
 use Rattle.kmip_ttlv_base.specs.Values.{Value, Values, value, values_of}
-use Rattle.kmip_ttlv_reader.specs.declared.failure.Failure.{Failure}
-use Rattle.kmip_ttlv_reader.specs.TagValues.{TagValue}
+use Rattle.kmip_ttlv_reader.specs.{declared.failure.Failure.Failure, TagValues.TagValue, Outcomes.run_outcome, Outcomes.goes_on, Results.IsFailure}
 use Rattle.kmip_ttlv_reader.specs.Steps.{Outcome, gives, ends_early, fails, Read, reads, Reader, ◌>>=◌}
-use Rattle.kmip_ttlv_reader.specs.Outcomes.{run_outcome, goes_on}
-use Rattle.kmip_ttlv_reader.specs.Results.{IsFailure}
 use Rattle.kmip_ttlv_reader.proofs.Loops.{join, join_nil, with_front}
 use Rattle.kmip_ttlv_reader.proofs.Steps.{failure_then}
 

@@ -1,13 +1,8 @@
 -- Leaves of any shape.
 use Rattle.std.proofs.Common.{◌≡◌, ℕ, List, refl, ap}
-use Rattle.kmip_ttlv_base.specs.Values.{newtype_value}
-use Rattle.kmip_ttlv_base.specs.Forms.{newtype}
-use Rattle.kmip_ttlv_reader.specs.declared.leaf.Leaf.{Leaf}
+use Rattle.kmip_ttlv_base.specs.{Values.newtype_value, Forms.newtype}
+use Rattle.kmip_ttlv_reader.specs.{declared.leaf.Leaf.Leaf, TagValues.TagValue, LeafForms.form_of_leaf, Steps.mapped, Outcomes.outcome, Outcomes.leaf_outcome}
 use Rattle.kmip_ttlv_reader.specs.declared.leaf.Leaf.TheVariants as leaves
-use Rattle.kmip_ttlv_reader.specs.TagValues.{TagValue}
-use Rattle.kmip_ttlv_reader.specs.LeafForms.{form_of_leaf}
-use Rattle.kmip_ttlv_reader.specs.Steps.{mapped}
-use Rattle.kmip_ttlv_reader.specs.Outcomes.{outcome, leaf_outcome}
 
 -- what the form of a leaf reads
 pub leaf_is : (l : Leaf) (b : List ℕ) (o : ℕ) (k : List TagValue) (p e : ℕ) → outcome (form_of_leaf l) b o k p e ≡ leaf_outcome (form_of_leaf l) b o k p e

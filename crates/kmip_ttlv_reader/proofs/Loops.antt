@@ -1,25 +1,18 @@
 -- What the loops of readers keep: what was read stands before what is still to be read.
 use Rattle.std.proofs.Common.{◌≡◌, ℕ, zero, suc, Some, ◌+◌, ◌-◌, ◌<◌, ◌≤◌, List, [], ◌∷◌, ◌++◌, length, drop, get_or, refl, ap, sym, ◌∙◌, true, false, Bool}
 use Rattle.std.proofs.Common.{nat_lt, codes, arith}
-use Rattle.kmip_ttlv_base.specs.declared.shape.FieldShape.{FieldShape}
-use Rattle.kmip_ttlv_base.specs.declared.shape.Shape.{Shape}
+use Rattle.kmip_ttlv_base.specs.declared.shape.{FieldShape.FieldShape, Shape.Shape, VariantShape.VariantShape, Data.Data}
 use Rattle.std.proofs.lemmas.Bool.{lt-ltb, le-ltb}
 use Rattle.kmip_ttlv_types.specs.declared.typ.TtlvType.{TtlvType}
-use Rattle.kmip_ttlv_base.specs.declared.shape.VariantShape.{VariantShape}
-use Rattle.kmip_ttlv_base.specs.declared.shape.Data.{Data}
 use Rattle.kmip_ttlv_base.specs.Values.{Value, Values, no_values, value, view, views, struct_value, tuple_variant_value}
 use Rattle.kmip_ttlv_base.specs.Forms.{fields_of, form_of, forms_of, variants_of, content_of, Fields, Variants, Forms, struct, enum, tuple}
-use Rattle.kmip_ttlv_reader.specs.declared.failure.Failure.{Failure}
-use Rattle.kmip_ttlv_reader.specs.TagValues.{TagValue}
+use Rattle.kmip_ttlv_reader.specs.{declared.failure.Failure.Failure, TagValues.TagValue, Rules.choice, ReadFaults.in_struct, Results.IsFailure}
+use Rattle.kmip_ttlv_reader.specs.{Results.IsFailureOf}
 use Rattle.kmip_ttlv_reader.specs.Steps.{Outcome, gives, ends_early, fails, Read, reads, Reader, ◌>>=◌, mapped}
 use Rattle.kmip_ttlv_reader.specs.Outcomes.{outcome, fields_outcome, field_outcome, run_outcome, goes_on, forms_outcome, part_outcome, rest_outcome, ignored}
 use Rattle.kmip_ttlv_reader.specs.Outcomes.{struct_outcome, first_outcome, root_outcome, enum_outcome, variant_outcome, content_outcome, type_there, picked}
 use Rattle.kmip_ttlv_reader.specs.Outcomes.{tuple_outcome, structure_wanted, length_there, inside}
-use Rattle.kmip_ttlv_reader.specs.Rules.{choice}
-use Rattle.kmip_ttlv_reader.specs.ReadFaults.{in_struct}
-use Rattle.kmip_ttlv_reader.specs.Results.{IsFailure, IsFailureOf}
-use Rattle.kmip_ttlv_reader.proofs.Front.{fields_at, forms_at}
-use Rattle.kmip_ttlv_reader.proofs.Steps.{failure_then, fault_is}
+use Rattle.kmip_ttlv_reader.proofs.{Front.fields_at, Front.forms_at, Steps.failure_then, Steps.fault_is}
 
 abbrev pub join : Values → Values → Values
 join no_values ws = ws
@@ -126,8 +119,7 @@ pub run_step : {A : Type 0} (read : Reader Value) (n first : ℕ) (ds : List (Da
     → read b o k p e ≡ reads (view d) k' q
     → with_front (views ds) (run_outcome (suc n) read first b o k p e) ≡ with_front (views (ds ++ d ∷ [])) (run_outcome n read first b o k' q e)
 unfolding run_outcome
-run_step read n first ds d b o k k' p q e more h =
-    rw (more, h) (front_more ds d (run_outcome n read first b o k' q e))
+run_step read n first ds d b o k k' p q e more h = rw (more, h) (front_more ds d (run_outcome n read first b o k' q e))
 
 -- an item of a sequence with a fault
 pub run_fails : {A C : Type 0} (read : Reader Value) (n first : ℕ) (ds : List (Data A)) (b : List ℕ) (o : ℕ) (k : List TagValue) (p e : ℕ) (r : Failure C)
@@ -154,8 +146,7 @@ unfolding run_outcome
 run_done read n first ds b o k p e none = rw none (ap (λ v. reads v k p) (join_nil (views ds)))
 
 -- an item that is ignored
-pub rest_step : (n : ℕ) (fs : Fields) (deny : Bool) (b : List ℕ) (o p q e : ℕ)
-    → nat_lt p e ≡ true
+pub rest_step : (n : ℕ) (fs : Fields) (deny : Bool) (b : List ℕ) (o p q e : ℕ) → nat_lt p e ≡ true
     → ignored fs deny b o p e ≡ gives q
     → rest_outcome (suc n) fs deny b o p e ≡ rest_outcome n fs deny b o q e
 unfolding rest_outcome
@@ -170,8 +161,7 @@ unfolding rest_outcome
 rest_fails n fs deny b o p e r lt h = rw lt (failure_then (ignored fs deny b o p e) _ r h)
 
 -- nothing is left
-pub rest_done : (n : ℕ) (fs : Fields) (deny : Bool) (b : List ℕ) (o p e : ℕ)
-    → nat_lt p e ≡ false
+pub rest_done : (n : ℕ) (fs : Fields) (deny : Bool) (b : List ℕ) (o p e : ℕ) → nat_lt p e ≡ false
     → rest_outcome (suc n) fs deny b o p e ≡ gives p
 unfolding rest_outcome
 rest_done n fs deny b o p e past = rw past refl

@@ -1,10 +1,8 @@
 -- A result whose value is wrapped is that of the wrapped outcome.
 use Rattle.std.proofs.Common.{◌≡◌, ℕ, List, [], ◌∷◌, ◌<◌, length, Result, Ok, Err, Vec, IfOk, refl, ap, sym, ◌∙◌, arith}
 use Rattle.kmip_ttlv_base.specs.Values.{Value, seq_value, some_value}
-use Rattle.kmip_ttlv_reader.specs.declared.failure.Failure.{Failure}
-use Rattle.kmip_ttlv_reader.specs.TagValues.{TagValue}
+use Rattle.kmip_ttlv_reader.specs.{declared.failure.Failure.Failure, TagValues.TagValue, Results.IsRead}
 use Rattle.kmip_ttlv_reader.specs.Steps.{Outcome, Read, reads, mapped}
-use Rattle.kmip_ttlv_reader.specs.Results.{IsRead}
 use Rattle.kmip_ttlv_reader.specs.Spots.{Spot, IsReadTo, optional_values, values_by}
 use Rattle.kmip_ttlv_reader.proofs.Steps.{failure_then}
 

@@ -1,13 +1,9 @@
 -- The text of a number, and the variant that it names.
 use Rattle.std.proofs.Common.{◌≡◌, ℕ, ◌+◌, ◌<◌, ◌≤◌, ◌/◌, ◌%◌, ◌==◌, true, false, cond, List, [], ◌∷◌, length, get_or, drop, Some, None, refl, sym, ap, ◌∙◌}
 use Rattle.std.proofs.Common.{arith}
-use Rattle.std.specs.Str.{bytes_eq}
-use Rattle.std.specs.Fmt.{digit_glyph}
-use Rattle.std.proofs.lemmas.Bool.{eqb-true, true_from_ne_false}
-use Rattle.std.proofs.lemmas.List.{drop_more, drop_all}
-use Rattle.kmip_ttlv_types.specs.ItemTypes.{fixed_length}
-use Rattle.kmip_ttlv_types.specs.Leaves.{is_valid}
-use Rattle.kmip_ttlv_types.specs.declared.typ.TtlvType.{TtlvType}
+use Rattle.std.specs.{Str.bytes_eq, Fmt.digit_glyph}
+use Rattle.std.proofs.lemmas.{Bool.eqb-true, Bool.true_from_ne_false, List.drop_more, List.drop_all}
+use Rattle.kmip_ttlv_types.specs.{ItemTypes.fixed_length, Leaves.is_valid, declared.typ.TtlvType.TtlvType}
 use Rattle.kmip_ttlv_types.specs.declared.typ.TtlvType.TheVariants.{Boolean, Enumeration, Integer}
 use Rattle.kmip_ttlv_base.specs.Forms.{any_number, content_of, variants_of}
 use Rattle.kmip_ttlv_base.specs.declared.shape.VariantShape.{VariantShape}

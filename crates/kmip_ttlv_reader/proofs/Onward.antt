@@ -2,12 +2,10 @@
 use Rattle.std.proofs.Common.{◌≡◌, ◌==◌, ◌||◌, ℕ, ◌+◌, ◌<◌, ◌≤◌, List, Bool, true, false, length, take, drop, nat_lt, Option, Some, None, refl, ap, sym, ◌∙◌}
 use Rattle.std.proofs.Common.{subst, arith, if◌then◌else◌}
 use Rattle.std.proofs.lemmas.Bool.{ltb-false, ltb-true, eqb-true}
-use Rattle.kmip_ttlv_types.specs.declared.typ.TtlvType.{TtlvType}
+use Rattle.kmip_ttlv_types.specs.{declared.typ.TtlvType.TtlvType, Leaves.is_valid, Names.tag_of}
 use Rattle.kmip_ttlv_types.specs.declared.typ.TtlvType.TheVariants.{BigInteger, Boolean, ByteString, DateTime, Enumeration, Integer, Interval, LongInteger}
 use Rattle.kmip_ttlv_types.specs.declared.typ.TtlvType.TheVariants.{Structure, TextString}
 use Rattle.kmip_ttlv_types.specs.ItemTypes.{code, fixed_length, is_structure, type_of}
-use Rattle.kmip_ttlv_types.specs.Leaves.{is_valid}
-use Rattle.kmip_ttlv_types.specs.Names.{tag_of}
 use Rattle.kmip_ttlv_types.specs.Places.{code_at, length_at, size, tag_at}
 use Rattle.kmip_ttlv_reader.specs.Outcomes.{content_there, end_there, inside, item_end, length_there, length_wanted, opened, structure_wanted, tag_wanted}
 use Rattle.kmip_ttlv_reader.specs.Outcomes.{tagged, type_there, type_wanted, typed}
@@ -148,16 +146,14 @@ end_is b p t n len cut =
     let same : p + size t n ≡ p + size t (length_at b p) = ap (λ (m : ℕ). p + size t m) len in
     on_bytes b (p + size t n) _ (λ short. cut (omega (arith, same))) (λ long. given record {
       content = ap (λ (m : ℕ). take m (drop (p + 8) b)) len;
-      behind =
-          same;
+      behind = same;
       there = omega (arith, same);
     })
 
 pub content_is : {E : Type 0} (b : List ℕ) (p : ℕ) (t : TtlvType) → (length b < p + size t (length_at b p) → E)
     → Onward E (λ c. ContentAt b p t c.0 c.1 × (is_valid t c.0 ≡ true)) (content_there b p t)
 unfolding content_there
-content_is b p t cut =
-    on_then (length_is b p (λ short. cut (omega arith))) (λ n len.
+content_is b p t cut = on_then (length_is b p (λ short. cut (omega arith))) (λ n len.
     on_then (sized_is b p 8 t (fixed_length t)) (λ _ _.
     on_then {P = λ _. Unit {0}} (on_bytes b (p + 8 + n) _ (λ short. cut (omega (arith, len.0))) (λ _. given tt)) (λ _ _.
     on_then (must_is (is_valid t (take n (drop (p + 8) b))) _) (λ _ valid.
@@ -172,17 +168,14 @@ pub record StructureAt (b : List ℕ) (p stop : ℕ) : Type 0 where
 pub opened_is : {E : Type 0} (name b : List ℕ) (p : ℕ) → (length b < p + 8 → E) → Onward E (λ stop. (has_tag name (tag_at b p) ≡ true) × StructureAt b p stop)
     (opened name b p)
 unfolding opened
-opened_is name b p cut =
-    on_then (type_is b p cut) (λ t typ.
-    on_then (tag_is name b p t) (λ _ named_so.
+opened_is name b p cut = on_then (type_is b p cut) (λ t typ. on_then (tag_is name b p t) (λ _ named_so.
     on_then (structure_is b p t) (λ _ is.
     on_then (length_is b p cut) (λ n len. given (
       named_so,
       record {
         typ = ap code (sym is) ∙ typ;
         content_there = len.1;
-        stops =
-            ap (λ (m : ℕ). p + 8 + m) len.0;
+        stops = ap (λ (m : ℕ). p + 8 + m) len.0;
       },
     )))))
 
@@ -190,9 +183,7 @@ opened_is name b p cut =
 pub item_end_is : {E : Type 0} (b : List ℕ) (p : ℕ) (t : TtlvType) → (length b < p + size t (length_at b p) → E)
     → Onward E (λ q. ContentAt b p t (content_at b p) q × ((is_structure t || is_valid t (content_at b p)) ≡ true)) (item_end b p t)
 unfolding item_end
-item_end_is b p t cut =
-    on_if (is_structure t) _ _
-    (λ yes. on_then (length_is b p (λ short. cut (omega arith)))
+item_end_is b p t cut = on_if (is_structure t) _ _ (λ yes. on_then (length_is b p (λ short. cut (omega arith)))
     (λ n len. on_map (λ x. x) (λ q at. (record { content = refl; behind = at.behind; there = at.there }, rw yes refl)) (end_is b p t n len.0 cut)))
     (λ plain. on_then (content_is b p t cut) (λ c at. given (
       record { content = refl; behind = at.0.behind; there = at.0.there },

@@ -1,21 +1,18 @@
 -- What a rule says by its parts.
 use Rattle.std.proofs.Common.{◌≡◌, ℕ, List, [], ◌∷◌, map, Bool, true, false, cond, ◌||◌, Option, Some, None, option_map, option_and_then, refl, sym, ap, ◌∙◌}
 use Rattle.std.proofs.Common.{◌==◌, codes, rules}
-use Rattle.std.specs.Borrow.{Bor}
-use Rattle.std.specs.List.{list_any, slice_split}
+use Rattle.std.specs.{Borrow.Bor, List.list_any, List.slice_split}
 use Rattle.std.specs.Str.{bytes_eq, trim, trim_end, trim_start, chars}
 use lib.Utf8.{encode}
 use Rattle.std.proofs.lemmas.Slice.Eq.{bytes_eq-Decides}
 use Rattle.kmip_ttlv_types.specs.declared.typ.TtlvType.{TtlvType}
 use Rattle.kmip_ttlv_types.specs.Names.{after_prefix, number, tag_of}
-use Rattle.kmip_ttlv_reader.specs.TagValues.{TagValue, last}
+use Rattle.kmip_ttlv_reader.specs.{TagValues.TagValue, TagValues.last, Chosen.if_holds, declared.rules.RuleParts.RuleParts}
 use Rattle.kmip_ttlv_reader.specs.Rules.{Choice, first_by, Verdict, fails, plain_verdict, needs, with_text, sides, in_brackets, type_name, by, equal, at_least}
 use Rattle.kmip_ttlv_reader.specs.Rules.{member, verdict, rule, refused}
 use Rattle.kmip_ttlv_base.specs.Errors.{invalid_rule}
-use Rattle.kmip_ttlv_reader.specs.Chosen.{if_holds}
 use Rattle.kmip_ttlv_reader.specs.RuleParts.{texts_verdict, texts_of, wanted, parts_of_equal, parts_of_member, parts_by, parts_of_body, parts_by_name, parts_of}
 use Rattle.kmip_ttlv_reader.specs.RuleParts.{equal_sides, AreParts}
-use Rattle.kmip_ttlv_reader.specs.declared.rules.RuleParts.{RuleParts}
 use Rattle.kmip_ttlv_reader.specs.declared.rules.RuleParts.TheVariants as parts
 
 -- what parts say, where there are some

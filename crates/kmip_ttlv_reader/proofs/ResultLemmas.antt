@@ -1,19 +1,12 @@
 -- What follows of a result that is what the bytes are read as.
 use Rattle.std.proofs.Common.{◌≡◌, ℕ, List, ◌++◌, Result, Ok, Err, inl, inr, refl, sym, ap, subst, ◌∙◌}
 use Rattle.std.specs.Prelude.{IfOk, IfErr}
-use Rattle.kmip_ttlv_base.specs.declared.error.Error.{Error}
+use Rattle.kmip_ttlv_base.specs.{declared.error.Error.Error, Values.Value, Forms.Form}
 use Rattle.kmip_ttlv_base.specs.Errors.{Kind, malformed, mismatch, view_of_kind, IsMemory}
-use Rattle.kmip_ttlv_base.specs.Values.{Value}
-use Rattle.kmip_ttlv_base.specs.Forms.{Form}
-use Rattle.kmip_ttlv_reader.specs.ReadLaws.{AreBytes, Stands}
-use Rattle.kmip_ttlv_reader.specs.Reads.{Begins}
+use Rattle.kmip_ttlv_reader.specs.{ReadLaws.AreBytes, ReadLaws.Stands, Reads.Begins, Outcomes.root_outcome, Wholes.BeginsWhole}
 use Rattle.kmip_ttlv_reader.specs.Steps.{Fault, Outcome, gives, ends_early, fails}
-use Rattle.kmip_ttlv_reader.specs.Outcomes.{root_outcome}
 use Rattle.kmip_ttlv_reader.specs.ReadResults.{IsReadAs, IsError, IsOfBytes, seen, ErrorStands, NothingBegins, memory, early_end, sort_of, sort_of_kind}
-use Rattle.kmip_ttlv_reader.specs.Wholes.{BeginsWhole}
-use Rattle.kmip_ttlv_reader.proofs.Founding.{found_root, whole_root}
-use Rattle.kmip_ttlv_reader.proofs.Giving.{given_root}
-use Rattle.kmip_ttlv_reader.proofs.Standing.{root_stands}
+use Rattle.kmip_ttlv_reader.proofs.{Founding.found_root, Founding.whole_root, Giving.given_root, Standing.root_stands}
 
 pub result_found : {T A : Type 0} (s : Form) (b : List ℕ) (is_value : Value → T → Type 0) (r : Result T (Error A)) → AreBytes b
     → IsReadAs is_value (root_outcome s b) r → IfOk r (λ x. (v : Value) × Begins s b v × is_value v x)

@@ -1,10 +1,8 @@
 -- The last text that was kept under a tag, and what `in` says of it.
 use Rattle.std.proofs.Common.{◌≡◌, ℕ, List, [], ◌∷◌, ◌++◌, Bool, true, false, cond, Option, Some, None, option_map, filter, refl, sym, ap, ◌∙◌, ◌==◌, rules}
 use Rattle.std.specs.List.{last_or, list_any, slice_split}
-use Rattle.std.specs.Str.{bytes_eq, trim}
-use Rattle.std.specs.Ordering.{is_eq, nat_cmp}
-use Rattle.kmip_ttlv_reader.specs.declared.store.StoredText.{StoredText}
-use Rattle.kmip_ttlv_reader.specs.StoredTexts.{stored_text_of}
+use Rattle.std.specs.{Str.bytes_eq, Str.trim, Ordering.is_eq, Ordering.nat_cmp}
+use Rattle.kmip_ttlv_reader.specs.{declared.store.StoredText.StoredText, StoredTexts.stored_text_of}
 use Rattle.kmip_ttlv_reader.specs.TagValues.{TagValue, HoldsLast, last, with_number}
 use Rattle.kmip_ttlv_types.specs.Names.{tag_of}
 use Rattle.kmip_ttlv_reader.specs.Rules.{in_brackets, member, plain_verdict}
@@ -21,8 +19,7 @@ last_with p o (y ∷ ys) x = elim (p y) as (λ b. last_or o (cond b (y ∷ filte
 
 -- the last text kept under a tag, with one more text
 last_more : (ks : List TagValue) (x : TagValue) (t : ℕ) → last (ks ++ x ∷ []) t ≡ cond (x.tag == t) (Some x.text) (last ks t)
-last_more ks x t =
-    ap (option_map (λ k. k.text)) (last_with (λ k. k.tag == t) None ks x)
+last_more ks x t = ap (option_map (λ k. k.text)) (last_with (λ k. k.tag == t) None ks x)
     ∙ elim (x.tag == t) as (λ b. option_map (λ k. k.text) (cond b (Some x) (last_or None (filter (λ k. k.tag == t) ks))) ≡ cond b (Some x.text)
     (option_map (λ k. k.text) (last_or None (filter (λ k. k.tag == t) ks)))) [ true ↦ refl | false ↦ refl ]
 
@@ -34,11 +31,9 @@ is_eq-nat_cmp a b = search rules
 pub holds_more : (m n : ℕ → Option StoredText) (ks : List TagValue) (x : TagValue) (h : StoredText) → stored_text_of h ≡ with_number x.text
     → HoldsLast (λ t. option_map stored_text_of (m t)) ks → ((q : ℕ) → n q ≡ cond (x.tag == q) (Some h) (m q))
     → HoldsLast (λ t. option_map stored_text_of (n t)) (ks ++ x ∷ [])
-holds_more m n ks x h text stored_text updated t =
-    ap (option_map stored_text_of) (updated t)
+holds_more m n ks x h text stored_text updated t = ap (option_map stored_text_of) (updated t)
     ∙ elim (x.tag == t) as (λ b. option_map stored_text_of (cond b (Some h) (m t)) ≡ option_map with_number (cond b (Some x.text) (last ks t))) [
-      | true ↦
-          ap Some text
+      | true ↦ ap Some text
       | false ↦ stored_text t
     ]
     ∙ ap (option_map with_number) (sym (last_more ks x t))

@@ -3,24 +3,21 @@ use Rattle.std.proofs.Common.{◌≡◌, ◌==◌, ℕ, zero, suc, ◌+◌, ◌�
 use Rattle.std.proofs.Common.{drop, Option, Some, None}
 use Rattle.std.proofs.lemmas.Bool.{ltb-false, le-ltb, false_from_ne_true}
 use Rattle.std.proofs.lemmas.List.{get_or_append_left, length-append, take-append-le, drop-append-le, length-drop}
-use Rattle.kmip_ttlv_types.specs.declared.typ.TtlvType.{TtlvType}
+use Rattle.kmip_ttlv_types.specs.{declared.typ.TtlvType.TtlvType, Leaves.is_valid, Names.tag_of}
 use Rattle.kmip_ttlv_types.specs.Places.{tag_at, code_at, length_at, size}
 use Rattle.kmip_ttlv_types.specs.ItemTypes.{type_of, fixed_length, is_structure}
-use Rattle.kmip_ttlv_types.specs.Leaves.{is_valid}
-use Rattle.kmip_ttlv_types.specs.Names.{tag_of}
 use Rattle.kmip_ttlv_base.specs.Forms.{Form, Fields, Variants, Content, Forms, struct, option, seq, newtype, enum, no_fields, field, no_variants, variant, unit}
 use Rattle.kmip_ttlv_base.specs.Forms.{wrapped, tuple, no_forms, form}
 use Rattle.kmip_ttlv_base.specs.Values.{Value, Values}
-use Rattle.kmip_ttlv_reader.specs.TagValues.{TagValue}
+use Rattle.kmip_ttlv_reader.specs.{TagValues.TagValue, ReadLaws.Stands}
 use Rattle.kmip_ttlv_reader.specs.Rules.{Choice, choice_invalid, choice}
 use Rattle.kmip_ttlv_reader.specs.Reads.{is_option, is_struct, is_number_type, has_tag, names_tag, has_fields, takes, first_named, number_text}
 use Rattle.kmip_ttlv_reader.specs.Steps.{Outcome, gives, ends_early, fails, Reader, ◌>>=◌, must, must_not, within}
 use Rattle.kmip_ttlv_reader.specs.Outcomes.{type_there, typed, tag_wanted, tagged, length_there, structure_wanted, inside, end_there, length_wanted}
 use Rattle.kmip_ttlv_reader.specs.Outcomes.{content_there, type_wanted, leaf_outcome, opened, item_end, ignored, rest_outcome, all_outcome, struct_outcome}
-use Rattle.kmip_ttlv_reader.specs.Outcomes.{field_outcome, goes_on, run_outcome, seq_outcome}
-use Rattle.kmip_ttlv_reader.specs.Outcomes.{outcome, fields_outcome, forms_outcome, variant_outcome, content_outcome, picked, by_index, unit_wanted}
-use Rattle.kmip_ttlv_reader.specs.Outcomes.{number_outcome, tuple_outcome, part_outcome, enum_outcome, named_first, first_outcome, root_outcome}
-use Rattle.kmip_ttlv_reader.specs.ReadLaws.{Stands}
+use Rattle.kmip_ttlv_reader.specs.Outcomes.{field_outcome, goes_on, run_outcome, seq_outcome, outcome, fields_outcome, forms_outcome, variant_outcome}
+use Rattle.kmip_ttlv_reader.specs.Outcomes.{content_outcome, picked, by_index, unit_wanted, number_outcome, tuple_outcome, part_outcome, enum_outcome}
+use Rattle.kmip_ttlv_reader.specs.Outcomes.{named_first, first_outcome, root_outcome}
 
 -- ---- steps
 
@@ -71,16 +68,14 @@ tag_more : (b c : List ℕ) (p : ℕ) → p + 4 ≤ length b → tag_at (b ++ c)
 tag_more b c p le = rw (
   get_or_append_left b c 0 p (omega arith),
   get_or_append_left b c 0 (p + 1) (omega arith),
-  get_or_append_left b c 0 (p + 2)
-      (omega arith),
+  get_or_append_left b c 0 (p + 2) (omega arith),
 ) refl
 
 pub length_more : (b c : List ℕ) (p : ℕ) → p + 8 ≤ length b → length_at (b ++ c) p ≡ length_at b p
 length_more b c p le = rw (
   get_or_append_left b c 0 (p + 4) (omega arith),
   get_or_append_left b c 0 (p + 5) (omega arith),
-  get_or_append_left b c 0 (p + 6)
-      (omega arith),
+  get_or_append_left b c 0 (p + 6) (omega arith),
   get_or_append_left b c 0 (p + 7) (omega arith),
 ) refl
 
@@ -153,8 +148,7 @@ opened_then name b c p more =
 
 ignored_still : (fs : Fields) (deny : Bool) (b c : List ℕ) (o p e : ℕ) → Still (ignored fs deny b o p e) (ignored fs deny (b ++ c) o p e)
 unfolding ignored item_end end_there inside
-ignored_still fs deny b c o p e =
-    type_then b c p (λ t le. rw (tag_more b c p le)
+ignored_still fs deny b c o p e = type_then b c p (λ t le. rw (tag_more b c p le)
     (after (must (has_fields fs) _) (λ _. after (must_not (names_tag fs (tag_at b p)) _) (λ _. after (must_not deny _) (λ _.
     bind (either (is_structure t) (length_then b c p (λ n _. there b c (p + size t n) (λ _. still refl))) (bind (content_still b c p t le) (λ x _. still refl)))
     (λ q _. still refl))))))
@@ -200,8 +194,7 @@ run_still : (read : Reader Value) (n m first : ℕ) → n ≤ m → (b c : List 
 unfolding run_outcome goes_on
 run_still read zero m first steps b c le one o k p e = record { stands = tt }
 run_still read (suc n) zero first steps b c le one o k p e = absurd (omega arith)
-run_still read (suc n) (suc m) first steps b c le one o k p e =
-    bind (either (p == e) (still refl)
+run_still read (suc n) (suc m) first steps b c le one o k p e = bind (either (p == e) (still refl)
     (type_then b c p (λ t here. still (rw (tag_more b c p here, code_more b c p here, tag_more b c first le, code_more b c first le) refl))))
     (λ more _. either more (bind (one o k p e) (λ r _. bind (run_still read n m first (omega arith) b c le one o r.stored r.next e) (λ rs _. still refl)))
     (still refl))
@@ -213,16 +206,14 @@ index_still : (i : Option ℕ) (at : ℕ → TtlvType → Reader Value) (name : 
     (by_index i at (number_outcome name vs) t (b ++ c) o k p e)
 unfolding number_outcome type_wanted inside
 index_still (Some i) at name vs t b c o k p e le one = one i
-index_still None at name vs t b c o k p e le one =
-    rw (tag_more b c p le) (after (must (is_number_type t) _)
+index_still None at name vs t b c o k p e le one = rw (tag_more b c p le) (after (must (is_number_type t) _)
     (λ _. length_then b c p (λ n le8. rw (length_more b c p le8) (after (must (length_at b p == 4) _) (λ _.
     bind (content_still b c p t le) (λ x _. still (rw (unit_more (first_named (number_text x.0) vs) b c o p t le) refl)))))))
 
 enum_still : (name : List ℕ) (vs : Variants) (at : ℕ → TtlvType → Reader Value) (b c : List ℕ) → ((i : ℕ) (t : TtlvType) (o : ℕ) (k : List TagValue) (p e : ℕ)
     → p + 4 ≤ length b → Still (at i t b o k p e) (at i t (b ++ c) o k p e)) → TagValues (enum_outcome name vs at) b c
 unfolding enum_outcome
-enum_still name vs at b c one o k p e =
-    type_then b c p (λ t le. rw (picked_more (choice vs k t) b c p t le)
+enum_still name vs at b c one o k p e = type_then b c p (λ t le. rw (picked_more (choice vs k t) b c p t le)
     (after (picked (choice vs k t) b p t) (λ i. index_still i at name vs t b c o k p e le (λ j. one j t o k p e le))))
 
 -- ---- forms
@@ -232,14 +223,12 @@ mutual
       structure_wanted inside
 
   outcome_still : (s : Form) (b c : List ℕ) (o : ℕ) (k : List TagValue) (p e : ℕ) → Still (outcome s b o k p e) (outcome s (b ++ c) o k p e)
-  outcome_still (struct name fs deny) b c o k p e =
-      bind (opened_then name b c p (λ stop le. rw (tag_more b c p le)
+  outcome_still (struct name fs deny) b c o k p e = bind (opened_then name b c p (λ stop le. rw (tag_more b c p le)
       (bind (within_still (tag_at b p) (all_still fs deny (fields_outcome fs) b c (fields_still fs b c) (tag_at b p) k (p + 8) stop)) (λ rs _. still refl))))
       (λ r _. still refl)
   outcome_still (option s) b c o k p e = bind (outcome_still s b c o k p e) (λ r _. still refl)
   outcome_still (newtype name s) b c o k p e = bind (outcome_still s b c o k p e) (λ r _. still refl)
-  outcome_still (seq s) b c o k p e =
-      bind (bind (outcome_still s b c o k p e)
+  outcome_still (seq s) b c o k p e = bind (bind (outcome_still s b c o k p e)
       (λ r is. bind (run_still (outcome s) (suc (length b)) (suc (length (b ++ c))) p (omega (arith, length-append b c)) b c
       (header_there b p (outcome s b o k p e) r (outcome_early s b o k p e) is) (outcome_still s b c) o r.stored r.next e) (λ rs _. still refl)))
       (λ r _. still refl)
@@ -262,8 +251,7 @@ mutual
       → Still (content_outcome name vname x t b o k p e) (content_outcome name vname x t (b ++ c) o k p e)
   among_still name vname unit b c t o k p e le = still (rw (tag_more b c p le) refl)
   among_still name vname (wrapped s) b c t o k p e le = bind (outcome_still s b c o k p e) (λ r _. still refl)
-  among_still name vname (tuple ss) b c t o k p e le =
-      rw (tag_more b c p le) (bind (after (must (is_structure t) _)
+  among_still name vname (tuple ss) b c t o k p e le = rw (tag_more b c p le) (bind (after (must (is_structure t) _)
       (λ _. length_then b c p (λ n _. bind (forms_still ss b c o k (p + 8) (p + 8 + n)) (λ rs _. still refl)))) (λ r _. still refl))
 
   forms_still : (ss : Forms) (b c : List ℕ) (o : ℕ) (k : List TagValue) (p e : ℕ) → Still (forms_outcome ss b o k p e) (forms_outcome ss (b ++ c) o k p e)

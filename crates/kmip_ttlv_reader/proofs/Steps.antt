@@ -1,9 +1,8 @@
 -- A failure stays one, whatever would have followed, and a fault is a failure.
 use Rattle.std.proofs.Common.{◌≡◌, ap, sym, ◌∙◌}
-use Rattle.kmip_ttlv_reader.specs.declared.failure.Failure.{Failure}
-use Rattle.kmip_ttlv_reader.specs.declared.failure.Failure.TheVariants as failures
+use Rattle.kmip_ttlv_reader.specs.{declared.failure.Failure.Failure, Results.IsFailure, Results.IsFailureOf}
 use Rattle.kmip_ttlv_reader.specs.Steps.{Fault, Outcome, fails, ◌>>=◌}
-use Rattle.kmip_ttlv_reader.specs.Results.{IsFailure, IsFailureOf}
+use Rattle.kmip_ttlv_reader.specs.declared.failure.Failure.TheVariants as failures
 
 pub failure_then : {A B C : Type 0} (o : Outcome A) (f : A → Outcome B) (r : Failure C) → IsFailure o r → IsFailure (o >>= f) r
 failure_then o f failures.OutOfMemory h = tt

@@ -1,12 +1,9 @@
 -- Rows that texts are held in: one more text in the row that takes it, or beside the rows.
 use Rattle.std.proofs.Common.{◌≡◌, ℕ, zero, suc, ◌<◌, ◌≤◌, List, [], ◌∷◌, Bool, true, false, cond, length, drop, set, Option, Some, None, option_map, refl, sym}
 use Rattle.std.proofs.Common.{ap, ◌∙◌, ◌==◌, rules, arith}
-use Rattle.std.specs.Ordering.{nat_cmp}
+use Rattle.std.specs.{Ordering.nat_cmp, Borrow.Bor, Option.option_copied}
 use Rattle.std.specs.BTreeMap.{BTreeMap, get, is_at}
-use Rattle.std.specs.Borrow.{Bor}
-use Rattle.std.specs.Option.{option_copied}
-use Rattle.kmip_ttlv_reader.specs.declared.store.StoredText.{StoredText}
-use Rattle.kmip_ttlv_reader.specs.declared.store.Row.{Row}
+use Rattle.kmip_ttlv_reader.specs.declared.store.{StoredText.StoredText, Row.Row}
 use Rattle.kmip_ttlv_reader.specs.StoredTexts.{stored_text_of, row_for, in_rows}
 use Rattle.kmip_ttlv_reader.proofs.RuleLemmas.{is_eq-nat_cmp}
 

@@ -1,14 +1,10 @@
 -- What is read of a structure whose tag is a number.
 use Rattle.std.proofs.Common.{◌≡◌, ℕ, Bool, true, false, List, [], refl, ◌==◌, if◌then◌else◌, codes}
-use Rattle.kmip_ttlv_types.specs.declared.typ.TtlvType.{TtlvType}
-use Rattle.kmip_ttlv_types.specs.Digits.{tag_text}
-use Rattle.kmip_ttlv_types.specs.Places.{tag_at}
+use Rattle.kmip_ttlv_types.specs.{declared.typ.TtlvType.TtlvType, Digits.tag_text, Places.tag_at}
 use Rattle.kmip_ttlv_base.specs.Values.{Value, none_value}
 use Rattle.kmip_ttlv_base.specs.Forms.{Fields, Form, option}
-use Rattle.kmip_ttlv_reader.specs.TagValues.{TagValue}
+use Rattle.kmip_ttlv_reader.specs.{TagValues.TagValue, ReadFaults.in_struct, Spots.field_there, Spots.optional_there}
 use Rattle.kmip_ttlv_reader.specs.Reads.{has_tag, is_option, is_struct}
-use Rattle.kmip_ttlv_reader.specs.ReadFaults.{in_struct}
-use Rattle.kmip_ttlv_reader.specs.Spots.{field_there, optional_there}
 use Rattle.kmip_ttlv_reader.specs.Steps.{Outcome, Reader, gives, reads, ends_early, fails, within, ◌>>=◌}
 use Rattle.kmip_ttlv_reader.specs.Outcomes.{type_there, tag_wanted, field_outcome, first_outcome, opened, all_outcome, fields_outcome}
 use Rattle.kmip_ttlv_reader.proofs.TagNames.{tag_of_number}

@@ -1,19 +1,15 @@
 -- The rows of a table of an Enumeration's numbers.
 use Rattle.std.proofs.Common.{◌≡◌, ℕ, zero, suc, ◌<◌, ◌≤◌, true, false, cond, List, [], ◌∷◌, length, drop, slice_index_or, Some, None, refl, sym, ap, ◌∙◌}
 use Rattle.std.proofs.Common.{arith, codes}
-use Rattle.std.specs.Borrow.{Bor}
-use Rattle.std.specs.Str.{bytes_eq}
+use Rattle.std.specs.{Borrow.Bor, Str.bytes_eq}
 use Rattle.std.proofs.lemmas.Slice.Eq.{bytes_eq-Decides}
-use Rattle.kmip_ttlv_types.specs.declared.typ.TtlvType.{TtlvType}
-use Rattle.kmip_ttlv_types.specs.Names.{after_prefix}
+use Rattle.kmip_ttlv_types.specs.{declared.typ.TtlvType.TtlvType, Names.after_prefix}
 use Rattle.kmip_ttlv_base.specs.Values.{Value, unit_variant_value}
 use Rattle.kmip_ttlv_base.specs.Forms.{Variants, no_variants, variant, unit, wrapped, tuple, enum}
-use Rattle.kmip_ttlv_reader.specs.TagValues.{TagValue}
-use Rattle.kmip_ttlv_reader.specs.Reads.{first_named}
+use Rattle.kmip_ttlv_reader.specs.{TagValues.TagValue, Reads.first_named, ListedRows.AreListed, ListedRows.IsRowNamed}
 use Rattle.kmip_ttlv_reader.specs.Rules.{choice, number_decides, rule, verdict, no_rule}
 use Rattle.kmip_ttlv_reader.specs.Steps.{Outcome, gives, ends_early, fails, ◌>>=◌}
 use Rattle.kmip_ttlv_reader.specs.Outcomes.{outcome, enum_outcome, number_outcome, type_there, picked, by_index, variant_outcome}
-use Rattle.kmip_ttlv_reader.specs.ListedRows.{AreListed, IsRowNamed}
 
 -- the units of a table's names
 abbrev pub units : {T : Type 0} → List (Bor (List ℕ) × T) → Variants

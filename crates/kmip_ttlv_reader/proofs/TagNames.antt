@@ -1,10 +1,7 @@
 -- The name of a tag's number is read as that number.
 use Rattle.std.proofs.Common.{◌≡◌, ◌≢◌, ℕ, ◌+◌, ◌/◌, ◌%◌, ◌<◌, ◌≤◌, ◌^◌, Bool, true, false, ◌&&◌, ◌==◌, cond, eqb, ltb, List, ◌∷◌, length, Some, refl, ap, sym}
 use Rattle.std.proofs.Common.{◌∙◌, arith}
-use Rattle.std.specs.Prelude.{option_and_then}
-use Rattle.std.specs.Char.{digit_value, is_digit}
-use Rattle.std.specs.Fmt.{digit_glyph}
-use Rattle.std.specs.Str.Parse.{digits_value, without_leading_plus}
+use Rattle.std.specs.{Prelude.option_and_then, Char.digit_value, Char.is_digit, Fmt.digit_glyph, Str.Parse.digits_value, Str.Parse.without_leading_plus}
 use Rattle.std.proofs.lemmas.Bool.{ltb-true, ltb-false, lt-ltb, le-ltb, ne_eqb, and_right}
 use Rattle.kmip_ttlv_types.specs.Names.{tag_of, number, numeral, without_0x, all_digits, below_tag_limit}
 use Rattle.kmip_ttlv_types.specs.Digits.{six_digits, tag_text}
@@ -40,8 +37,7 @@ and_both a b e f = rw (e, f) refl
 
 six_are_digits : (n : ℕ) → all_digits 16 (six_digits n) ≡ true
 unfolding six_digits
-six_are_digits n =
-    and_both _ _ (is_hexadecimal (n / 1048576 % 16) (omega arith)) (
+six_are_digits n = and_both _ _ (is_hexadecimal (n / 1048576 % 16) (omega arith)) (
     and_both _ _ (is_hexadecimal (n / 65536 % 16) (omega arith)) (
     and_both _ _ (is_hexadecimal (n / 4096 % 16) (omega arith)) (
     and_both _ _ (is_hexadecimal (n / 256 % 16) (omega arith)) (
@@ -50,15 +46,14 @@ six_are_digits n =
 
 six_are_number : (n : ℕ) → n < 2 ^ 24 → digits_value 16 (six_digits n) ≡ n
 unfolding six_digits
-six_are_number n small =
-    rw (
-      digit_is (n / 1048576 % 16) (omega arith),
-      digit_is (n / 65536 % 16) (omega arith),
-      digit_is (n / 4096 % 16) (omega arith),
-      digit_is (n / 256 % 16) (omega arith),
-      digit_is (n / 16 % 16) (omega arith),
-      digit_is (n % 16) (omega arith),
-    ) (omega arith)
+six_are_number n small = rw (
+  digit_is (n / 1048576 % 16) (omega arith),
+  digit_is (n / 65536 % 16) (omega arith),
+  digit_is (n / 4096 % 16) (omega arith),
+  digit_is (n / 256 % 16) (omega arith),
+  digit_is (n / 16 % 16) (omega arith),
+  digit_is (n % 16) (omega arith),
+) (omega arith)
 
 numeral_is : (ds : List ℕ) (n : ℕ) → 0 < length ds → all_digits 16 ds ≡ true → digits_value 16 ds ≡ n → n < 2 ^ 24 → numeral ds ≡ Some n
 numeral_is ds n some all is small = rw (lt-ltb 0 (length ds) some, all, is, lt-ltb n (2 ^ 32) (omega arith)) refl

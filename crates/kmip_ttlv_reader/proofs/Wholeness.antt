@@ -1,10 +1,8 @@
 -- Whole items at a place: the first of them is there, whole items follow it, and a Structure's content is whole.
 use Rattle.std.proofs.Common.{◌≡◌, ℕ, ◌+◌, ◌<◌, ◌≤◌, List, [], ◌∷◌, ◌++◌, length, drop, refl, ap, sym, ◌∙◌, subst, arith}
 use Rattle.std.proofs.lemmas.List.{take-append-drop}
-use Rattle.kmip_ttlv_types.specs.declared.typ.TtlvType.{TtlvType}
-use Rattle.kmip_ttlv_types.specs.declared.typ.TtlvType.TheVariants.{Structure}
-use Rattle.kmip_ttlv_types.specs.ItemTypes.{code, is_structure}
-use Rattle.kmip_ttlv_types.specs.Items.{Raw, Splits}
+use Rattle.kmip_ttlv_types.specs.{declared.typ.TtlvType.TtlvType, declared.typ.TtlvType.TheVariants.Structure, ItemTypes.code, ItemTypes.is_structure}
+use Rattle.kmip_ttlv_types.specs.{Items.Raw, Items.Splits}
 use Rattle.kmip_ttlv_types.specs.Places.{ItemAt, ItemsAt, code_at, length_at, size}
 use Rattle.kmip_ttlv_types.proofs.PlaceLemmas.{code_one, item_at_text, items_at_splits}
 use Rattle.kmip_ttlv_reader.specs.Wholes.{AllSplitThroughout, AreWhole, BeginsWhole, SplitThroughout, leaf_item, more_split, none_split, split_item}

@@ -1,10 +1,8 @@
 -- An error by size is only that of a message's size.
 use Rattle.std.proofs.Common.{◌≡◌, ℕ, Bool, List, inl, inr, Option, Result, Ok, Err, sym, ap, ◌∙◌, subst}
 use Rattle.std.specs.Prelude.{IfErr}
-use Rattle.kmip_ttlv_base.specs.declared.error.Error.{Error}
+use Rattle.kmip_ttlv_base.specs.{declared.error.Error.Error, Values.Value, Forms.Form}
 use Rattle.kmip_ttlv_base.specs.Errors.{Kind, exceeds_limit, kind_of, view_of_kind}
-use Rattle.kmip_ttlv_base.specs.Values.{Value}
-use Rattle.kmip_ttlv_base.specs.Forms.{Form}
 use Rattle.kmip_ttlv_reader.specs.Steps.{Fault, Outcome, gives, ends_early, fails}
 use Rattle.kmip_ttlv_reader.specs.Outcomes.{root_outcome}
 use Rattle.kmip_ttlv_reader.specs.ReadResults.{IsReadAs, IsError, IsOfBytes, seen}

@@ -2,24 +2,16 @@
 use Rattle.std.proofs.Common.{◌≡◌, ℕ, ◌+◌, ◌<◌, ◌≤◌, Bool, false, List, [], ◌++◌, ◌⊎◌, inl, inr, Option, None, Some, Result, Ok, Err, sym, ap, ◌∙◌, subst}
 use Rattle.std.proofs.Common.{length, take, drop, refl, arith, length-append, drop_at, take_all}
 use Rattle.std.proofs.lemmas.List.{take-append-le}
-use Rattle.std.specs.IoError.{error_kind}
-use Rattle.std.specs.declared.io.Error.{Error as IoFault}
-use Rattle.std.specs.declared.io.ErrorKind.TheVariants.{UnexpectedEof}
-use Rattle.std.specs.Io.KnownBytes.{Consumes}
-use Rattle.kmip_ttlv_types.specs.declared.typ.TtlvType.{TtlvType}
-use Rattle.kmip_ttlv_types.specs.ItemTypes.{type_of}
-use Rattle.kmip_ttlv_types.specs.Places.{code_at}
-use Rattle.kmip_ttlv_types.specs.Streams.{IsShort}
+use Rattle.std.specs.{IoError.error_kind, declared.io.Error.Error as IoFault, declared.io.ErrorKind.TheVariants.UnexpectedEof, Io.KnownBytes.Consumes}
+use Rattle.kmip_ttlv_types.specs.{declared.typ.TtlvType.TtlvType, ItemTypes.type_of, Places.code_at, Streams.IsShort}
 use Rattle.kmip_ttlv_base.specs.declared.error.Error.{Error}
-use Rattle.kmip_ttlv_base.specs.declared.error.MalformedTtlvError.TheVariants as malformeds
-use Rattle.kmip_ttlv_base.specs.Errors.{Kind, Location, io_error, exceeds_limit, kind_of, view_of_kind, location_of, view_of_location, malformed}
-use Rattle.kmip_ttlv_base.specs.Errors.{IsMemory}
-use Rattle.kmip_ttlv_reader.specs.Steps.{Fault}
-use Rattle.kmip_ttlv_reader.specs.ReadResults.{seen, end_fault}
+use Rattle.kmip_ttlv_base.specs.Errors.{Kind, Location, io_error, exceeds_limit, kind_of, view_of_kind, location_of, view_of_location, malformed, IsMemory}
+use Rattle.kmip_ttlv_reader.specs.{Steps.Fault, ReadResults.seen, ReadResults.end_fault}
 use Rattle.kmip_ttlv_stream.specs.StreamMessages.{message_size, size_fault, type_fault, Forbids, HasSize, behind_header, behind_tag, ArrivesUntyped, IsIoFault}
 use Rattle.kmip_ttlv_stream.specs.StreamMessages.{LackCause, no_memory, no_bytes, IsInBuffer, ArrivesOver, FailsToArrive, in_header, of_no_type, over_limit}
 use Rattle.kmip_ttlv_stream.specs.StreamMessages.{in_body, Gives, Ends, OrMemory, TakesFirst, Exactly}
 use Rattle.kmip_ttlv_stream.proofs.Fronts.{SameHeader, same_header, SameHeader-sym, HasSize-along, HasSize-least, HasSize-one, HasSize-allowed, HasSize-typed}
+use Rattle.kmip_ttlv_base.specs.declared.error.MalformedTtlvError.TheVariants as malformeds
 
 -- the bytes that were read, and those that are left
 record Parts (bytes taken : List ℕ) (new : Option (List ℕ)) : Type 0 where
@@ -109,24 +101,22 @@ lack_of a n e (no_bytes fault io (inr short)) = inr (fault, io, short.0, short.1
 header_exact : {T A : Type 0} (answers : List ℕ → Result T (Error A) → Type 0) (limit : Option ℕ) (bytes : List ℕ)
     (new reused : Option (List ℕ)) (e : Error A)
     → LackCause false (Some bytes) 8 e → Exactly answers limit bytes new reused (Err e)
-header_exact answers limit bytes new reused e cause =
-    elim (lack_of (Some bytes) 8 e cause) [
-      | inl lack ↦ memory_exact answers limit bytes new reused e lack
-      | inr w ↦
-          let short : length bytes < 8 = w.3 in
-          record {
-            in_header = λ low. ends_early w.0 e w.1 w.2;
-            untyped = λ there none. absurd (omega arith);
-            over_limit = λ there t is over. absurd (omega arith);
-            in_body = λ there n due low. absurd (omega arith);
-            whole = λ there n due enough. absurd (omega arith);
-          }
-    ]
+header_exact answers limit bytes new reused e cause = elim (lack_of (Some bytes) 8 e cause) [
+  | inl lack ↦ memory_exact answers limit bytes new reused e lack
+  | inr w ↦
+      let short : length bytes < 8 = w.3 in
+      record {
+        in_header = λ low. ends_early w.0 e w.1 w.2;
+        untyped = λ there none. absurd (omega arith);
+        over_limit = λ there t is over. absurd (omega arith);
+        in_body = λ there n due low. absurd (omega arith);
+        whole = λ there n due enough. absurd (omega arith);
+      }
+]
 
 over_place : (bytes head : List ℕ) (u t : TtlvType) → SameHeader bytes head → u ≡ t
     → behind_header head u ≡ behind_header bytes t
-over_place bytes head u t same one =
-    ap (λ v. behind_header head v) one ∙ ap (λ (n : ℕ). let l : Location = record
+over_place bytes head u t same one = ap (λ v. behind_header head v) one ∙ ap (λ (n : ℕ). let l : Location = record
     { offset = Some 8; parents = []; tag = Some n; typ = Some t } in l) (sym same.tag)
 
 over_exact : {T A : Type 0} (answers : List ℕ → Result T (Error A) → Type 0) (limit : Option ℕ) (bytes : List ℕ)

@@ -1,12 +1,9 @@
 -- A header, and the message that begins with it.
 use Rattle.std.proofs.Common.{◌≡◌, ℕ, ◌+◌, ◌-◌, ◌<◌, ◌≤◌, List, [], ◌++◌, length, get_or, Option, None, Some, sym, ap, ◌∙◌, subst, arith, length-append}
-use Rattle.std.proofs.Math.ListN.{get_or-append}
+use Rattle.std.proofs.{Math.ListN.get_or-append, KnownBytes.Consumes-trans}
 use Rattle.std.specs.Io.KnownBytes.{Consumes}
-use Rattle.std.proofs.KnownBytes.{Consumes-trans}
-use Rattle.kmip_ttlv_types.specs.declared.typ.TtlvType.{TtlvType}
-use Rattle.kmip_ttlv_types.specs.ItemTypes.{type_of}
+use Rattle.kmip_ttlv_types.specs.{declared.typ.TtlvType.TtlvType, ItemTypes.type_of, Streams.Behind}
 use Rattle.kmip_ttlv_types.specs.Places.{tag_at, code_at, length_at}
-use Rattle.kmip_ttlv_types.specs.Streams.{Behind}
 use Rattle.kmip_ttlv_stream.specs.StreamMessages.{message_size, Allows, Forbids, IsTakenUpTo, HasSize, Arrives}
 
 -- the fields of the header are those of the whole message
@@ -38,8 +35,7 @@ same_header head rest long =
 -- as many bytes are read by the whole message as by its header alone
 pub HasSize-along : (limit : Option ℕ) (xs ys : List ℕ) (n : ℕ) → SameHeader xs ys → HasSize limit xs n
     → HasSize limit ys n
-HasSize-along limit xs ys n same h =
-    subst (λ (c : ℕ). IsTakenUpTo (type_of c) limit (message_size ys) n) same.code
+HasSize-along limit xs ys n same h = subst (λ (c : ℕ). IsTakenUpTo (type_of c) limit (message_size ys) n) same.code
     (subst (λ (s : ℕ). IsTakenUpTo (type_of (code_at xs 0)) limit s n) same.size h)
 
 pub SameHeader-sym : (xs ys : List ℕ) → SameHeader xs ys → SameHeader ys xs

@@ -65,22 +65,18 @@ pub ends_with : {T A : Type 0} (answers : List ℕ → Result T (Error A) → Ty
     (old new : Option (List ℕ)) (message seen : List ℕ) (r : Result T (Error A))
     → Arrives limit old new message → seen ≡ message → answers seen r
     → Ends answers can_fail limit old new (Some message) r
-ends_with answers can_fail limit old new message seen (Ok x) comes same answer =
-    record {
-      message = message;
-      comes = comes;
-      is_in_buffer = refl;
-      answer = subst (λ (l : List ℕ). answers l (Ok x)) same
-          answer;
-    }
-ends_with answers can_fail limit old new message seen (Err e) comes same answer =
-    inl record {
-      message = message;
-      comes = comes;
-      is_in_buffer = refl;
-      answer = subst (λ (l : List ℕ). answers l (Err e))
-          same answer;
-    }
+ends_with answers can_fail limit old new message seen (Ok x) comes same answer = record {
+  message = message;
+  comes = comes;
+  is_in_buffer = refl;
+  answer = subst (λ (l : List ℕ). answers l (Ok x)) same answer;
+}
+ends_with answers can_fail limit old new message seen (Err e) comes same answer = inl record {
+  message = message;
+  comes = comes;
+  is_in_buffer = refl;
+  answer = subst (λ (l : List ℕ). answers l (Err e)) same answer;
+}
 
 fresh_stops : {A : Type 0} (can_fail : Bool) (limit : Option ℕ) (old new reused : Option (List ℕ)) (e : Error A)
     → FailsToArrive can_fail limit old new reused e → FailsToArrive can_fail limit old new None e
@@ -103,5 +99,4 @@ pub ends_fresh : {T A : Type 0} (answers : List ℕ → Result T (Error A) → T
 ends_fresh answers can_fail limit old new reused (Ok x) g = fresh_gives answers limit old new reused (Ok x) g
 ends_fresh answers can_fail limit old new reused (Err e) (inl g) =
     inl (fresh_gives answers limit old new reused (Err e) g)
-ends_fresh answers can_fail limit old new reused (Err e) (inr s) =
-    inr (fresh_stops can_fail limit old new reused e s)
+ends_fresh answers can_fail limit old new reused (Err e) (inr s) = inr (fresh_stops can_fail limit old new reused e s)

@@ -2,13 +2,10 @@
 use Rattle.std.proofs.Common.{◌≡◌, ℕ, ◌<◌, ◌≤◌, ◌^◌, List, ◌∷◌, true, false, Option, Some, None, Result, Ok, Err, IsOk, length, ap, sym, arith, refl, inl, inr}
 use Rattle.std.proofs.Common.{◌⊎◌, Global, get_or, ◌∙◌}
 use Rattle.std.specs.Prelude.{MatchResult}
-use Rattle.kmip_ttlv_types.specs.declared.error.Error.{Error}
-use Rattle.kmip_ttlv_types.specs.declared.error.Error.TheVariants as errors
-use Rattle.kmip_ttlv_types.specs.declared.typ.TtlvType.{TtlvType}
-use Rattle.kmip_ttlv_types.specs.ItemTypes.{code, type_of}
+use Rattle.kmip_ttlv_types.specs.{declared.error.Error.Error, declared.typ.TtlvType.TtlvType, ItemTypes.code, ItemTypes.type_of, Primitives.WritesLong}
+use Rattle.kmip_ttlv_types.specs.{Laws.ReadsHeaders, Laws.WritesWhereRoom}
 use Rattle.kmip_ttlv_types.specs.Headers.{ReadsNumber, ReadsType, Writes}
-use Rattle.kmip_ttlv_types.specs.Primitives.{WritesLong}
-use Rattle.kmip_ttlv_types.specs.Laws.{ReadsHeaders, WritesWhereRoom}
+use Rattle.kmip_ttlv_types.specs.declared.error.Error.TheVariants as errors
 
 true_not_false : true ≡ false → ⊥
 true_not_false e = cc

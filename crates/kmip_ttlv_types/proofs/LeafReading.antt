@@ -1,28 +1,18 @@
 -- A leaf's length, content and padding, read one after the other.
 use Rattle.std.proofs.Common.{◌≡◌, ◌≢◌, ℕ, ◌+◌, ◌^◌, ◌<◌, ◌≤◌, List, [], ◌++◌, Bool, true, false, Option, None, Some, Ok, Err, IfSome, length, take, sym, ap}
 use Rattle.std.proofs.Common.{◌∙◌, subst, arith, refl, le_refl, length-append, take_all, inl, inr, ◌⊎◌, cond}
-use Rattle.std.proofs.lemmas.Bool.{eqb-true}
-use Rattle.std.proofs.lemmas.List.{take-append-le}
-use Rattle.std.proofs.lemmas.Nat.{from_be_bytes-to_be_bytes_4}
-use Rattle.std.specs.Int.{w32, to_be_bytes}
-use Rattle.std.specs.IoError.{error_kind}
-use Rattle.std.specs.Prelude.{IsTrue}
-use Rattle.std.specs.Io.KnownBytes.{Consumes, Keeps}
-use Rattle.std.specs.declared.io.Error.{Error as IoFault}
-use Rattle.std.proofs.KnownBytes.{Consumes-trans}
-use Rattle.std.specs.declared.io.ErrorKind.TheVariants.{UnexpectedEof}
-use Rattle.kmip_ttlv_types.specs.declared.error.Error.{Error}
-use Rattle.kmip_ttlv_types.specs.declared.error.Error.TheVariants as errors
-use Rattle.kmip_ttlv_types.specs.declared.typ.TtlvType.{TtlvType}
+use Rattle.std.proofs.{lemmas.Bool.eqb-true, lemmas.List.take-append-le, lemmas.Nat.from_be_bytes-to_be_bytes_4, KnownBytes.Consumes-trans}
+use Rattle.std.specs.{Int.w32, Int.to_be_bytes, IoError.error_kind, Prelude.IsTrue, Io.KnownBytes.Consumes, Io.KnownBytes.Keeps}
+use Rattle.std.specs.{declared.io.Error.Error as IoFault, declared.io.ErrorKind.TheVariants.UnexpectedEof}
+use Rattle.kmip_ttlv_types.specs.{declared.error.Error.Error, declared.typ.TtlvType.TtlvType, ItemTypes.pad_len, ItemTypes.fixed_length, Leaves.is_valid}
+use Rattle.kmip_ttlv_types.specs.{Headers.ReadsNumber}
 use Rattle.kmip_ttlv_types.specs.declared.typ.TtlvType.TheVariants.{Structure, Integer, LongInteger, BigInteger, Enumeration, Boolean, TextString, ByteString}
 use Rattle.kmip_ttlv_types.specs.declared.typ.TtlvType.TheVariants.{DateTime, Interval}
-use Rattle.kmip_ttlv_types.specs.ItemTypes.{pad_len, fixed_length}
-use Rattle.kmip_ttlv_types.specs.Leaves.{is_valid}
 use Rattle.kmip_ttlv_types.specs.Streams.{ConsumesUpTo, IsShort, Lacks}
-use Rattle.kmip_ttlv_types.specs.Headers.{ReadsNumber}
 use Rattle.kmip_ttlv_types.specs.Primitives.{CanHaveLength, Skips, ReadsValue, ReadsLeaf, HasContent, StaysWithin, stated_length, stated_content, IsCut}
 use Rattle.kmip_ttlv_types.specs.Primitives.{HasWrongLength, HasWrongContent, length_and_content}
 use Rattle.kmip_ttlv_types.proofs.Taken.{ConsumesUpTo-after}
+use Rattle.kmip_ttlv_types.specs.declared.error.Error.TheVariants as errors
 
 -- a fact about known bytes, from the part that was consumed and the part that is left
 front_of : (a b : Option (List ℕ)) (bs : List ℕ) (P : List ℕ → Type 0) → Consumes a b bs → ((ys : List ℕ) → b ≡ Some ys → P (bs ++ ys)) → IfSome a P
@@ -163,8 +153,7 @@ module _ (T A : Type 0) (typ : TtlvType) (bytes_of : T → List ℕ) (tm cf : Bo
       wrong_content typ a b c n low taken content read long can invalid,
       within a b c n n low taken (omega arith) record {
         bytes = content;
-        within =
-            omega (arith, long);
+        within = omega (arith, long);
         consumes = read;
       },
     )

@@ -2,12 +2,9 @@
 use Rattle.std.proofs.Common.{ℕ, ◌+◌, ◌^◌, ◌<◌, ◌≤◌, List, ◌++◌, Option, None, Some, Result, Ok, Err, length, sym, subst, arith, length-append}
 use Rattle.std.specs.Io.KnownBytes.{Appends}
 use Rattle.std.proofs.KnownBytes.{Appends-trans}
-use Rattle.kmip_ttlv_types.specs.declared.error.Error.{Error}
-use Rattle.kmip_ttlv_types.specs.declared.error.Error.TheVariants as errors
-use Rattle.kmip_ttlv_types.specs.Streams.{UsesRoom, IsTight}
-use Rattle.kmip_ttlv_types.specs.Headers.{Writes}
-use Rattle.kmip_ttlv_types.specs.Primitives.{WritesLong}
+use Rattle.kmip_ttlv_types.specs.{declared.error.Error.Error, Streams.UsesRoom, Streams.IsTight, Headers.Writes, Primitives.WritesLong}
 use Rattle.kmip_ttlv_types.proofs.Taken.{AppendsFront-first, AppendsFront-second}
+use Rattle.kmip_ttlv_types.specs.declared.error.Error.TheVariants as errors
 
 -- room that is used twice
 UsesRoom-trans : (r s t : Option ℕ) (n m : ℕ) → UsesRoom r s n → UsesRoom s t m → UsesRoom r t (n + m)
@@ -87,8 +84,7 @@ module _ (T A : Type 0) (n : ℕ) (low : n < 2 ^ 32) where
     second_fails P ys zs c t (errors.IoError e) (small, front, tight) = (
       low,
       AppendsFront-second a b c xs (ys ++ zs) written (AppendsFront-first b c ys zs front),
-      IsTight-after r s _ _ _ used tight
-          (omega (arith, length-append xs (ys ++ zs), length-append ys zs)),
+      IsTight-after r s _ _ _ used tight (omega (arith, length-append xs (ys ++ zs), length-append ys zs)),
     )
     second_fails P ys zs c t errors.LengthOverflow (long, keeps) = absurd (omega (arith, low, long))
     second_fails P ys zs c t (errors.InvalidTtlvTag text) h = absurd h

@@ -1,11 +1,10 @@
 -- The number of hexadecimal digits, read one by one.
-use Rattle.std.proofs.Common.{◌≡◌, ℕ, zero, suc, ◌+◌, ◌*◌, ◌^◌, ◌<◌, ◌≤◌, List, [], ◌∷◌, Bool, true, false, ◌&&◌, ltb, Some, None}
-use Rattle.std.proofs.Common.{length, take, get_or, refl, Decides, arith}
+use Rattle.std.proofs.Common.{◌≡◌, ℕ, zero, suc, ◌+◌, ◌*◌, ◌^◌, ◌<◌, ◌≤◌, List, [], ◌∷◌, Bool, true, false, ◌&&◌, ltb, Some, None, length, take, get_or, refl}
+use Rattle.std.proofs.Common.{Decides, arith}
 use Rattle.std.specs.Char.{digit_value}
 use Rattle.std.specs.Str.Parse.{AllDigits, IsNumeral, digits_value}
-use Rattle.std.proofs.lemmas.Bool.Decides.{Decides-and, Decides-ltb}
-use Rattle.std.proofs.lemmas.Int.Digits.{digits_more, digits_value_more}
-use Rattle.std.proofs.lemmas.Str.Parse.{digits_value-take-le}
+use Rattle.std.proofs.lemmas.{Bool.Decides.Decides-and, Bool.Decides.Decides-ltb, Int.Digits.digits_more, Int.Digits.digits_value_more}
+use Rattle.std.proofs.lemmas.{Str.Parse.digits_value-take-le}
 use Rattle.kmip_ttlv_types.specs.Names.{all_digits, numeral}
 
 digits_decides : (ds : List ℕ) → Decides (all_digits 16 ds) (AllDigits 16 ds)

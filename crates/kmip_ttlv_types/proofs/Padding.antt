@@ -1,8 +1,7 @@
 -- Bytes that extend others to a multiple of eight.
 use Rattle.std.proofs.Common.{◌≡◌, ℕ, ◌+◌, ◌<◌, List, ◌++◌, length, take, replicate, ap, ◌∙◌, arith, length-append}
 use Rattle.std.proofs.lemmas.List.{take-replicate, length-replicate}
-use Rattle.kmip_ttlv_types.specs.ItemTypes.{pad_len}
-use Rattle.kmip_ttlv_types.specs.Primitives.{sign_byte, sign_extended}
+use Rattle.kmip_ttlv_types.specs.{ItemTypes.pad_len, Primitives.sign_byte, Primitives.sign_extended}
 
 -- a front of eight equal bytes is the padding
 pub take-eight : (n len b : ℕ) → n ≡ pad_len len → n < 8 → take n (replicate 8 b) ≡ replicate (pad_len len) b

@@ -1,11 +1,9 @@
 -- What is at an offset, and the items that split bytes.
 use Rattle.std.proofs.Common.{◌≡◌, ℕ, true, false, ◌&&◌, ltb, zero, suc, ◌+◌, ◌-◌, ◌^◌, ◌<◌, ◌≤◌, List, [], ◌∷◌, ◌++◌, length, get_or, take, drop, Some, refl}
 use Rattle.std.proofs.Common.{sym, ap, ◌∙◌, append_assoc, arith, add-zero}
-use Rattle.std.proofs.lemmas.Bool.{lt-ltb, ltb-true}
-use Rattle.std.proofs.Math.Seq.{take-add}
+use Rattle.std.proofs.{lemmas.Bool.lt-ltb, lemmas.Bool.ltb-true, Math.Seq.take-add, lemmas.Nat.be_bytes_4, lemmas.Nat.from_be_bytes-to_be_bytes_4}
 use Rattle.std.specs.Int.{w32, to_be_bytes, from_be_bytes}
 use Rattle.std.proofs.lemmas.List.{take_at, drop_at, length-append, length-drop, get_or-drop, drop-drop, length-take-le, append-nil}
-use Rattle.std.proofs.lemmas.Nat.{be_bytes_4, from_be_bytes-to_be_bytes_4}
 use Rattle.kmip_ttlv_types.specs.ItemTypes.{code, padding, type_of}
 use Rattle.kmip_ttlv_types.specs.Items.{IsTextOf, Raw, Splits, header}
 use Rattle.kmip_ttlv_types.specs.Places.{ItemAt, ItemsAt, all_below, is_plain, length_at, size, tag_at}
@@ -50,8 +48,7 @@ plain_both a bs lt e = rw (lt-ltb a 256 lt) e
 -- one byte and the others
 plain_split : (a : ℕ) (bs : List ℕ) → all_below (a ∷ bs) ≡ true → (a < 256) × (all_below bs ≡ true)
 plain_split a bs e = elim (ltb a 256) as (λ t. ltb a 256 ≡ t → (t && all_below bs) ≡ true → (a < 256) × (all_below bs ≡ true)) [
-  | true ↦
-      λ t h. (ltb-true _ _ t, h)
+  | true ↦ λ t h. (ltb-true _ _ t, h)
   | false ↦ λ t h. absurd cc
 ] refl e
 
@@ -71,8 +68,7 @@ code_fits Interval = omega arith
 -- eight bytes
 plain_eight : (a b c d e f g h : ℕ) → a < 256 → b < 256 → c < 256 → d < 256 → e < 256 → f < 256 → g < 256 → h < 256
     → all_below (a ∷ b ∷ c ∷ d ∷ e ∷ f ∷ g ∷ h ∷ []) ≡ true
-plain_eight a b c d e f g h ka kb kc kd ke kf kg kh =
-    plain_both a (b ∷ c ∷ d ∷ e ∷ f ∷ g ∷ h ∷ []) ka
+plain_eight a b c d e f g h ka kb kc kd ke kf kg kh = plain_both a (b ∷ c ∷ d ∷ e ∷ f ∷ g ∷ h ∷ []) ka
     (plain_both b (c ∷ d ∷ e ∷ f ∷ g ∷ h ∷ []) kb
     (plain_both c (d ∷ e ∷ f ∷ g ∷ h ∷ []) kc
     (plain_both d (e ∷ f ∷ g ∷ h ∷ []) kd
@@ -284,7 +280,6 @@ items_one w p e (x ∷ xs) (y ∷ ys) le a b =
 
 -- at most one list splits the bytes
 pub splits_one : (bytes : List ℕ) (xs ys : List Raw) → Splits xs bytes → Splits ys bytes → xs ≡ ys
-splits_one bytes xs ys a b =
-    items_one bytes 0 (length bytes) xs ys (omega arith)
+splits_one bytes xs ys a b = items_one bytes 0 (length bytes) xs ys (omega arith)
     (items_at_splits bytes 0 (length bytes) xs [] bytes (omega arith) (sym (append-nil bytes)) (omega arith) a)
     (items_at_splits bytes 0 (length bytes) ys [] bytes (omega arith) (sym (append-nil bytes)) (omega arith) b)

@@ -2,18 +2,14 @@
 use Rattle.std.proofs.Common.{◌≡◌, ◌≢◌, ℕ, ◌+◌, ◌^◌, ◌<◌, List, [], ◌∷◌, ◌++◌, Bool, true, false, Option, Some, None, Result, Ok, Err, IfSome, length, take}
 use Rattle.std.proofs.Common.{drop, replicate, sym, ap, ◌∙◌, subst, arith, refl, le_refl, length-append, take_all, append_assoc, inl, inr, Global}
 use Rattle.std.proofs.lemmas.List.{take-append-le, length-replicate}
-use Rattle.std.specs.Prelude.{MatchResult}
-use Rattle.std.specs.Int.{w32, to_be_bytes}
-use Rattle.kmip_ttlv_types.specs.declared.error.Error.{Error}
-use Rattle.kmip_ttlv_types.specs.declared.error.Error.TheVariants as errors
-use Rattle.kmip_ttlv_types.specs.declared.typ.TtlvType.{TtlvType}
+use Rattle.std.specs.{Prelude.MatchResult, Int.w32, Int.to_be_bytes}
+use Rattle.kmip_ttlv_types.specs.{declared.error.Error.Error, declared.typ.TtlvType.TtlvType, ItemTypes.pad_len, ItemTypes.fixed_length, Leaves.is_valid}
 use Rattle.kmip_ttlv_types.specs.declared.typ.TtlvType.TheVariants.{Structure, Integer, LongInteger, BigInteger, Enumeration, Boolean, TextString, ByteString}
 use Rattle.kmip_ttlv_types.specs.declared.typ.TtlvType.TheVariants.{DateTime, Interval}
-use Rattle.kmip_ttlv_types.specs.ItemTypes.{pad_len, fixed_length}
-use Rattle.kmip_ttlv_types.specs.Leaves.{is_valid}
 use Rattle.kmip_ttlv_types.specs.Laws.{FailsToRead, IsReadBack, ReadsWholeLeaves}
 use Rattle.kmip_ttlv_types.specs.Primitives.{content_of, length_and_content, CanHaveLength, ReadsLeaf, ConsumesLeaf, IsCut, stated_length, stated_content}
 use Rattle.kmip_ttlv_types.proofs.LeafReading.{stated, length-valid}
+use Rattle.kmip_ttlv_types.specs.declared.error.Error.TheVariants as errors
 
 -- the content that is written is valid
 content-valid : (typ : TtlvType) (bytes : List ℕ) → is_valid typ bytes ≡ true → is_valid typ (content_of typ bytes) ≡ true
@@ -33,8 +29,7 @@ true_not_false e = cc
 
 -- two parts that are each of one length, in front of others, are the same
 same_front : (xs ys zs ws : List ℕ) → length xs ≡ length ys → xs ++ zs ≡ ys ++ ws → xs ≡ ys
-same_front xs ys zs ws long e =
-    sym (take-append-le (length xs) xs zs (le_refl _) ∙ take_all (length xs) xs (le_refl _))
+same_front xs ys zs ws long e = sym (take-append-le (length xs) xs zs (le_refl _) ∙ take_all (length xs) xs (le_refl _))
     ∙ ap (take (length xs)) e ∙ ap (λ n. take n (ys ++ ws)) long ∙ take-append-le (length ys) ys ws (le_refl _) ∙ take_all (length ys) ys (le_refl _)
 
 same_rest : (xs ys zs ws : List ℕ) → length xs ≡ length ys → xs ++ zs ≡ ys ++ ws → zs ≡ ws

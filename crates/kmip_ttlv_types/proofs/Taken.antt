@@ -1,13 +1,12 @@
 -- What several reads or writes in a row do to known bytes.
 use Rattle.std.proofs.Common.{◌≡◌, ℕ, ◌+◌, ◌-◌, ◌<◌, ◌≤◌, List, ◌++◌, Option, None, Some, Result, Ok, Err, IfOk, length, take, drop, sym, ap, ◌∙◌, subst, arith}
 use Rattle.std.proofs.Common.{take-add, take_all, length-append, length-drop, append-nil, drop_at, refl, le_refl, Bool, inl, inr, take-append-drop}
-use Rattle.std.proofs.lemmas.List.{take-append-le, take-take}
+use Rattle.std.proofs.{lemmas.List.take-append-le, lemmas.List.take-take, KnownBytes.Consumes-trans, KnownBytes.Appends-trans}
 use Rattle.std.specs.Io.{ReadsAtMost}
 use Rattle.std.specs.Io.KnownBytes.{Appends, Consumes, IsAtEnd}
-use Rattle.std.proofs.KnownBytes.{Consumes-trans, Appends-trans}
 use Rattle.kmip_ttlv_types.specs.declared.error.Error.{Error}
-use Rattle.kmip_ttlv_types.specs.declared.error.Error.TheVariants as errors
 use Rattle.kmip_ttlv_types.specs.Streams.{IsShort, AppendsFront, ConsumesUpTo, Lacks, FillsAll, Behind, TakesMore}
+use Rattle.kmip_ttlv_types.specs.declared.error.Error.TheVariants as errors
 
 take-append_more : (xs ys : List ℕ) (n : ℕ) → take (length xs + n) (xs ++ ys) ≡ xs ++ take n ys
 take-append_more xs ys n =

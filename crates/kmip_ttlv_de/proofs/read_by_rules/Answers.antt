@@ -1,5 +1,4 @@
-use Rattle.kmip_ttlv_reader.proofs.Founding.{found_at, found_root}
-use Rattle.kmip_ttlv_reader.proofs.Giving.{given_at, given_root}
+use Rattle.kmip_ttlv_reader.proofs.{Founding.found_at, Founding.found_root, Giving.given_at, Giving.given_root}
 use Rattle.kmip_ttlv_de.proofs.read_by_rules.Goals as goal
 
 pub returns : goal.returns

@@ -1,6 +1,4 @@
-use Rattle.kmip_ttlv_stream.proofs.BySize.{by_size}
-use Rattle.kmip_ttlv_stream.proofs.Exact.{exact}
-use Rattle.kmip_ttlv_stream.proofs.Stopping.{ends_fresh}
+use Rattle.kmip_ttlv_stream.proofs.{BySize.by_size, Exact.exact, Stopping.ends_fresh}
 use Rattle.kmip_ttlv_stream.proofs.from_reader.Goals as goal
 
 pub returns-in-Reused-clause-limit : goal.returns-in-Reused-clause-limit
@@ -17,6 +15,5 @@ pub returns-in-Fresh-clause-limit : goal.returns-in-Fresh-clause-limit
 returns-in-Fresh-clause-limit g c = by_size _ _ _ _ _ _ _ c.read_message-in-Fresh.result c.read_message-in-Fresh.ensures
 
 pub returns-in-Fresh-clause-exact : goal.returns-in-Fresh-clause-exact
-returns-in-Fresh-clause-exact g c =
-    rw (c.in-Fresh.is) (exact _ _ _ _ _ _ _
+returns-in-Fresh-clause-exact g c = rw (c.in-Fresh.is) (exact _ _ _ _ _ _ _
     (ends_fresh _ _ _ _ _ _ c.read_message-in-Fresh.result c.read_message-in-Fresh.ensures))

@@ -1,5 +1,4 @@
-use Rattle.std.proofs.Common.{inr}
-use Rattle.std.proofs.lemmas.Result.{err_from_is_err_and}
+use Rattle.std.proofs.{Common.inr, lemmas.Result.err_from_is_err_and}
 use Rattle.kmip_ttlv_stream.proofs.Stopping.{ends_with}
 use Rattle.kmip_ttlv_stream.proofs.read_message.Goals as goal
 

@@ -1,7 +1,6 @@
 use Rattle.std.proofs.Common.{◌∙◌, arith, sym}
-use Rattle.hex_to_txt_run.proofs.Cuts.{cut}
+use Rattle.hex_to_txt_run.proofs.{Cuts.cut, input.cut_at_end.Goals.then-loop-end-test+else-is_break, input.cut_at_end.Goals.else-loop-end-test}
 use Rattle.hex_to_txt_run.proofs.input.cut_at_end.Goals as goal
-use Rattle.hex_to_txt_run.proofs.input.cut_at_end.Goals.{then-loop-end-test+else-is_break, else-loop-end-test}
 
 pub returns : goal.returns
 returns c =

@@ -1,8 +1,6 @@
 use Rattle.std.proofs.Common.{sym, subst, List, ℕ}
-use Rattle.std.proofs.lemmas.Result.{err_from_is_err_and}
-use Rattle.std.proofs.KnownBytes.{Keeps-refl}
-use Rattle.hex_to_txt_run.specs.Inputs.{TakesAll}
-use Rattle.hex_to_txt_run.specs.Reasons.{reason_of}
+use Rattle.std.proofs.{lemmas.Result.err_from_is_err_and, KnownBytes.Keeps-refl}
+use Rattle.hex_to_txt_run.specs.{Inputs.TakesAll, Reasons.reason_of}
 use Rattle.hex_to_txt_run.proofs.Ends.{returned}
 use Rattle.hex_to_txt_run.proofs.run.respond.Goals as goal
 

@@ -1,6 +1,5 @@
 use Rattle.std.proofs.Common.{◌∙◌}
-use Rattle.hex_to_txt_run.proofs.PairItems.{pair_written, pair_fails}
-use Rattle.hex_to_txt_run.proofs.Failures.{is_memory}
+use Rattle.hex_to_txt_run.proofs.{PairItems.pair_written, PairItems.pair_fails, Failures.is_memory}
 use Rattle.hex_to_txt_run.proofs.texts.pair_bytes.Goals as goal
 
 pub returns-in-Ok : goal.returns-in-Ok

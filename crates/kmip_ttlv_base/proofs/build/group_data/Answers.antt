@@ -1,14 +1,11 @@
 use Rattle.std.proofs.Common.{◌∙◌, sym, ap, map}
 use Rattle.kmip_ttlv_base.specs.Values.{view, some_value, newtype_value, newtype_variant_value}
-use Rattle.kmip_ttlv_base.specs.Visits.{around}
-use Rattle.kmip_ttlv_base.specs.Builds.{group_value}
-use Rattle.kmip_ttlv_base.proofs.Views.{view-Some, view-Seq, view-Struct, view-Newtype, view-NewtypeVariant}
-use Rattle.kmip_ttlv_base.proofs.Views.{view-TupleVariant}
+use Rattle.kmip_ttlv_base.specs.{Visits.around, Builds.group_value}
+use Rattle.kmip_ttlv_base.proofs.Views.{view-Some, view-Seq, view-Struct, view-Newtype, view-NewtypeVariant, view-TupleVariant}
 use Rattle.kmip_ttlv_base.proofs.build.group_data.Goals as goal
 
 pub returns-in_ok-new-in-Some : goal.returns-in_ok-new-in-Some
-returns-in_ok-new-in-Some g c =
-    view-Some _ ∙ ap some_value (ap view c.in_ok-new-in-Some.ensures.ok ∙ c.first.ensures)
+returns-in_ok-new-in-Some g c = view-Some _ ∙ ap some_value (ap view c.in_ok-new-in-Some.ensures.ok ∙ c.first.ensures)
     ∙ ap (λ a. group_value (around a) (map view c.args.values.items)) (sym c.in-Some.is)
 
 pub returns-in-Seq : goal.returns-in-Seq
@@ -19,15 +16,12 @@ returns-in-Struct g c =
     view-Struct _ _ ∙ ap (λ a. group_value (around a) (map view c.args.values.items)) (sym c.in-Struct.is)
 
 pub returns-in_ok-new-in-Newtype : goal.returns-in_ok-new-in-Newtype
-returns-in_ok-new-in-Newtype g c =
-    view-Newtype _ _
-    ∙ ap (newtype_value c.in-Newtype.name.now)
+returns-in_ok-new-in-Newtype g c = view-Newtype _ _ ∙ ap (newtype_value c.in-Newtype.name.now)
     (ap view c.in_ok-new-in-Newtype.ensures.ok ∙ c.first-in-Newtype.ensures)
     ∙ ap (λ a. group_value (around a) (map view c.args.values.items)) (sym c.in-Newtype.is)
 
 pub returns-in_ok-new-in-NewtypeVariant : goal.returns-in_ok-new-in-NewtypeVariant
-returns-in_ok-new-in-NewtypeVariant g c =
-    view-NewtypeVariant _ _ _
+returns-in_ok-new-in-NewtypeVariant g c = view-NewtypeVariant _ _ _
     ∙ ap (newtype_variant_value c.in-NewtypeVariant.name.now c.in-NewtypeVariant.variant.now)
     (ap view c.in_ok-new-in-NewtypeVariant.ensures.ok ∙ c.first-in-NewtypeVariant.ensures)
     ∙ ap (λ a. group_value (around a) (map view c.args.values.items)) (sym c.in-NewtypeVariant.is)

@@ -1,8 +1,6 @@
 use Rattle.std.proofs.Common.{◌≡◌, ℕ, ◌+◌, ◌<◌, List, [], ◌∷◌, ◌++◌, length, take, get_or, codes, sym, ◌∙◌, ap, rules}
-use Rattle.std.proofs.lemmas.Grind.{put_two}
-use Rattle.std.proofs.lemmas.List.{take_more, flat_map_more}
-use Rattle.std.specs.List.{flat_map}
-use Rattle.std.specs.Fmt.{HasWritten}
+use Rattle.std.proofs.lemmas.{Grind.put_two, List.take_more, List.flat_map_more}
+use Rattle.std.specs.{List.flat_map, Fmt.HasWritten}
 use Rattle.kmip_ttlv_types.specs.Digits.{tag_text}
 use Rattle.kmip_ttlv_base.specs.LocationTexts.{more_tags}
 use Rattle.kmip_ttlv_base.proofs.location.write_more_tags.Goals as goal
@@ -11,8 +9,7 @@ use Rattle.kmip_ttlv_base.proofs.location.write_more_tags.Goals as goal
 more_tags-take : (tags : List ℕ) (i t : ℕ) → i < length tags → t ≡ get_or tags i t → more_tags (take i tags) ++ (codes " > " ++ tag_text t) ≡ more_tags
     (take (i + 1) tags)
 unfolding more_tags
-more_tags-take tags i t low is =
-    flat_map_more (λ t. codes " > " ++ tag_text t) [] (take i tags) t
+more_tags-take tags i t low is = flat_map_more (λ t. codes " > " ++ tag_text t) [] (take i tags) t
     ∙ ap (flat_map (λ t. codes " > " ++ tag_text t)) (sym (take_more tags i t low ∙ ap (λ x. take i tags ++ x ∷ []) (sym is)))
 
 pub loop-tag-init : goal.loop-tag-init

@@ -1,6 +1,5 @@
 use Rattle.std.proofs.Common.{drop, map}
-use Rattle.kmip_ttlv_base.specs.Values.{values_of}
-use Rattle.kmip_ttlv_base.specs.Visits.{ReceivesEach}
+use Rattle.kmip_ttlv_base.specs.{Values.values_of, Visits.ReceivesEach}
 use Rattle.kmip_ttlv_base.proofs.parts.each.Given as goal
 
 -- the events of the values that are left complete those of all values

@@ -1,6 +1,5 @@
 use Rattle.std.proofs.Common.{◌≡◌, ◌+◌, ◌∷◌, drop, OnOk, sym, ap, ◌∙◌, subst, arith}
-use Rattle.std.proofs.lemmas.List.{drop_more, drop_all}
-use Rattle.std.proofs.lemmas.Grind.{common_steps}
+use Rattle.std.proofs.lemmas.{List.drop_more, List.drop_all, Grind.common_steps}
 use Rattle.kmip_ttlv_base.specs.declared.shape.Data.{the_lemmas}
 use Rattle.kmip_ttlv_base.specs.Values.{view, views, seq_value, struct_value, tuple_variant_value}
 use Rattle.kmip_ttlv_base.specs.Visits.{Receives, ReceivesEach, visited}

@@ -1,6 +1,5 @@
 use Rattle.std.proofs.Common.{drop}
-use Rattle.kmip_ttlv_base.specs.Values.{views}
-use Rattle.kmip_ttlv_base.specs.Visits.{ReceivesEach}
+use Rattle.kmip_ttlv_base.specs.{Values.views, Visits.ReceivesEach}
 use Rattle.kmip_ttlv_base.proofs.send.+send.Given as goal
 
 -- the events of the values that are left complete those of all values

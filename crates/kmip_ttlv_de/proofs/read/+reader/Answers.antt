@@ -1,7 +1,5 @@
 use Rattle.std.proofs.Common.{◌≡◌, suc, ◌+◌, ◌-◌, length, ◌∷◌, ◌++◌, [], ap, ◌∙◌, arith, refl}
-use Rattle.std.proofs.lemmas.Result.{err_from_is_err_and}
-use Rattle.std.proofs.lemmas.List.{drop_all}
-use Rattle.kmip_ttlv_de.proofs.read.+reader.Goals as goal
+use Rattle.std.proofs.lemmas.{Result.err_from_is_err_and, List.drop_all}
 use Rattle.kmip_ttlv_base.specs.Forms.{fields_of, form_of, forms_of, content_of, tuple}
 use Rattle.kmip_ttlv_reader.specs.Steps.{gives, mapped, within}
 use Rattle.kmip_ttlv_reader.specs.Outcomes.{outcome, fields_outcome, run_outcome, seq_outcome, struct_outcome, all_outcome, forms_outcome, tuple_outcome}
@@ -13,6 +11,7 @@ use Rattle.kmip_ttlv_reader.proofs.Steps.{failure_then}
 use Rattle.kmip_ttlv_reader.proofs.Loops.{with_front, front_none, fields_step, fields_fails, fields_done, run_step, run_fails, run_stops, run_done, more_steps}
 use Rattle.kmip_ttlv_reader.proofs.Loops.{struct_is, parts_step, parts_fails, parts_done, enum_is, enum_chosen, tuple_fails, tuple_surplus, tuple_done}
 use Rattle.kmip_ttlv_reader.proofs.Loops.{content_is}
+use Rattle.kmip_ttlv_de.proofs.read.+reader.Goals as goal
 
 pub read_fields-loop-field-init : goal.read_fields-loop-field-init
 read_fields-loop-field-init g t c = (
@@ -159,13 +158,12 @@ read_shape-returns-in_err-fields-in-Struct-clause-read g t c =
     c.args.scope.now.end) _ _ (rw c.deref-in-Struct.ensures.value at c.in_err-fields-in-Struct.ensures.read))
 
 pub read_shape-returns-in_ok-fields-in-Struct-clause-read : goal.read_shape-returns-in_ok-fields-in-Struct-clause-read
-read_shape-returns-in_ok-fields-in-Struct-clause-read g t c =
-    rw (
-      c.in-Struct.is,
-      form_of-Struct c.in-Struct.name c.in-Struct.fields c.in-Struct.deny_unknown,
-      struct_is,
-      view-Struct c.in-Struct.name c.in_ok-fields-in-Struct.fields,
-    )
+read_shape-returns-in_ok-fields-in-Struct-clause-read g t c = rw (
+  c.in-Struct.is,
+  form_of-Struct c.in-Struct.name c.in-Struct.fields c.in-Struct.deny_unknown,
+  struct_is,
+  view-Struct c.in-Struct.name c.in_ok-fields-in-Struct.fields,
+)
     (ap (mapped (struct_value c.in-Struct.name.now)) (rw c.deref-in-Struct.ensures.value at c.in_ok-fields-in-Struct.ensures.read))
 
 pub read_struct-returns-in-Err-clause-read : goal.read_struct-returns-in-Err-clause-read

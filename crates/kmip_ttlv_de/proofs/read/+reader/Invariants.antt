@@ -18,8 +18,7 @@ invariant-read_parts-loop-shape g l =
     × (l.pos ≤ l.next) × (l.next ≤ l.scope.end) × (l.next ≤ length l.scope.bytes.now)
 
 abbrev pub invariant-read_seq-loop-values : goal.invariant-read_seq-loop-values
-invariant-read_seq-loop-values g l =
-    (n : ℕ)
+invariant-read_seq-loop-values g l = (n : ℕ)
     × (seq_outcome (outcome (form_of l.shape)) l.scope.bytes.now l.scope.owner l.fn.stored l.pos l.scope.end ≡ with_front (views l.values.items)
     (run_outcome (suc n) (outcome (form_of l.shape)) l.pos l.scope.bytes.now l.scope.owner l.stored l.next l.scope.end))
     × (length l.scope.bytes.now ≤ n + l.next) × (l.pos + 8 ≤ l.next) × (l.next ≤ l.scope.end) × (l.next ≤ length l.scope.bytes.now)

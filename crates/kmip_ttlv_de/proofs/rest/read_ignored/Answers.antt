@@ -1,8 +1,7 @@
 use Rattle.std.proofs.Common.{rules, ◌≡◌, true, sym, ◌∙◌}
 use Rattle.std.proofs.lemmas.Result.{err_from_is_err_and}
 use Rattle.kmip_ttlv_base.specs.Forms.{fields_of}
-use Rattle.kmip_ttlv_reader.specs.Reads.{has_fields}
-use Rattle.kmip_ttlv_reader.specs.Outcomes.{ignored, item_end}
+use Rattle.kmip_ttlv_reader.specs.{Reads.has_fields, Outcomes.ignored, Outcomes.item_end}
 use Rattle.kmip_ttlv_reader.proofs.Steps.{failure_then}
 use Rattle.kmip_ttlv_de.proofs.rest.read_ignored.Goals as goal
 

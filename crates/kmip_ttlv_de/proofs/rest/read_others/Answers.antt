@@ -1,10 +1,9 @@
 use Rattle.std.proofs.Common.{◌≡◌, suc, ◌-◌, length, ap, ◌∙◌, arith, refl}
-use Rattle.std.proofs.lemmas.Result.{err_from_is_err_and}
-use Rattle.std.proofs.lemmas.Bool.{lt-ltb, le-ltb}
-use Rattle.kmip_ttlv_de.proofs.rest.read_others.Goals as goal
+use Rattle.std.proofs.lemmas.{Result.err_from_is_err_and, Bool.lt-ltb, Bool.le-ltb}
 use Rattle.kmip_ttlv_base.specs.Forms.{fields_of}
 use Rattle.kmip_ttlv_reader.specs.Outcomes.{rest_outcome}
 use Rattle.kmip_ttlv_reader.proofs.Loops.{rest_step, rest_fails, rest_done, more_steps}
+use Rattle.kmip_ttlv_de.proofs.rest.read_others.Goals as goal
 
 pub loop-next-init : goal.loop-next-init
 loop-next-init g c = (length c.args.scope.now.bytes.now, refl, omega arith, omega arith, omega arith)

@@ -4,8 +4,7 @@ use Rattle.kmip_ttlv_base.specs.Forms.{fields_of}
 use Rattle.kmip_ttlv_reader.specs.Outcomes.{rest_outcome}
 
 abbrev pub invariant-loop-next : goal.invariant-loop-next
-invariant-loop-next g l =
-    (n : ℕ)
+invariant-loop-next g l = (n : ℕ)
     × (rest_outcome (suc (length l.scope.bytes.now)) (fields_of l.fields) l.deny l.scope.bytes.now l.scope.owner l.pos l.scope.end ≡ rest_outcome (suc n)
     (fields_of l.fields) l.deny l.scope.bytes.now l.scope.owner l.next l.scope.end)
     × (length l.scope.bytes.now ≤ n + l.next) × (l.next ≤ l.scope.end) × (l.next ≤ length l.scope.bytes.now)

@@ -1,5 +1,4 @@
-use Rattle.std.proofs.Common.{length}
-use Rattle.std.proofs.lemmas.Bool.{le-ltb}
+use Rattle.std.proofs.{Common.length, lemmas.Bool.le-ltb}
 use Rattle.kmip_ttlv_base.specs.Forms.{fields_of}
 use Rattle.kmip_ttlv_reader.proofs.Loops.{rest_done}
 use Rattle.kmip_ttlv_de.proofs.rest.read_rest.Goals as goal

@@ -1,13 +1,8 @@
-use Rattle.std.proofs.Common.{ap}
-use Rattle.std.proofs.lemmas.Result.{err_from_is_err_and}
-use Rattle.kmip_ttlv_base.specs.Forms.{fields_of}
-use Rattle.kmip_ttlv_base.specs.Values.{struct_value}
-use Rattle.kmip_ttlv_base.proofs.Views.{view-Struct}
-use Rattle.kmip_ttlv_base.proofs.Shapes.{form_of-Struct}
-use Rattle.kmip_ttlv_reader.specs.Steps.{◌>>=◌, gives}
-use Rattle.kmip_ttlv_reader.specs.Outcomes.{first_outcome, fields_outcome}
-use Rattle.kmip_ttlv_reader.proofs.Loops.{root_struct_is}
-use Rattle.kmip_ttlv_reader.proofs.Steps.{failure_then}
+use Rattle.std.proofs.{Common.ap, lemmas.Result.err_from_is_err_and}
+use Rattle.kmip_ttlv_base.specs.{Forms.fields_of, Values.struct_value}
+use Rattle.kmip_ttlv_base.proofs.{Views.view-Struct, Shapes.form_of-Struct}
+use Rattle.kmip_ttlv_reader.specs.{Steps.◌>>=◌, Steps.gives, Outcomes.first_outcome, Outcomes.fields_outcome}
+use Rattle.kmip_ttlv_reader.proofs.{Loops.root_struct_is, Steps.failure_then}
 use Rattle.kmip_ttlv_de.proofs.root.+read_message.Goals as goal
 
 pub returns-in_err-fields-in-Struct : goal.returns-in_err-fields-in-Struct
@@ -21,13 +16,12 @@ returns-in_err-fields-in-Struct g t c =
     }
 
 pub returns-in_ok-fields-in-Struct : goal.returns-in_ok-fields-in-Struct
-returns-in_ok-fields-in-Struct g t c =
-    record {
-      step = rw (
-        c.in-Struct.is,
-        form_of-Struct c.in-Struct.name c.in-Struct.fields c.in-Struct.deny_unknown,
-        root_struct_is,
-        view-Struct c.in-Struct.name c.in_ok-fields-in-Struct.fields,
-      ) (ap (λ o. o >>= λ vs. gives (struct_value c.in-Struct.name.now vs))
-          (rw c.deref-in-Struct.ensures.value at c.in_ok-fields-in-Struct.ensures.step));
-    }
+returns-in_ok-fields-in-Struct g t c = record {
+  step = rw (
+    c.in-Struct.is,
+    form_of-Struct c.in-Struct.name c.in-Struct.fields c.in-Struct.deny_unknown,
+    root_struct_is,
+    view-Struct c.in-Struct.name c.in_ok-fields-in-Struct.fields,
+  ) (ap (λ o. o >>= λ vs. gives (struct_value c.in-Struct.name.now vs))
+      (rw c.deref-in-Struct.ensures.value at c.in_ok-fields-in-Struct.ensures.step));
+}

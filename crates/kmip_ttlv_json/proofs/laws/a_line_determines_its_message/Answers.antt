@@ -1,6 +1,5 @@
 use Rattle.std.proofs.Common.{ℕ, List, ◌<◌, length, get_or, inl, inr, arith}
-use Rattle.std.proofs.lemmas.Bool.{cases_lt}
-use Rattle.std.proofs.lemmas.List.{get_or_past}
+use Rattle.std.proofs.lemmas.{Bool.cases_lt, List.get_or_past}
 use Rattle.kmip_ttlv_items.specs.ItemWalks.{AreBytes}
 use Rattle.kmip_ttlv_json.proofs.Determining.{determines_all}
 use Rattle.kmip_ttlv_json.proofs.laws.a_line_determines_its_message.Goals as goal

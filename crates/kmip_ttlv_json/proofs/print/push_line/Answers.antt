@@ -1,8 +1,6 @@
 use Rattle.std.proofs.Common.{◌∙◌, ◌<◌, ℕ, List, [], ◌∷◌, ◌++◌, get_or, refl, ap, subst, arith}
 use Rattle.std.specs.Prelude.{codes, None}
-use Rattle.kmip_ttlv_items.specs.Enclosing.{open_ends}
-use Rattle.kmip_ttlv_items.specs.ItemWalks.{Ended}
-use Rattle.kmip_ttlv_items.specs.Stepping.{Steps, StepsTo}
+use Rattle.kmip_ttlv_items.specs.{Enclosing.open_ends, ItemWalks.Ended, Stepping.Steps, Stepping.StepsTo}
 use Rattle.kmip_ttlv_util.proofs.Saying.{adds_same, breaks_same}
 use Rattle.kmip_ttlv_json.specs.declared.print.Spot.{Spot}
 use Rattle.kmip_ttlv_json.specs.Parts.{closes, spot_after, parts, spot_behind, first_spot}

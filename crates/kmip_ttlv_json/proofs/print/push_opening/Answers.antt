@@ -1,6 +1,5 @@
 use Rattle.std.proofs.Common.{List, ℕ, ap}
-use Rattle.std.specs.Prelude.{codes, ◌++◌}
-use Rattle.std.specs.Int.{bytes_high_first}
+use Rattle.std.specs.{Prelude.codes, Prelude.◌++◌, Int.bytes_high_first}
 use Rattle.hex.specs.Hex.{encode_upper}
 use Rattle.kmip_ttlv_util.proofs.Saying.{err_now, ok_same, err_same, ok_then, err_then}
 use Rattle.kmip_ttlv_json.specs.Parts.{opening}
@@ -8,8 +7,7 @@ use Rattle.kmip_ttlv_json.proofs.print.push_opening.Goals as goal
 
 pub returns-in_err-push_tag_part-clause-err : goal.returns-in_err-push_tag_part-clause-err
 unfolding opening
-returns-in_err-push_tag_part-clause-err g c =
-    err_now g.S.TextSink.adds g.S.TextSink.breaks _ _ _ _
+returns-in_err-push_tag_part-clause-err g c = err_now g.S.TextSink.adds g.S.TextSink.breaks _ _ _ _
     (g.met.S.TextSink.breaks_first _ _ (codes "{\"tag\":\"0x" ++ encode_upper (bytes_high_first 3 c.args.tag)) _ c.in_err-push_tag_part.ensures.err)
 
 pub returns : goal.returns

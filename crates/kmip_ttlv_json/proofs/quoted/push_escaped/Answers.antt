@@ -1,7 +1,6 @@
 use Rattle.std.proofs.Common.{◌+◌, ◌++◌, List, ℕ, length, drop, flat_map, sym, ap, ◌∙◌, map-id}
 use Rattle.std.specs.Str.{chars, is_utf8}
-use Rattle.std.proofs.lemmas.Str.{IsUtf8-from_is_utf8}
-use Rattle.std.proofs.lemmas.Iterator.{YieldsList-from_chars}
+use Rattle.std.proofs.lemmas.{Str.IsUtf8-from_is_utf8, Iterator.YieldsList-from_chars}
 use Rattle.std.proofs.lemmas.Iterator.Consumers.{YieldsList-so_far, YieldsList-turn, YieldsList-end}
 use Rattle.kmip_ttlv_util.proofs.Saying.{adds_same, breaks_rest, err_now}
 use Rattle.kmip_ttlv_json.specs.Parts.{char_text}

@@ -1,12 +1,10 @@
 use Rattle.std.proofs.Common.{◌≡◌, ◌+◌, ◌-◌, ◌*◌, ◌≤◌, ◌<◌, List, [], ◌∷◌, ◌++◌, drop, take, length, Ok, refl, sym, ap, ◌∙◌, subst, arith, rules, append-nil}
 use Rattle.std.proofs.lemmas.List.{drop_more, drop_all, take_at}
-use Rattle.std.specs.Prelude.{ℕ}
-use Rattle.std.specs.Int.{w32, to_be_bytes}
+use Rattle.std.specs.{Prelude.ℕ, Int.w32, Int.to_be_bytes}
 use Rattle.serde_json.specs.Data.{array, depth, items_depth}
 use Rattle.serde_json.specs.View.{view, items_view}
 use Rattle.serde_json.proofs.Views.{view-Array}
-use Rattle.kmip_ttlv_types.specs.declared.typ.TtlvType.TheVariants.{Structure}
-use Rattle.kmip_ttlv_types.specs.Items.{header}
+use Rattle.kmip_ttlv_types.specs.{declared.typ.TtlvType.TheVariants.Structure, Items.header}
 use Rattle.kmip_ttlv_types.specs.Trees.{node, no_trees, node_bytes, bytes_below}
 use Rattle.kmip_ttlv_json.specs.JsonTrees.{tree_of, below_of, node_of, trees_of, both}
 use Rattle.kmip_ttlv_json.specs.Readings.{Fails}
@@ -23,8 +21,7 @@ push_items-push_tree-requires t c =
     let smaller : 2 * depth (view x) < 2 * items_depth (items_view c.args.items.now.items) + 1 = omega (arith, deep) in
     search rules
 
-pub push_items-returns-in_err-push_tree-clause-err :
-    goal.push_items-returns-in_err-push_tree-clause-err
+pub push_items-returns-in_err-push_tree-clause-err : goal.push_items-returns-in_err-push_tree-clause-err
 push_items-returns-in_err-push_tree-clause-err t c =
     let l = c.loop-item in
     let xs = c.deref-item-items.result.now in

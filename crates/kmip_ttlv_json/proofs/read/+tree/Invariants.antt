@@ -1,6 +1,5 @@
 use Rattle.std.proofs.Common.{◌+◌, ◌*◌, drop}
-use Rattle.serde_json.specs.Data.{depth, items_depth}
-use Rattle.serde_json.specs.View.{view, items_view}
+use Rattle.serde_json.specs.{Data.depth, Data.items_depth, View.view, View.items_view}
 use Rattle.kmip_ttlv_json.specs.JsonTrees.{trees_of}
 use Rattle.kmip_ttlv_json.proofs.ReadingBack.{Begun}
 use Rattle.kmip_ttlv_json.proofs.read.+tree.Given as goal

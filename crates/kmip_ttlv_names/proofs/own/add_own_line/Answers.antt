@@ -1,7 +1,6 @@
 use Rattle.std.proofs.Common.{Bool, ap, sym, ◌∙◌}
 use Rattle.std.specs.Prelude.{◌||◌}
-use Rattle.kmip_ttlv_names.specs.NameTables.{is_good}
-use Rattle.kmip_ttlv_names.specs.OwnNames.{value_line_of}
+use Rattle.kmip_ttlv_names.specs.{NameTables.is_good, OwnNames.value_line_of}
 use Rattle.kmip_ttlv_names.proofs.own.add_own_line.Goals as goal
 
 pub returns-then-named : goal.returns-then-named

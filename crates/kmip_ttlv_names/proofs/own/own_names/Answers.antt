@@ -1,6 +1,5 @@
 use Rattle.std.proofs.Common.{rules, arith, Bool, ◌+◌, ◌<◌, true, false, length, Some, None, subst, ap}
-use Rattle.std.proofs.lemmas.Str.Pattern.{split_once_first}
-use Rattle.std.proofs.lemmas.List.{length-drop}
+use Rattle.std.proofs.lemmas.{Str.Pattern.split_once_first, List.length-drop}
 use Rattle.std.specs.List.{position_or_len}
 use Rattle.kmip_ttlv_util.specs.TagNames.{name_in}
 use Rattle.kmip_ttlv_names.specs.NameTables.{is_line_feed, names_of}

@@ -1,8 +1,7 @@
 use Rattle.std.proofs.Common.{arith, Some, None, Option, ℕ, ap, sym, ◌∙◌}
 use Rattle.std.proofs.lemmas.Str.Pattern.{split_once_first}
 use Rattle.kmip_ttlv_types.specs.Names.{number}
-use Rattle.kmip_ttlv_names.specs.NameTables.{says_name}
-use Rattle.kmip_ttlv_names.specs.OwnNames.{named_value}
+use Rattle.kmip_ttlv_names.specs.{NameTables.says_name, OwnNames.named_value}
 use Rattle.kmip_ttlv_names.proofs.Owns.{value_none, value_some, word_none, word_some}
 use Rattle.kmip_ttlv_names.proofs.own.read_value.Goals as goal
 

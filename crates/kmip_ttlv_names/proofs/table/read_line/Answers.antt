@@ -1,6 +1,5 @@
 use Rattle.std.proofs.Common.{arith, ◌≢◌, length, get_or, Some, None, ap, sym, ◌∙◌}
-use Rattle.std.proofs.lemmas.Bool.{eqb-true, eqb-false}
-use Rattle.std.proofs.lemmas.Str.Pattern.{split_once_first}
+use Rattle.std.proofs.lemmas.{Bool.eqb-true, Bool.eqb-false, Str.Pattern.split_once_first}
 use Rattle.kmip_ttlv_names.specs.NameTables.{named}
 use Rattle.kmip_ttlv_names.proofs.Tables.{blank_is, comment_is, entry_is, entry_none, entry_some}
 use Rattle.kmip_ttlv_names.proofs.table.read_line.Goals as goal

@@ -1,7 +1,6 @@
 use Rattle.std.proofs.Common.{rules, arith, ℕ, Option, eqb, Some, None, ap, sym, refl, ◌∙◌}
-use Rattle.std.proofs.lemmas.Str.Pattern.{split_once_first}
+use Rattle.std.proofs.lemmas.{Str.Pattern.split_once_first, Bool.eq-eqb}
 use Rattle.std.specs.Option.{option_eq}
-use Rattle.std.proofs.lemmas.Bool.{eq-eqb}
 use Rattle.kmip_ttlv_names.proofs.Lists.{no_entry, named_is, named_not}
 use Rattle.kmip_ttlv_names.proofs.values.entry_name.Goals as goal
 

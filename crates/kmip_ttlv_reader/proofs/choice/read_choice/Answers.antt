@@ -1,6 +1,5 @@
 use Rattle.std.proofs.lemmas.Result.{err_from_is_err_and}
-use Rattle.kmip_ttlv_reader.specs.Outcomes.{number_outcome}
-use Rattle.kmip_ttlv_reader.specs.Chosen.{unnamed}
+use Rattle.kmip_ttlv_reader.specs.{Outcomes.number_outcome, Chosen.unnamed}
 use Rattle.kmip_ttlv_reader.proofs.ChosenLemmas.{enum_by_rules, enum_stops, number_unnamed, never_read}
 use Rattle.kmip_ttlv_reader.proofs.choice.read_choice.Goals as goal
 

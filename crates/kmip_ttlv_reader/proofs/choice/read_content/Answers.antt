@@ -1,11 +1,8 @@
 use Rattle.std.proofs.Common.{◌≡◌, codes, ◌++◌, ap, refl}
 use Rattle.std.proofs.lemmas.Result.{err_from_is_err_and}
-use Rattle.kmip_ttlv_base.specs.Values.{newtype_variant_value}
-use Rattle.kmip_ttlv_base.specs.Forms.{wrapped}
-use Rattle.kmip_ttlv_reader.specs.Rules.{Choice, rule, first_by, chosen, past}
-use Rattle.kmip_ttlv_reader.specs.Rules.{choice}
-use Rattle.kmip_ttlv_reader.specs.Steps.{mapped}
-use Rattle.kmip_ttlv_reader.specs.Outcomes.{outcome}
+use Rattle.kmip_ttlv_base.specs.{Values.newtype_variant_value, Forms.wrapped}
+use Rattle.kmip_ttlv_reader.specs.Rules.{Choice, rule, first_by, chosen, past, choice}
+use Rattle.kmip_ttlv_reader.specs.{Steps.mapped, Outcomes.outcome}
 use Rattle.kmip_ttlv_reader.proofs.Steps.{failure_then}
 use Rattle.kmip_ttlv_reader.proofs.ChosenLemmas.{chosen_here, chosen_later, choice_fails}
 use Rattle.kmip_ttlv_reader.proofs.choice.read_content.Goals as goal

@@ -1,7 +1,6 @@
 use Rattle.kmip_ttlv_base.specs.Values.{newtype_value}
 use Rattle.kmip_ttlv_reader.specs.Spots.{wrapper_name}
-use Rattle.kmip_ttlv_reader.proofs.LeafLemmas.{wrapped_is}
-use Rattle.kmip_ttlv_reader.proofs.Mapped.{mapped_read}
+use Rattle.kmip_ttlv_reader.proofs.{LeafLemmas.wrapped_is, Mapped.mapped_read}
 use Rattle.kmip_ttlv_reader.proofs.cursor.read_wrapped.Goals as goal
 
 pub returns-clause-read : goal.returns-clause-read

@@ -1,6 +1,5 @@
 use Rattle.std.proofs.Common.{rules, ◌≡◌, ◌+◌, length, nat_lt, false, take, drop, true, arith}
-use Rattle.std.proofs.lemmas.Result.{err_from_is_err_and}
-use Rattle.std.proofs.lemmas.Bool.{le-ltb}
+use Rattle.std.proofs.lemmas.{Result.err_from_is_err_and, Bool.le-ltb}
 use Rattle.kmip_ttlv_types.specs.Leaves.{is_valid}
 use Rattle.kmip_ttlv_reader.specs.Outcomes.{content_there, end_there}
 use Rattle.kmip_ttlv_reader.proofs.Steps.{failure_then}

@@ -1,7 +1,6 @@
 use Rattle.std.proofs.lemmas.Result.{err_from_is_err_and}
 use Rattle.kmip_ttlv_reader.specs.Outcomes.{type_there}
-use Rattle.kmip_ttlv_reader.proofs.Steps.{failure_then}
-use Rattle.kmip_ttlv_reader.proofs.TableLemmas.{listed_is}
+use Rattle.kmip_ttlv_reader.proofs.{Steps.failure_then, TableLemmas.listed_is}
 use Rattle.kmip_ttlv_reader.proofs.listed.read_listed.Goals as goal
 
 pub returns-clause-read : goal.returns-clause-read

@@ -1,6 +1,5 @@
 use Rattle.std.proofs.Common.{◌≡◌, drop}
-use Rattle.std.specs.List.{list_any}
-use Rattle.std.specs.Str.{bytes_eq}
+use Rattle.std.specs.{List.list_any, Str.bytes_eq}
 use Rattle.kmip_ttlv_reader.proofs.rules.is_among.Given as goal
 
 abbrev pub invariant-loop-one : goal.invariant-loop-one

@@ -1,7 +1,6 @@
 use Rattle.std.proofs.Common.{◌≡◌, ap, sym, ◌∙◌, Some}
 use Rattle.std.specs.Option.{option_copied}
-use Rattle.kmip_ttlv_reader.specs.TagValues.{last}
-use Rattle.kmip_ttlv_reader.specs.Rules.{plain_verdict}
+use Rattle.kmip_ttlv_reader.specs.{TagValues.last, Rules.plain_verdict}
 use Rattle.kmip_ttlv_reader.proofs.PartLemmas.{is_wanted}
 use Rattle.kmip_ttlv_reader.proofs.rules.is_stored.Goals as goal
 

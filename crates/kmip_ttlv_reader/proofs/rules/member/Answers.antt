@@ -1,9 +1,7 @@
 use Rattle.std.proofs.Common.{◌≡◌, ap, ◌∙◌, rules, ◌==◌, lit<}
 use borrow.Author.Tests.{tests}
-use Rattle.std.specs.List.{list_any, slice_split}
-use Rattle.std.specs.Str.{bytes_eq, trim}
-use Rattle.std.proofs.lemmas.Iterator.Search.{any_from_yields_List}
-use Rattle.std.proofs.lemmas.Iterator.Splits.{YieldsList-from_str_split}
+use Rattle.std.specs.{List.list_any, List.slice_split, Str.bytes_eq, Str.trim}
+use Rattle.std.proofs.lemmas.Iterator.{Search.any_from_yields_List, Splits.YieldsList-from_str_split}
 use Rattle.kmip_ttlv_reader.specs.Rules.{plain_verdict}
 use Rattle.kmip_ttlv_reader.proofs.RuleLemmas.{member_said}
 use Rattle.kmip_ttlv_reader.proofs.rules.member.Goals as goal

@@ -1,11 +1,7 @@
 use Rattle.std.proofs.Common.{ap, refl, ◌∙◌}
 use Rattle.kmip_ttlv_base.specs.Forms.{option, seq}
-use Rattle.kmip_ttlv_reader.specs.Outcomes.{outcome}
-use Rattle.kmip_ttlv_reader.specs.Spots.{optional_there}
-use Rattle.kmip_ttlv_reader.specs.Steps.{gives}
-use Rattle.kmip_ttlv_reader.proofs.Mapped.{some_to}
-use Rattle.kmip_ttlv_reader.proofs.Steps.{failure_then}
-use Rattle.kmip_ttlv_reader.proofs.Structures.{optional_is}
+use Rattle.kmip_ttlv_reader.specs.{Outcomes.outcome, Spots.optional_there, Steps.gives}
+use Rattle.kmip_ttlv_reader.proofs.{Mapped.some_to, Steps.failure_then, Structures.optional_is}
 use Rattle.kmip_ttlv_reader.proofs.sequence.read_any_field.Goals as goal
 
 pub returns-in-Ok-true-clause-read : goal.returns-in-Ok-true-clause-read

@@ -1,6 +1,5 @@
 use Rattle.kmip_ttlv_base.specs.Values.{seq_value}
-use Rattle.kmip_ttlv_reader.specs.Outcomes.{outcome}
-use Rattle.kmip_ttlv_reader.specs.Spots.{values_by}
+use Rattle.kmip_ttlv_reader.specs.{Outcomes.outcome, Spots.values_by}
 use Rattle.kmip_ttlv_reader.proofs.Mapped.{mapped_to}
 use Rattle.kmip_ttlv_reader.proofs.sequence.read_sequence.Goals as goal
 

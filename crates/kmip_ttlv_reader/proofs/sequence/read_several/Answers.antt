@@ -1,10 +1,8 @@
 use Rattle.std.proofs.Common.{◌≡◌, ◌<◌, List, suc, ◌-◌, length, ◌∷◌, ◌++◌, [], lit<, ap, ◌∙◌, arith, refl}
 use Rattle.std.proofs.lemmas.Result.{err_from_is_err_and}
-use Rattle.kmip_ttlv_reader.specs.Steps.{gives}
+use Rattle.kmip_ttlv_reader.specs.{Steps.gives, Spots.values_by}
 use Rattle.kmip_ttlv_reader.specs.Outcomes.{outcome, run_outcome, seq_outcome}
-use Rattle.kmip_ttlv_reader.specs.Spots.{values_by}
-use Rattle.kmip_ttlv_reader.proofs.Steps.{failure_then}
-use Rattle.kmip_ttlv_reader.proofs.Loops.{with_front, more_steps}
+use Rattle.kmip_ttlv_reader.proofs.{Steps.failure_then, Loops.with_front, Loops.more_steps}
 use Rattle.kmip_ttlv_reader.proofs.Items.{item_step, item_fails, item_stops, items_done}
 use Rattle.kmip_ttlv_reader.proofs.sequence.read_several.Goals as goal
 

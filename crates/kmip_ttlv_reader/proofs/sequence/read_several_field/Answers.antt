@@ -1,9 +1,7 @@
 use Rattle.std.proofs.Common.{refl}
 use Rattle.kmip_ttlv_base.specs.Forms.{seq}
-use Rattle.kmip_ttlv_reader.specs.Outcomes.{outcome}
-use Rattle.kmip_ttlv_reader.specs.Spots.{field_there}
-use Rattle.kmip_ttlv_reader.proofs.Steps.{failure_then}
-use Rattle.kmip_ttlv_reader.proofs.Structures.{field_is}
+use Rattle.kmip_ttlv_reader.specs.{Outcomes.outcome, Spots.field_there}
+use Rattle.kmip_ttlv_reader.proofs.{Steps.failure_then, Structures.field_is}
 use Rattle.kmip_ttlv_reader.proofs.sequence.read_several_field.Goals as goal
 
 pub returns-in-Ok-clause-read : goal.returns-in-Ok-clause-read

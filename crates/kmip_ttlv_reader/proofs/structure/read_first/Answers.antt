@@ -1,11 +1,8 @@
-use Rattle.std.proofs.Common.{[], refl}
-use Rattle.std.proofs.lemmas.Result.{err_from_is_err_and}
-use Rattle.kmip_ttlv_types.specs.Digits.{tag_text}
-use Rattle.kmip_ttlv_types.specs.Places.{tag_at}
+use Rattle.std.proofs.{Common.[], Common.refl, lemmas.Result.err_from_is_err_and}
+use Rattle.kmip_ttlv_types.specs.{Digits.tag_text, Places.tag_at}
 use Rattle.kmip_ttlv_reader.specs.Steps.{within}
 use Rattle.kmip_ttlv_reader.specs.Outcomes.{all_outcome, fields_outcome, opened}
-use Rattle.kmip_ttlv_reader.proofs.Steps.{failure_then}
-use Rattle.kmip_ttlv_reader.proofs.Structures.{first_is}
+use Rattle.kmip_ttlv_reader.proofs.{Steps.failure_then, Structures.first_is}
 use Rattle.kmip_ttlv_reader.proofs.structure.read_first.Goals as goal
 
 pub returns-in_err-end : goal.returns-in_err-end

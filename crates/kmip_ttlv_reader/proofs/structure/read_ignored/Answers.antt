@@ -1,7 +1,6 @@
 use Rattle.std.proofs.Common.{◌≡◌, true, sym, ◌∙◌, rules}
 use Rattle.std.proofs.lemmas.Result.{err_from_is_err_and}
-use Rattle.kmip_ttlv_reader.specs.Reads.{has_fields}
-use Rattle.kmip_ttlv_reader.specs.Outcomes.{ignored, item_end}
+use Rattle.kmip_ttlv_reader.specs.{Reads.has_fields, Outcomes.ignored, Outcomes.item_end}
 use Rattle.kmip_ttlv_reader.proofs.Steps.{failure_then}
 use Rattle.kmip_ttlv_reader.proofs.structure.read_ignored.Goals as goal
 

@@ -1,10 +1,8 @@
 use Rattle.std.proofs.Common.{ap, ◌∙◌, refl, sym}
 use Rattle.kmip_ttlv_types.specs.Digits.{tag_text}
 use Rattle.kmip_ttlv_base.specs.Values.{struct_value}
-use Rattle.kmip_ttlv_reader.specs.Steps.{◌>>=◌, gives}
-use Rattle.kmip_ttlv_reader.specs.Outcomes.{first_outcome, fields_outcome}
-use Rattle.kmip_ttlv_reader.proofs.Loops.{root_struct_is}
-use Rattle.kmip_ttlv_reader.proofs.Steps.{failure_then}
+use Rattle.kmip_ttlv_reader.specs.{Steps.◌>>=◌, Steps.gives, Outcomes.first_outcome, Outcomes.fields_outcome}
+use Rattle.kmip_ttlv_reader.proofs.{Loops.root_struct_is, Steps.failure_then}
 use Rattle.kmip_ttlv_reader.proofs.structure.read_root.Goals as goal
 
 pub returns-in-Ok : goal.returns-in-Ok

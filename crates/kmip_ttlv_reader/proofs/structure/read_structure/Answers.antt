@@ -1,11 +1,8 @@
 use Rattle.std.proofs.Common.{ap, ◌∙◌, sym}
 use Rattle.kmip_ttlv_types.specs.Digits.{tag_text}
 use Rattle.kmip_ttlv_base.specs.Values.{struct_value}
-use Rattle.kmip_ttlv_reader.specs.Steps.{mapped, reads}
-use Rattle.kmip_ttlv_reader.specs.Outcomes.{struct_outcome, fields_outcome}
-use Rattle.kmip_ttlv_reader.specs.Spots.{at}
-use Rattle.kmip_ttlv_reader.proofs.Loops.{struct_is}
-use Rattle.kmip_ttlv_reader.proofs.Steps.{failure_then}
+use Rattle.kmip_ttlv_reader.specs.{Steps.mapped, Steps.reads, Outcomes.struct_outcome, Outcomes.fields_outcome, Spots.at}
+use Rattle.kmip_ttlv_reader.proofs.{Loops.struct_is, Steps.failure_then}
 use Rattle.kmip_ttlv_reader.proofs.structure.read_structure.Goals as goal
 
 pub returns-in-Ok-clause-read : goal.returns-in-Ok-clause-read

@@ -19,8 +19,7 @@ pub overflow_sub-size : goal.overflow_sub-size
 overflow_sub-size g c = HasSize-least c.args.limit c.as_slice.result.now c.in_ok-size.size c.in_ok-size.ensures.ok
 
 pub returns-clause-ok : goal.returns-clause-ok
-returns-clause-ok g c =
-    on_ok_weaker c.take_more-2.result (λ more. message_comes _ _ _ _ _ _ _ _ _ c.in_ok-empty.ensures
+returns-clause-ok g c = on_ok_weaker c.take_more-2.result (λ more. message_comes _ _ _ _ _ _ _ _ _ c.in_ok-empty.ensures
     c.in_ok-take_more.ensures.ok c.as_slice.ensures.value c.in_ok-size.ensures.ok more)
     c.take_more-2.ensures.ok
 

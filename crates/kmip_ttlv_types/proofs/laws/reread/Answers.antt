@@ -3,15 +3,11 @@ use Rattle.std.proofs.Common.{Option, Some, Bool, false, Result, Ok, Err, Global
 use Rattle.std.proofs.lemmas.List.{length-replicate}
 use Rattle.std.specs.Int.{w32, to_be_bytes}
 use Rattle.std.specs.Prelude.{MatchResult, IsTrue, vec_capacity, vec_len}
-use Rattle.kmip_ttlv_types.specs.declared.error.Error.{Error}
-use Rattle.kmip_ttlv_types.specs.declared.error.Error.TheVariants as errors
-use Rattle.kmip_ttlv_types.specs.declared.typ.TtlvType.{TtlvType}
-use Rattle.kmip_ttlv_types.specs.ItemTypes.{code, pad_len}
-use Rattle.kmip_ttlv_types.specs.Headers.{ReadsType}
+use Rattle.kmip_ttlv_types.specs.{declared.error.Error.Error, declared.typ.TtlvType.TtlvType, ItemTypes.code, ItemTypes.pad_len, Headers.ReadsType}
 use Rattle.kmip_ttlv_types.specs.Primitives.{content_of, length_and_content, leaf_rest, ReadsLeaf, WritesLong}
 use Rattle.kmip_ttlv_types.specs.Laws.{written_rest, FailsToRead, Rereads}
-use Rattle.kmip_ttlv_types.proofs.InMemory.{type_read, where_room_written}
-use Rattle.kmip_ttlv_types.proofs.PlaceLemmas.{type_of-code}
+use Rattle.kmip_ttlv_types.proofs.{InMemory.type_read, InMemory.where_room_written, PlaceLemmas.type_of-code}
+use Rattle.kmip_ttlv_types.specs.declared.error.Error.TheVariants as errors
 use Rattle.kmip_ttlv_types.proofs.laws.reread.Goals as goal
 
 -- reading from memory that has the bytes never fails

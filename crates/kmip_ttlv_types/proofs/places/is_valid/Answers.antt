@@ -1,9 +1,7 @@
 use Rattle.std.proofs.Common.{◌≡◌, ◌∙◌, sym, ap, refl, true, false, Ok, Err, Result, List, ℕ, MatchResult}
-use Rattle.std.specs.Result.{is_ok}
-use Rattle.std.specs.Str.{IsUtf8, is_utf8}
+use Rattle.std.specs.{Result.is_ok, Str.IsUtf8, Str.is_utf8}
 use Rattle.std.proofs.lemmas.Str.{IsUtf8-from_is_utf8, is_utf8-from_IsUtf8}
-use Rattle.kmip_ttlv_types.specs.declared.typ.TtlvType.{TtlvType}
-use Rattle.kmip_ttlv_types.specs.Leaves.{is_valid}
+use Rattle.kmip_ttlv_types.specs.{declared.typ.TtlvType.TtlvType, Leaves.is_valid}
 use Rattle.kmip_ttlv_types.proofs.places.is_valid.Goals as goal
 
 not_utf8 : (c : List ℕ) → (IsUtf8 c → ⊥) → is_utf8 c ≡ false

@@ -1,7 +1,6 @@
 use Rattle.std.proofs.Common.{◌∙◌, ap, subst, sym, Err, Ok, Global}
 use Rattle.std.proofs.lemmas.Result.{err_from_is_err_and}
-use Rattle.kmip_ttlv_types.specs.declared.error.Error.TheVariants.{IoError}
-use Rattle.kmip_ttlv_types.specs.Headers.{Writes}
+use Rattle.kmip_ttlv_types.specs.{declared.error.Error.TheVariants.IoError, Headers.Writes}
 use Rattle.kmip_ttlv_types.proofs.LeafWriting.{Writes-first, Writes-second}
 use Rattle.kmip_ttlv_types.proofs.primitive.send_both.Goals as goal
 

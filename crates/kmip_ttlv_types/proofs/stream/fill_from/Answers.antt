@@ -29,7 +29,6 @@ returns-in-Err g c =
       record {
         bytes = take c.loop-filled.filled c.loop-filled.buf;
         within = omega (arith, long);
-        consumes =
-            Consumes-kept _ _ _ _ inv.2 c.in-Err.ensures.err;
+        consumes = Consumes-kept _ _ _ _ inv.2 c.in-Err.ensures.err;
       },
     )

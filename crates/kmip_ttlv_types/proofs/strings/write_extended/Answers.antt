@@ -1,10 +1,8 @@
 use Rattle.std.proofs.Common.{ℕ, List, ◌++◌, ◌∙◌, length, ap, subst, sym, Err, Global}
 use Rattle.std.specs.Int.{w32, to_be_bytes}
 use Rattle.std.proofs.lemmas.Result.{err_from_is_err_and}
-use Rattle.kmip_ttlv_types.specs.Headers.{Writes}
-use Rattle.kmip_ttlv_types.specs.Primitives.{sign_extended, length_and_content}
-use Rattle.kmip_ttlv_types.proofs.Padding.{signs_before}
-use Rattle.kmip_ttlv_types.proofs.LeafWriting.{Writes-first, Writes-second}
+use Rattle.kmip_ttlv_types.specs.{Headers.Writes, Primitives.sign_extended, Primitives.length_and_content}
+use Rattle.kmip_ttlv_types.proofs.{Padding.signs_before, LeafWriting.Writes-first, LeafWriting.Writes-second}
 use Rattle.kmip_ttlv_types.proofs.strings.write_extended.Goals as goal
 
 pub returns-in_err-write : goal.returns-in_err-write

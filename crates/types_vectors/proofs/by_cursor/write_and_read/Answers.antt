@@ -1,9 +1,7 @@
 use Rattle.std.proofs.Common.{◌≡◌, ℕ, List, [], ◌++◌, ◌∙◌, sym, ap, subst, drop, append-nil, Option, Some, Bool, false, Result, Ok, Err, IfOk, Global}
 use Rattle.std.specs.Prelude.{MatchResult}
-use Rattle.kmip_ttlv_types.specs.declared.error.Error.{Error}
-use Rattle.kmip_ttlv_types.specs.declared.typ.TtlvType.{TtlvType}
+use Rattle.kmip_ttlv_types.specs.{declared.error.Error.Error, declared.typ.TtlvType.TtlvType, Laws.written_rest, Laws.FailsToRead}
 use Rattle.kmip_ttlv_types.specs.Primitives.{content_of, leaf_rest, ReadsLeaf}
-use Rattle.kmip_ttlv_types.specs.Laws.{written_rest, FailsToRead}
 use Rattle.types_vectors.proofs.by_cursor.write_and_read.Goals as goal
 
 -- what the law says of the second reading is what the contract says

@@ -1,7 +1,6 @@
 use Rattle.std.proofs.Common.{arith}
 use Rattle.kmip_ttlv_base.specs.Values.{view}
-use Rattle.kmip_ttlv_reader.proofs.Founding.{found_root}
-use Rattle.kmip_ttlv_reader.proofs.Giving.{begins_gives}
+use Rattle.kmip_ttlv_reader.proofs.{Founding.found_root, Giving.begins_gives}
 use Rattle.kmip_ttlv_de.proofs.deserialize.AnyDecode.decode.Goals as goal
 
 pub from_data-requires : goal.from_data-requires

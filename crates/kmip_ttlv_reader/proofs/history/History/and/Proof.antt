@@ -21,16 +21,13 @@ use denote.Builtin.{RefOf}
 use denote.Signature.{plain, types_at, named_lft}
 use denote.Steps.{nothing}
 use denote.Triple.Clauses.{Clauses, Ended, closing}
-use denote.Triple.Entry.{alive}
-use denote.Triple.Spec.{Meets, triple_of}
-use denote.Triple.Table.{entered}
+use denote.Triple.{Entry.alive, Spec.Meets, Spec.triple_of, Table.entered}
 use denote.Triple.Walked.{says, Stays, stay_dropped, walk_of, ends_at, walk_Meets, Goes-dropped}
 use Rattle.kmip_ttlv_reader.proofs.Walks.{none, none_made}
+use Rattle.kmip_ttlv_reader.specs.{StoredValue.tag_value_of, contracts.history.History.and.Key.name as #self}
 use Rattle.kmip_ttlv_reader.specs.contracts.history.History as History
 use Rattle.kmip_ttlv_reader.specs.contracts.history.StoredValue as StoredValue
-use Rattle.kmip_ttlv_reader.specs.StoredValue.{tag_value_of}
 use Rattle.kmip_ttlv_reader.specs.contracts.history.History.and as F
-use Rattle.kmip_ttlv_reader.specs.contracts.history.History.and.Key.{name as #self}
 use Rattle.kmip_ttlv_reader.proofs.history.History.and.Statement as stated
 use Rattle.kmip_ttlv_reader.proofs.history.History.and.Code as code
 
@@ -75,11 +72,10 @@ module _ {M : Type 1} {𝓤 : Ura M} (𝓛 : Logic 𝓤) (at_mem : Memory → SP
         nothing ! $ nothing ! $ fjoin ! $ nothing ! $ fjoin ! $ move ! (2 ∷ 0 ∷ 1 ∷ []) $ done !)))
 
   meets : (𝓣 : Tables 𝓤 H) → Meets 𝓛 ended.signature (WpFn 𝓤 H 𝓣.C 𝓣.Λ function) (closing 𝓛 ended held)
-  meets 𝓣 =
-      walk_Meets 𝓛 ended stayed (
-        Goes-dropped 𝓛 3 (RefOf (0 ∷ []) tt (plain (λ _. History.the_row)) (λ _. tt)) yes (λ κs x f. refl),
-        (Goes-dropped 𝓛 3 (RefOf (1 ∷ []) tt (plain (λ κs. StoredValue.the_row (named_lft 3 2 tt κs))) (λ _. tt)) yes (λ κs x f. refl), tt),
-      ) held
+  meets 𝓣 = walk_Meets 𝓛 ended stayed (
+    Goes-dropped 𝓛 3 (RefOf (0 ∷ []) tt (plain (λ _. History.the_row)) (λ _. tt)) yes (λ κs x f. refl),
+    (Goes-dropped 𝓛 3 (RefOf (1 ∷ []) tt (plain (λ κs. StoredValue.the_row (named_lft 3 2 tt κs))) (λ _. tt)) yes (λ κs x f. refl), tt),
+  ) held
       (WpFn 𝓤 H 𝓣.C 𝓣.Λ function) (WpFn-mono 𝓤 H 𝓛.laws 𝓣 function) (walks 𝓣.C 𝓣.Λ)
 
 pub and_spec : {M : Type 1} → stated.statement M

@@ -19,14 +19,12 @@ use denote.RattleType.{owns}
 use denote.Signature.{types_at}
 use denote.Steps.{nothing}
 use denote.Triple.Clauses.{Clauses, Ended, closing}
-use denote.Triple.Entry.{alive}
-use denote.Triple.Spec.{Meets, triple_of}
-use denote.Triple.Table.{entered}
+use denote.Triple.{Entry.alive, Spec.Meets, Spec.triple_of, Table.entered}
 use denote.Triple.Walked.{says, Stays, walk_of, ends_at, walk_Meets}
 use Rattle.kmip_ttlv_reader.proofs.Walks.{none, none_made}
+use Rattle.kmip_ttlv_reader.specs.contracts.history.History.new.Key.{name as #self}
 use Rattle.kmip_ttlv_reader.specs.contracts.history.History as History
 use Rattle.kmip_ttlv_reader.specs.contracts.history.History.new as F
-use Rattle.kmip_ttlv_reader.specs.contracts.history.History.new.Key.{name as #self}
 use Rattle.kmip_ttlv_reader.proofs.history.History.new.Statement as stated
 use Rattle.kmip_ttlv_reader.proofs.history.History.new.Code as code
 
@@ -67,8 +65,7 @@ module _ {M : Type 1} {𝓤 : Ura M} (𝓛 : Logic 𝓤) (at_mem : Memory → SP
         nothing ! $ move ! (2 ∷ 0 ∷ 1 ∷ []) $ done !)
 
   meets : (𝓣 : Tables 𝓤 H) → Meets 𝓛 ended.signature (WpFn 𝓤 H 𝓣.C 𝓣.Λ function) (closing 𝓛 ended held)
-  meets 𝓣 =
-      walk_Meets 𝓛 ended stayed tt held
+  meets 𝓣 = walk_Meets 𝓛 ended stayed tt held
       (WpFn 𝓤 H 𝓣.C 𝓣.Λ function) (WpFn-mono 𝓤 H 𝓛.laws 𝓣 function) (walks 𝓣.C 𝓣.Λ)
 
 pub new_spec : {M : Type 1} → stated.statement M

@@ -1,8 +1,6 @@
 use Rattle.std.proofs.Common.{◌≡◌, ap, sym, ◌∙◌, ◌<◌, length, option_map, nat_cmp}
 use Rattle.std.specs.BTreeMap.{get}
-use Rattle.kmip_ttlv_reader.specs.TagValues.{last, with_number}
-use Rattle.kmip_ttlv_reader.specs.StoredValue.{tag_value_of}
-use Rattle.kmip_ttlv_reader.specs.StoredTexts.{in_rows, row_for}
+use Rattle.kmip_ttlv_reader.specs.{TagValues.last, TagValues.with_number, StoredValue.tag_value_of, StoredTexts.in_rows, StoredTexts.row_for}
 use Rattle.kmip_ttlv_reader.proofs.RuleLemmas.{holds_more}
 use Rattle.kmip_ttlv_reader.proofs.StoredRows.{taken, taken_beside, inserted}
 use Rattle.kmip_ttlv_reader.proofs.store.TagValueStore.put_text.Goals as goal

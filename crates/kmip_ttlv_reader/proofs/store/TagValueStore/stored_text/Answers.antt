@@ -1,8 +1,6 @@
 use Rattle.std.proofs.Common.{◌≡◌, ap, sym, ◌∙◌, option_map, Some, None, nat_cmp}
-use Rattle.std.specs.BTreeMap.{get}
-use Rattle.std.specs.Option.{option_copied}
-use Rattle.kmip_ttlv_reader.specs.StoredTexts.{stored_text_of, in_rows}
-use Rattle.kmip_ttlv_reader.specs.TagValues.{last, with_number}
+use Rattle.std.specs.{BTreeMap.get, Option.option_copied}
+use Rattle.kmip_ttlv_reader.specs.{StoredTexts.stored_text_of, StoredTexts.in_rows, TagValues.last, TagValues.with_number}
 use Rattle.kmip_ttlv_reader.proofs.StoredRows.{found_in, beside, alike}
 use Rattle.kmip_ttlv_reader.proofs.store.TagValueStore.stored_text.Goals as goal
 

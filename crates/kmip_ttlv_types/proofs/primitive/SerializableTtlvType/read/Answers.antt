@@ -1,6 +1,5 @@
 use Rattle.std.proofs.Common.{◌^◌, ◌<◌, subst, sym, ap, ◌∙◌, rules, Err}
-use Rattle.std.specs.Int.{w32, to_be_bytes}
-use Rattle.std.specs.Io.KnownBytes.{Consumes}
+use Rattle.std.specs.{Int.w32, Int.to_be_bytes, Io.KnownBytes.Consumes}
 use Rattle.std.proofs.lemmas.Result.{err_from_is_err_and}
 use Rattle.kmip_ttlv_types.specs.Primitives.{ReadsLeaf}
 use Rattle.kmip_ttlv_types.proofs.LeafReading.{content_fails, padding_fails, leaf_read}

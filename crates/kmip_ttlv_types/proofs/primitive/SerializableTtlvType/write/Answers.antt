@@ -1,7 +1,6 @@
 use Rattle.std.proofs.Common.{◌≡◌, ℕ, ◌^◌, ◌<◌, List, [], ◌∷◌, ◌++◌, length, replicate, subst, sym, ap, ◌∙◌, rules, Err}
 use Rattle.std.proofs.lemmas.Result.{err_from_is_err_and}
-use Rattle.kmip_ttlv_types.specs.declared.typ.TtlvType.{TtlvType}
-use Rattle.kmip_ttlv_types.specs.ItemTypes.{code, pad_len}
+use Rattle.kmip_ttlv_types.specs.{declared.typ.TtlvType.TtlvType, ItemTypes.code, ItemTypes.pad_len}
 use Rattle.kmip_ttlv_types.specs.Primitives.{WritesLong, content_of, leaf_rest, length_and_content}
 use Rattle.kmip_ttlv_types.proofs.LeafWriting.{first_fails, second_fails, last_part, both_written}
 use Rattle.kmip_ttlv_types.proofs.primitive.SerializableTtlvType.write.Goals as goal

@@ -2,9 +2,8 @@ use Rattle.std.proofs.Common.{ℕ, List, length, replicate, subst, sym, ap, ◌�
 use Rattle.std.specs.Io.KnownBytes.{Appends}
 use Rattle.kmip_ttlv_types.proofs.Padding.{take-eight}
 use Rattle.std.proofs.lemmas.Result.{err_from_is_err_and}
-use Rattle.kmip_ttlv_types.specs.ItemTypes.{pad_len}
+use Rattle.kmip_ttlv_types.specs.{ItemTypes.pad_len, Headers.Writes}
 use Rattle.kmip_ttlv_types.specs.Streams.{AppendsFront, UsesRoom, IsTight}
-use Rattle.kmip_ttlv_types.specs.Headers.{Writes}
 use Rattle.kmip_ttlv_types.proofs.primitive.SerializableTtlvType.write_pad_bytes.Goals as goal
 
 pub returns-in_err-send : goal.returns-in_err-send

@@ -1,7 +1,5 @@
 use Rattle.std.proofs.Common.{◌≡◌, ℕ, List, Bool, true, false, ◌∙◌, sym, ap, subst, refl, length}
-use Rattle.std.specs.Prelude.{string_bytes, vec_items}
-use Rattle.std.specs.Str.{is_utf8}
-use Rattle.std.specs.Io.KnownBytes.{Consumes}
+use Rattle.std.specs.{Prelude.string_bytes, Prelude.vec_items, Str.is_utf8, Io.KnownBytes.Consumes}
 use Rattle.std.proofs.lemmas.Str.{IsUtf8-from_is_utf8, is_utf8-from_IsUtf8, IsUtf8-string_bytes}
 use Rattle.kmip_ttlv_types.proofs.strings.TtlvTextStringSerializableTtlvType.read_value.Goals as goal
 

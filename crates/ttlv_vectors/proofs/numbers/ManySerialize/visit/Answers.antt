@@ -3,9 +3,7 @@ use Rattle.ttlv_vectors.proofs.numbers.ManySerialize.visit.Goals as goal
 
 pub returns-clause-received : goal.returns-clause-received
 unfolding many_value
-returns-clause-received g c = λ s known.
-    c.in_ok-end_struct.ensures.received _ (
-    c.in_ok-interval.ensures.received _ (
+returns-clause-received g c = λ s known. c.in_ok-end_struct.ensures.received _ (c.in_ok-interval.ensures.received _ (
     c.in_ok-boolean.ensures.received _ (
     c.in_ok-date_time.ensures.received _ (
     c.in_ok-long_integer.ensures.received _ (
