@@ -1,9 +1,7 @@
 -- A choice whose variants contain one form, several forms, or none: its form.
-use Rattle.kmip_ttlv.specs.Forms.{Content, Form, enum, field, form, int32, no_fields, no_forms, no_variants, octets, struct}
-use Rattle.kmip_ttlv.specs.Forms.{text, tuple, unit, variant, wrapped}
-use Rattle.kmip_ttlv.specs.Forms.{content_of, form_of}
-use Rattle.kmip_ttlv_base.specs.declared.shape.FieldShape.{FieldShape}
-use Rattle.kmip_ttlv_base.specs.declared.shape.VariantShape.{VariantShape}
+use Rattle.kmip_ttlv.specs.Forms.{Content, Form, enum, field, form, int32, no_fields, no_forms, no_variants, octets, struct, text, tuple, unit, variant}
+use Rattle.kmip_ttlv.specs.Forms.{wrapped, content_of, form_of}
+use Rattle.kmip_ttlv_base.specs.declared.shape.{FieldShape.FieldShape, VariantShape.VariantShape}
 use Rattle.std.specs.Prelude.{◌≡◌, ℕ, List, codes, false}
 
 -- a field's shape of this name and form

@@ -1,17 +1,13 @@
 -- Numbers that may be absent, and Enumerations of any number: forms and values.
-use Rattle.kmip_ttlv.specs.Forms.{Form, any_number, boolean, date_time, field, int32, int64, interval, newtype, no_fields}
-use Rattle.kmip_ttlv.specs.Forms.{option, struct, text}
+use Rattle.kmip_ttlv.specs.Forms.{Form, any_number, boolean, date_time, field, int32, int64, interval, newtype, no_fields, option, struct, text}
 use Rattle.kmip_ttlv.specs.MessageParts.{by_bits, optional}
-use Rattle.kmip_ttlv.specs.Values.{Value, i32_value, i64_value, u32_value, newtype_value, no_values, struct_value}
-use Rattle.kmip_ttlv.specs.Values.{boolean_value, date_time_value, interval_value, text_value, value}
+use Rattle.kmip_ttlv.specs.Values.{Value, i32_value, i64_value, u32_value, newtype_value, no_values, struct_value, boolean_value, date_time_value}
+use Rattle.kmip_ttlv.specs.Values.{interval_value, text_value, value}
 use Rattle.kmip_ttlv.specs.Visits.{joined}
 use Rattle.std.specs.Int.{w32, w64}
 use Rattle.std.specs.Prelude.{codes, false, option_map, string_bytes}
+use Rattle.ttlv_vectors.specs.declared.numbers.{OptionalNumbers.OptionalNumbers, Many.Many, Named.Named, Reasons.Reasons}
 use Rattle.kmip_ttlv.specs.Visits as received
-use Rattle.ttlv_vectors.specs.declared.numbers.OptionalNumbers.{OptionalNumbers}
-use Rattle.ttlv_vectors.specs.declared.numbers.Many.{Many}
-use Rattle.ttlv_vectors.specs.declared.numbers.Named.{Named}
-use Rattle.ttlv_vectors.specs.declared.numbers.Reasons.{Reasons}
 
 -- numbers, each of which may be absent
 abbrev pub optional_numbers_form : Form
