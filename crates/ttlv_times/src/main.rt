@@ -15,10 +15,9 @@ use crate::inputs::{
     CHOICE, EMPTY, NUMBER, OTHER_NUMBER, TEXT, asked, long, nested, repeated, tuples,
 };
 use crate::shapes::{Asked, Empties, Fields, Long, Numbers, Texts, Tuples};
-use crate::times::{
-    bare_times, checking, printing, reading, reading_back, show, taking, taking_by_copies, telling,
-};
+use crate::times::{bare_times, checking, printing, reading, reading_back, show, taking, telling};
 use kmip_ttlv::PrettyPrinter;
+use kmip_ttlv_memory::BoundedAllocator;
 use sample_shapes::parts::Part;
 use std::time::Clock;
 use std::{env, io};
@@ -43,9 +42,11 @@ fn take<P: Part, R: Clock + Eprint + AllocGlobal>(
 ) -> io::Result<()> {
     let bytes = bytes.as_slice();
     let bare = bare_times(rt, bytes, false)?;
-    let taken = taking::<P, R>(rt, bytes)?;
+    let taken = taking::<P, _, R>(rt, rt.alloc(), bytes)?;
     show(rt, input, "from_reader", bytes.len(), taken, &bare)?;
-    let taken = taking_by_copies::<P, R>(rt, bytes)?;
+    // Memory that is copied whenever it grows.
+    let memory = BoundedAllocator::in_blocks(rt.alloc(), usize::MAX);
+    let taken = taking::<P, _, R>(rt, &memory, bytes)?;
     show(rt, input, "from_reader, copying", bytes.len(), taken, &bare)
 }
 
@@ -96,18 +97,18 @@ fn read_each<R: Clock + Eprint + AllocGlobal>(rt: &R, size: u32) -> io::Result<(
     take::<Long, R>(rt, "one long value", long(alloc, size)?)?;
     read::<Texts, R>(
         rt,
-        "kept texts of one tag",
+        "stored texts of one tag",
         repeated(alloc, size / 8, &TEXT)?,
     )?;
-    read::<Tuples, R>(rt, "kept texts of many tags", tuples(alloc, size / 32)?)?;
+    read::<Tuples, R>(rt, "stored texts of many tags", tuples(alloc, size / 32)?)?;
     read::<Asked, R>(
         rt,
-        "rules on a short kept text",
+        "rules on a short stored text",
         asked(alloc, 1, size / 16)?,
     )?;
     read::<Asked, R>(
         rt,
-        "rules on a long kept text",
+        "rules on a long stored text",
         asked(alloc, size / 2, size / 32)?,
     )?;
     read::<Fields, R>(

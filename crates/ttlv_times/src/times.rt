@@ -3,10 +3,9 @@
 use crate::skimmed::Skimmed;
 use kmip_ttlv::items::find_fault;
 use kmip_ttlv::{Config, PrettyPrinter, from_reader, from_slice};
-use kmip_ttlv_memory::BoundedAllocator;
 use sample_shapes::parts::Part;
 use sample_shapes::run::Run;
-use std::alloc::Global;
+use std::alloc::Allocator;
 use std::io::{self, Eprint};
 use std::time::{Clock, Instant};
 
@@ -98,111 +97,90 @@ pub fn show<R: Eprint>(
     )
 }
 
+// How long a call takes; says so if what it returned isn't good.
+fn least_time<T: Drop, R: Clock + Eprint, F: FnMut() -> io::Result<T>, G: Fn(&T) -> bool>(
+    rt: &R,
+    mut call: F,
+    is_good: G,
+) -> io::Result<u128>
+    requires callable { F.IsAlwaysCallable call }
+    requires judging { G.IsAlwaysCallable is_good }
+{
+    let mut least = u128::MAX;
+    for _ in 0..ROUNDS {
+        let start = Instant::now(rt)?;
+        let returned = call()?;
+        least = least.min(start.elapsed(rt)?.as_micros());
+        if !is_good(&returned) {
+            eprintln!(rt; "an unexpected result")?;
+        }
+    }
+    Ok(least)
+}
+
 /// How long `from_slice` takes.
 pub fn reading<P: Part, R: Clock + Eprint + AllocGlobal>(rt: &R, bytes: &[u8]) -> io::Result<u128> {
-    let mut least = u128::MAX;
-    for _ in 0..ROUNDS {
-        let start = Instant::now(rt)?;
-        let read = from_slice::<Run<P>, _>(rt.alloc(), bytes);
-        least = least.min(start.elapsed(rt)?.as_micros());
-        if read.is_err() {
-            eprintln!(rt; "refused")?;
-        }
-    }
-    Ok(least)
+    let alloc = rt.alloc();
+    least_time(
+        rt,
+        || Ok(from_slice::<Run<P>, _>(alloc, bytes)),
+        |read| read.is_ok(),
+    )
 }
 
-/// How long `from_reader` takes.
-pub fn taking<P: Part, R: Clock + Eprint + AllocGlobal>(rt: &R, bytes: &[u8]) -> io::Result<u128> {
-    let mut least = u128::MAX;
-    for _ in 0..ROUNDS {
-        let mut reader = bytes;
-        let start = Instant::now(rt)?;
-        let mut config = Config::new(rt.alloc());
-        let read = from_reader::<Skimmed<P>, _, _>(rt.alloc(), &mut reader, &mut config);
-        least = least.min(start.elapsed(rt)?.as_micros());
-        if read.is_err() {
-            eprintln!(rt; "refused")?;
-        }
-    }
-    Ok(least)
-}
-
-/// How long `from_reader` takes with memory that is copied whenever it grows.
-pub fn taking_by_copies<P: Part, R: Clock + Eprint + AllocGlobal>(
+/// How long `from_reader` takes, with memory of this allocator.
+pub fn taking<P: Part, A: Allocator + Copy, R: Clock + Eprint>(
     rt: &R,
+    alloc: A,
     bytes: &[u8],
 ) -> io::Result<u128> {
-    let memory = BoundedAllocator::in_blocks(rt.alloc(), usize::MAX);
-    let mut least = u128::MAX;
-    for _ in 0..ROUNDS {
-        let mut reader = bytes;
-        let start = Instant::now(rt)?;
-        let mut config = Config::new(&memory);
-        let read = from_reader::<Skimmed<P>, _, _>(&memory, &mut reader, &mut config);
-        least = least.min(start.elapsed(rt)?.as_micros());
-        if read.is_err() {
-            eprintln!(rt; "refused")?;
-        }
-    }
-    Ok(least)
+    least_time(
+        rt,
+        || {
+            let mut reader = bytes;
+            let mut config = Config::new(alloc);
+            Ok(from_reader::<Skimmed<P>, _, _>(alloc, &mut reader, &mut config))
+        },
+        |read| read.is_ok(),
+    )
 }
 
 /// How long `find_fault` takes.
 pub fn checking<R: Clock + Eprint + AllocGlobal>(rt: &R, bytes: &[u8]) -> io::Result<u128> {
-    let mut least = u128::MAX;
-    for _ in 0..ROUNDS {
-        let start = Instant::now(rt)?;
-        let fault = find_fault(rt.alloc(), bytes)?;
-        least = least.min(start.elapsed(rt)?.as_micros());
-        if fault.is_some() {
-            eprintln!(rt; "at fault")?;
-        }
-    }
-    Ok(least)
+    let alloc = rt.alloc();
+    least_time(
+        rt,
+        || Ok(find_fault(alloc, bytes)?),
+        |fault| fault.is_none(),
+    )
 }
 
 /// How long `to_diag_string` takes.
 pub fn telling<R: Clock + Eprint + AllocGlobal>(rt: &R, bytes: &[u8]) -> io::Result<u128> {
     let printer = PrettyPrinter::new(rt.alloc());
-    let mut least = u128::MAX;
-    for _ in 0..ROUNDS {
-        let start = Instant::now(rt)?;
-        let text = printer.to_diag_string(bytes)?;
-        least = least.min(start.elapsed(rt)?.as_micros());
-        if text.is_empty() {
-            eprintln!(rt; "no diagnostic")?;
-        }
-    }
-    Ok(least)
+    least_time(
+        rt,
+        || Ok(printer.to_diag_string(bytes)?),
+        |text| !text.is_empty(),
+    )
 }
 
 /// How long `to_string` takes.
 pub fn printing<R: Clock + Eprint + AllocGlobal>(rt: &R, bytes: &[u8]) -> io::Result<u128> {
     let printer = PrettyPrinter::new(rt.alloc());
-    let mut least = u128::MAX;
-    for _ in 0..ROUNDS {
-        let start = Instant::now(rt)?;
-        let text = printer.to_string(bytes)?;
-        least = least.min(start.elapsed(rt)?.as_micros());
-        if text.is_empty() {
-            eprintln!(rt; "no text")?;
-        }
-    }
-    Ok(least)
+    least_time(
+        rt,
+        || Ok(printer.to_string(bytes)?),
+        |text| !text.is_empty(),
+    )
 }
 
 /// How long `from_diag_string` takes.
 pub fn reading_back<R: Clock + Eprint + AllocGlobal>(rt: &R, text: &str) -> io::Result<u128> {
     let printer = PrettyPrinter::new(rt.alloc());
-    let mut least = u128::MAX;
-    for _ in 0..ROUNDS {
-        let start = Instant::now(rt)?;
-        let lines = printer.from_diag_string(text)?;
-        least = least.min(start.elapsed(rt)?.as_micros());
-        if lines.is_empty() {
-            eprintln!(rt; "no lines")?;
-        }
-    }
-    Ok(least)
+    least_time(
+        rt,
+        || Ok(printer.from_diag_string(text)?),
+        |lines| !lines.is_empty(),
+    )
 }
