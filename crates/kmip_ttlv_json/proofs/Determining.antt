@@ -1,5 +1,5 @@
 -- The JSON of a message, where nothing is hidden, is that of no other one.
-use Rattle.std.proofs.Common.{◌≡◌, ◌∙◌, inl, inr, ℕ, suc, ◌^◌, ◌<◌, ◌==◌, Bool, true, false, List, [], ◌∷◌, ◌++◌, length, drop, get_or, if◌then◌else◌, Option}
+use Rattle.std.proofs.Common.{◌≡◌, ◌∙◌, inl, inr, ℕ, suc, ◌^◌, ◌<◌, ◌==◌, Bool, true, false, List, [], ◌∷◌, length, drop, get_or, if◌then◌else◌, Option}
 use Rattle.std.proofs.Common.{Some, None, Result, Ok, Err, refl, sym, ap, arith, append-nil}
 use Rattle.std.specs.Prelude.{max, nat_lt, slice_index}
 use Rattle.std.specs.Int.{w64, to_be_bytes, from_be_bytes, bytes_high_first}
@@ -18,7 +18,7 @@ use Rattle.kmip_ttlv_types.specs.Trees.{Tree, Trees, leaf, node, no_trees, IsTre
 use Rattle.kmip_ttlv_items.specs.{declared.found.FoundItem.FoundItem, FoundItems.Lists}
 use Rattle.kmip_ttlv_items.proofs.Spans.{leaf_not}
 use Rattle.kmip_ttlv_write.specs.GivenItems.{lines, lines_below}
-use Rattle.kmip_ttlv_json.specs.Jsons.{type_word, hex_text, is_true, value_json, item_json, tree_json, trees_json, json_line}
+use Rattle.kmip_ttlv_json.specs.Jsons.{type_word, is_true, value_json, item_json, tree_json, trees_json, json_line}
 use Rattle.kmip_ttlv_json.specs.Laws.{no_secrets}
 use Rattle.kmip_ttlv_json.proofs.Found.{tree_plain}
 use Rattle.kmip_ttlv_json.proofs.ReadBack.{Back, tree_back, tokens_are}
@@ -42,8 +42,7 @@ text_one d e p q same =
     let j = outline d in
     let k = outline e in
     let n = max (tree.depth j) (tree.depth k) in
-    let both : json_tokens j ++ [] ≡ json_tokens k ++ [] = append-nil (json_tokens j) ∙ sym (tokens_are d p) ∙ ap tokens same ∙ tokens_are e q
-    ∙ sym (append-nil (json_tokens k)) in
+    let both = append-nil (json_tokens j) ∙ sym (tokens_are d p) ∙ ap tokens same ∙ tokens_are e q ∙ sym (append-nil (json_tokens k)) in
     let values = sym (value-json_tokens j n [] (omega arith)) ∙ ap (json.value n) both ∙ value-json_tokens k n [] (omega arith) in
     ap data_in (sym p.same ∙ ap of_json (ap value_in values) ∙ q.same)
 
@@ -76,9 +75,6 @@ bytes_in (Err e) = []
 digits_one : (v w : List ℕ) → ArePlain v → ArePlain w → encode_upper v ≡ encode_upper w → v ≡ w
 digits_one v w p q e = ap bytes_in (sym (decode_of-encode_upper v p) ∙ ap decode_of e ∙ decode_of-encode_upper w q)
 
-hex_one : (v w : List ℕ) → ArePlain v → ArePlain w → hex_text v ≡ hex_text w → v ≡ w
-hex_one v w p q e = digits_one v w p q (ap (drop 2) e)
-
 tag_one : (a b : ℕ) → a < 2 ^ 24 → b < 2 ^ 24 → encode_upper (bytes_high_first 3 a) ≡ encode_upper (bytes_high_first 3 b) → a ≡ b
 tag_one a b p q e =
     let same : bytes_high_first 3 a ≡ bytes_high_first 3 b = digits_one (bytes_high_first 3 a) (bytes_high_first 3 b) (tag_plain a) (tag_plain b) e in
@@ -95,15 +91,7 @@ typ_in s = if slice_index s 0 == 76 then LongInteger else if slice_index s 0 == 
 
 typ_back : (typ : TtlvType) → typ_in (type_word typ) ≡ typ
 typ_back Structure = refl
-typ_back Integer = refl
-typ_back LongInteger = refl
-typ_back BigInteger = refl
-typ_back Enumeration = refl
-typ_back Boolean = refl
-typ_back TextString = refl
-typ_back ByteString = refl
-typ_back DateTime = refl
-typ_back Interval = refl
+typ_back typ = refl
 
 -- what two items with one JSON have in common
 record Same (a b : ℕ) (t u : TtlvType) (v w : Data) : Type 0 where
@@ -142,15 +130,10 @@ boolean_one v w good fine p q e =
 content_one : (typ : TtlvType) (v w : List ℕ) → is_valid typ v ≡ true → is_valid typ w ≡ true → ArePlain v → ArePlain w
     → value_json false typ v ≡ value_json false typ w → v ≡ w
 content_one Structure v w good fine p q e = absurd (leaf_not Structure v good refl)
-content_one Integer v w good fine p q e = hex_one v w p q (ap text_in e)
-content_one LongInteger v w good fine p q e = hex_one v w p q (ap text_in e)
-content_one BigInteger v w good fine p q e = hex_one v w p q (ap text_in e)
-content_one Enumeration v w good fine p q e = hex_one v w p q (ap text_in e)
 content_one Boolean v w good fine p q e = boolean_one v w good fine p q (ap bool_in e)
 content_one TextString v w good fine p q e = ap text_in e
 content_one ByteString v w good fine p q e = digits_one v w p q (ap text_in e)
-content_one DateTime v w good fine p q e = hex_one v w p q (ap text_in e)
-content_one Interval v w good fine p q e = hex_one v w p q (ap text_in e)
+content_one typ v w good fine p q e = digits_one v w p q (ap (λ d. drop 2 (text_in d)) e)
 
 -- ---- one value is that of one tree
 
@@ -166,36 +149,28 @@ mutual
   tree_one : (d : ℕ) (t u : Tree) (x y : List ℕ) → IsTreeText t x → IsTreeText u y → AllPlain (lines d t) → AllPlain (lines d u)
       → tree_json no_secrets false t ≡ tree_json no_secrets false u → t ≡ u
   tree_one d (leaf a typ v) (leaf b kind w) x y h k p q e =
-      let s = item_one a b typ kind (value_json false typ v) (value_json false kind w) h.1.tag_fits k.1.tag_fits e in
-      let fine : is_valid typ w ≡ true = ap (λ (o : TtlvType). is_valid o w) s.typ ∙ k.0 in
-      let value : value_json false typ v ≡ value_json false typ w = s.value ∙ sym (ap (λ (o : TtlvType). value_json false o w) s.typ) in
-      ap (λ (n : ℕ). leaf n typ v) s.tag ∙ ap (λ (o : TtlvType). leaf b o v) s.typ
-      ∙ ap (λ (c : List ℕ). leaf b kind c) (content_one typ v w h.0 fine p.0 q.0 value)
+      let s = item_one a b typ kind _ _ h.1.tag_fits k.1.tag_fits e in
+      let content : v ≡ w = content_one typ v w h.0 (ap (λ o. is_valid o w) s.typ ∙ k.0) p.0 q.0 (s.value ∙ sym (ap (λ o. value_json false o w) s.typ)) in
+      cc
   tree_one d (leaf a typ v) (node b us) x y h k p q e =
-      absurd (leaf_not typ v h.0 (item_one a b typ Structure (value_json false typ v) (array (trees_json no_secrets false us)) h.1.tag_fits k.1.tag_fits e).typ)
+      absurd (leaf_not typ v h.0 (item_one a b typ Structure _ _ h.1.tag_fits k.1.tag_fits e).typ)
   tree_one d (node a ts) (leaf b kind w) x y h k p q e =
-      absurd (leaf_not kind w k.0 (sym (item_one a b Structure kind (array (trees_json no_secrets false ts)) (value_json false kind w) h.1.tag_fits
-      k.1.tag_fits e).typ))
+      absurd (leaf_not kind w k.0 (sym (item_one a b Structure kind _ _ h.1.tag_fits k.1.tag_fits e).typ))
   tree_one d (node a ts) (node b us) x y h k p q e =
-      let s = item_one a b Structure Structure (array (trees_json no_secrets false ts)) (array (trees_json no_secrets false us)) h.1.tag_fits k.1.tag_fits e in
-      ap (λ (n : ℕ). node n ts) s.tag ∙ ap (λ (vs : Trees). node b vs) (trees_one (suc d) ts us h.0 k.0 h.2 k.2 p.1 q.1 (ap items_in s.value))
+      let s = item_one a b Structure Structure _ _ h.1.tag_fits k.1.tag_fits e in
+      cc (trees_one (suc d) ts us h.0 k.0 h.2 k.2 p.1 q.1 (ap items_in s.value))
 
   trees_one : (d : ℕ) (ts us : Trees) (x y : List ℕ) → AreTreeTexts ts x → AreTreeTexts us y → AllPlain (lines_below d ts) → AllPlain (lines_below d us)
       → trees_json no_secrets false ts ≡ trees_json no_secrets false us → ts ≡ us
   trees_one d no_trees no_trees x y h k p q e = refl
-  trees_one d no_trees (trees.tree u us) x y h k p q e = absurd (cc)
-  trees_one d (trees.tree t ts) no_trees x y h k p q e = absurd (cc)
   trees_one d (trees.tree t ts) (trees.tree u us) x y h k p q e =
       let m = plain_both (lines d t) (lines_below d ts) p in
       let n = plain_both (lines d u) (lines_below d us) q in
-      ap (λ (v : Tree). trees.tree v ts) (tree_one d t u h.0 k.0 h.3 k.3 m.0 n.0 (ap head_in e))
-      ∙ ap (λ (vs : Trees). trees.tree u vs) (trees_one d ts us h.1 k.1 h.4 k.4 m.1 n.1 (ap tail_in e))
+      cc (tree_one d t u h.0 k.0 h.3 k.3 m.0 n.0 (ap head_in e), trees_one d ts us h.1 k.1 h.4 k.4 m.1 n.1 (ap tail_in e))
+  trees_one d ts us x y h k p q e = absurd (cc)
 
 pub determines_all : (a b : List ℕ) (xs ys : List FoundItem) → ArePlain a → ArePlain b → (h : Lists a xs) (k : Lists b ys)
     → json_line no_secrets false h.message ≡ json_line no_secrets false k.message → h.message ≡ k.message
 determines_all m w xs ys plain also h k e =
-    let t = h.message in
-    let u = k.message in
-    let text = append_cancel_right (compact_text (tree_json no_secrets false t)) (compact_text (tree_json no_secrets false u)) (10 ∷ []) e in
-    let same = text_one (tree_json no_secrets false t) (tree_json no_secrets false u) (tree_back no_secrets false t) (tree_back no_secrets false u) text in
-    tree_one 0 t u m w h.text k.text (tree_plain m plain xs h) (tree_plain w also ys k) same
+    let same = text_one _ _ (tree_back no_secrets false h.message) (tree_back no_secrets false k.message) (append_cancel_right _ _ (10 ∷ []) e) in
+    tree_one 0 h.message k.message m w h.text k.text (tree_plain m plain xs h) (tree_plain w also ys k) same

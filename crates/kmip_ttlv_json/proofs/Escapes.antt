@@ -1,5 +1,5 @@
 -- JSON strings: what is escaped in texts, and that hexadecimal digits need no escape.
-use Rattle.std.proofs.Common.{◌≡◌, ◌∙◌, ℕ, zero, suc, ◌+◌, ◌/◌, ◌%◌, ◌<◌, ◌≤◌, List, [], ◌∷◌, ◌++◌, length, map, take, drop, get_or, if◌then◌else◌, inl, inr}
+use Rattle.std.proofs.Common.{◌≡◌, ◌∙◌, ℕ, suc, ◌+◌, ◌/◌, ◌%◌, ◌<◌, ◌≤◌, List, [], ◌∷◌, ◌++◌, length, map, take, drop, get_or, if◌then◌else◌, inl, inr}
 use Rattle.std.proofs.Common.{refl, sym, ap, ap₂, arith, append-nil, map-id, IsUtf8}
 use Rattle.std.specs.Prelude.{slice_index, flat_map, encode_utf8}
 use Rattle.std.specs.Str.{chars}
@@ -10,7 +10,9 @@ use lib.Utf8.{encode, encodes}
 use Rattle.hex.specs.Hex.{upper_digits, encode_with, encode_upper}
 use Rattle.json.specs.Print.{escape_byte, escape}
 use Rattle.json.proofs.Printed.Strings.{escape_byte_plain}
+use Rattle.kmip_ttlv_util.proofs.HexDigits.{glyph_cases}
 use Rattle.kmip_ttlv_json.specs.Parts.{char_text}
+use Rattle.kmip_ttlv_json.proofs.Hexadecimal.{glyph}
 
 escape_high : (xs : List ℕ) → ((k : ℕ) → k < length xs → 128 ≤ get_or xs k 0) → escape xs ≡ xs
 escape_high [] h = refl
@@ -56,24 +58,9 @@ char_parts f all seen x far lt is =
 
 -- a hexadecimal digit stands for itself
 digit_plain : (d : ℕ) → d < 16 → escape_byte (slice_index upper_digits d) ≡ slice_index upper_digits d ∷ []
-unfolding escape_byte
-digit_plain zero lt = refl
-digit_plain (suc zero) lt = refl
-digit_plain (suc (suc zero)) lt = refl
-digit_plain (suc (suc (suc zero))) lt = refl
-digit_plain (suc (suc (suc (suc zero)))) lt = refl
-digit_plain (suc (suc (suc (suc (suc zero))))) lt = refl
-digit_plain (suc (suc (suc (suc (suc (suc zero)))))) lt = refl
-digit_plain (suc (suc (suc (suc (suc (suc (suc zero))))))) lt = refl
-digit_plain (suc (suc (suc (suc (suc (suc (suc (suc zero)))))))) lt = refl
-digit_plain (suc (suc (suc (suc (suc (suc (suc (suc (suc zero))))))))) lt = refl
-digit_plain (suc (suc (suc (suc (suc (suc (suc (suc (suc (suc zero)))))))))) lt = refl
-digit_plain (suc (suc (suc (suc (suc (suc (suc (suc (suc (suc (suc zero))))))))))) lt = refl
-digit_plain (suc (suc (suc (suc (suc (suc (suc (suc (suc (suc (suc (suc zero)))))))))))) lt = refl
-digit_plain (suc (suc (suc (suc (suc (suc (suc (suc (suc (suc (suc (suc (suc zero))))))))))))) lt = refl
-digit_plain (suc (suc (suc (suc (suc (suc (suc (suc (suc (suc (suc (suc (suc (suc zero)))))))))))))) lt = refl
-digit_plain (suc (suc (suc (suc (suc (suc (suc (suc (suc (suc (suc (suc (suc (suc (suc zero))))))))))))))) lt = refl
-digit_plain (suc (suc (suc (suc (suc (suc (suc (suc (suc (suc (suc (suc (suc (suc (suc (suc d)))))))))))))))) lt = absurd (omega arith)
+digit_plain d lt = rw (glyph d lt) (glyph_cases (λ c. escape_byte c ≡ c ∷ []) d
+    (λ low. escape_byte_plain _ (λ e. omega arith) (λ e. omega arith) (omega arith))
+    (λ high. escape_byte_plain _ (λ e. omega arith) (λ e. omega arith) (omega arith)))
 
 pub escape_digits : (bytes : List ℕ) → ((k : ℕ) → get_or bytes k 0 < 256) → escape (encode_upper bytes) ≡ encode_upper bytes
 unfolding encode_with
@@ -82,6 +69,4 @@ escape_digits (b ∷ bytes) plain =
     let small : b < 256 = plain 0 in
     let high = slice_index upper_digits (b / 16) in
     let low = slice_index upper_digits (b % 16) in
-    ap (λ (s : List ℕ). s ++ (escape_byte low ++ escape (encode_upper bytes))) (digit_plain (b / 16) (omega arith))
-    ∙ ap (λ (s : List ℕ). high ∷ (s ++ escape (encode_upper bytes))) (digit_plain (b % 16) (omega arith))
-    ∙ ap (λ (s : List ℕ). high ∷ low ∷ s) (escape_digits bytes (λ k. plain (suc k)))
+    rw (digit_plain (b / 16) (omega arith), digit_plain (b % 16) (omega arith)) (ap (λ (s : List ℕ). high ∷ low ∷ s) (escape_digits bytes (λ k. plain (suc k))))

@@ -1,14 +1,12 @@
 -- The items that a walk finds, as the parts of a message's JSON.
 use Rattle.std.proofs.Common.{◌≡◌, ◌≢◌, ◌∙◌, inl, inr, ℕ, ◌+◌, ◌-◌, ◌==◌, Bool, true, false, ◌||◌, List, [], ◌∷◌, ◌++◌, take, drop, map, if◌then◌else◌, Option}
-use Rattle.std.proofs.Common.{Some, None, refl, sym, ap, subst, arith, append_assoc, append-nil}
+use Rattle.std.proofs.Common.{length, Some, None, refl, sym, ap, subst, arith, append_assoc, append-nil}
 use Rattle.std.specs.Prelude.{codes, Result, Ok, Err, OnErr}
 use Rattle.std.proofs.lemmas.Bool.{cases_lt}
 use Rattle.std.proofs.lemmas.List.{get_or-take, get_or-drop, get_or_past, length-take}
-use Rattle.kmip_ttlv_types.specs.{declared.typ.TtlvType.TtlvType, ItemTypes.code, Places.length_at}
-use Rattle.kmip_ttlv_types.specs.declared.typ.TtlvType.TheVariants.{Structure, Integer, LongInteger, BigInteger, Enumeration, Boolean, TextString, ByteString}
-use Rattle.kmip_ttlv_types.specs.declared.typ.TtlvType.TheVariants.{DateTime, Interval}
+use Rattle.kmip_ttlv_types.specs.{declared.typ.TtlvType.TtlvType, ItemTypes.code, Places.length_at, declared.typ.TtlvType.TheVariants.Structure}
 use Rattle.kmip_ttlv_items.specs.{declared.found.FoundItem.FoundItem, declared.found.Fault.Fault, FoundItems.Lists}
-use Rattle.kmip_ttlv_items.specs.ItemWalks.{content_at, Ended, Meets, at_first, Ends}
+use Rattle.kmip_ttlv_items.specs.ItemWalks.{AreBytes, content_at, Ended, Meets, at_first, Ends}
 use Rattle.kmip_ttlv_items.proofs.Completes.{ends}
 use Rattle.kmip_ttlv_util.specs.Pieces.{SomeText}
 use Rattle.kmip_ttlv_write.specs.GivenItems.{Line, lines, line_of, given_of}
@@ -18,18 +16,14 @@ use Rattle.kmip_ttlv_json.specs.Parts.{closes, is_inside, spot_after, gap, openi
 use Rattle.kmip_ttlv_json.specs.Printings.{IsJson, IsThere, json_text}
 use Rattle.kmip_ttlv_json.proofs.TreeTexts.{ArePlain, AllPlain, kind_code, message_flat}
 
+-- what is made of bytes has none that is too large, also behind its end
+pub bytes_plain : (w : List ℕ) → AreBytes w → ArePlain w
+bytes_plain w h k = elim (cases_lt k (length w)) [ inl lt ↦ h k lt | inr le ↦ omega (arith, get_or_past w k 0 le) ]
+
 -- of a leaf its value and the end
 leaf_part : (hidden : Bool) (typ : TtlvType) (content : List ℕ) → typ ≢ Structure → value_text hidden typ content ++ codes "}" ≡ value_part hidden typ content
 leaf_part hidden Structure content leaf = absurd (leaf refl)
-leaf_part hidden Integer content leaf = refl
-leaf_part hidden LongInteger content leaf = refl
-leaf_part hidden BigInteger content leaf = refl
-leaf_part hidden Enumeration content leaf = refl
-leaf_part hidden Boolean content leaf = refl
-leaf_part hidden TextString content leaf = refl
-leaf_part hidden ByteString content leaf = refl
-leaf_part hidden DateTime content leaf = refl
-leaf_part hidden Interval content leaf = refl
+leaf_part hidden typ content leaf = refl
 
 -- as the code takes it out of the bytes
 pub value_printed : (hidden : Bool) (w : List ℕ) (i : FoundItem) → i.typ ≢ Structure → i.length ≡ length_at w i.offset
@@ -37,21 +31,13 @@ pub value_printed : (hidden : Bool) (w : List ℕ) (i : FoundItem) → i.typ ≢
     (content_at w i.offset)
 value_printed hidden w i ne len =
     let n : i.offset + 8 + i.length - (i.offset + 8) ≡ length_at w i.offset = omega (arith, len) in
-    ap (λ (m : ℕ). value_text hidden i.typ (take m (drop (i.offset + 8) w)) ++ codes "}") n ∙ leaf_part hidden i.typ (content_at w i.offset) ne
+    rw n (leaf_part hidden i.typ (content_at w i.offset) ne)
 
 -- a structure's content is not looked at
 content_free : (hidden : Bool) (typ : TtlvType) (content : List ℕ) → value_part hidden typ (if code typ == 1 then [] else content)
     ≡ value_part hidden typ content
 content_free hidden Structure content = refl
-content_free hidden Integer content = refl
-content_free hidden LongInteger content = refl
-content_free hidden BigInteger content = refl
-content_free hidden Enumeration content = refl
-content_free hidden Boolean content = refl
-content_free hidden TextString content = refl
-content_free hidden ByteString content = refl
-content_free hidden DateTime content = refl
-content_free hidden Interval content = refl
+content_free hidden typ content = refl
 
 -- the lines of found items
 abbrev pub found_lines : List ℕ → List FoundItem → List Line
@@ -88,10 +74,8 @@ module _ (secrets : ℕ → Bool) (hidden : Bool) where
       (spot_behind secrets s xs) ys
   parts_both s [] ys = refl
   parts_both s (l ∷ ls) ys =
-      let t = spot_after secrets s l.depth l.tag (kind l.code) in
       let part = item_part secrets hidden s l.depth l.tag (kind l.code) l.content in
-      ap (λ (x : List ℕ). part ++ x) (parts_both t ls ys)
-      ∙ sym (append_assoc part (parts secrets hidden t ls) (parts secrets hidden (spot_behind secrets t ls) ys))
+      ap (λ (x : List ℕ). part ++ x) (parts_both (spot_after secrets s l.depth l.tag (kind l.code)) ls ys) ∙ sym (append_assoc part _ _)
 
   spot_both : (s : Spot) (xs ys : List Line) → spot_behind secrets s (xs ++ ys) ≡ spot_behind secrets (spot_behind secrets s xs) ys
   spot_both s [] ys = refl
@@ -116,9 +100,8 @@ module _ (secrets : ℕ → Bool) (hidden : Bool) where
       → parts secrets hidden first_spot (found_lines w xs) ++ item_printed (spot_behind secrets first_spot (found_lines w xs)) w i
       ≡ parts secrets hidden first_spot (found_lines w (xs ++ (i ∷ [])))
   parts_more w xs i there =
-      let ls = found_lines w xs in
-      ap (λ (x : List ℕ). parts secrets hidden first_spot ls ++ x) (sym (printed_is (spot_behind secrets first_spot ls) w i there))
-      ∙ sym (parts_both first_spot ls (found_lines w (i ∷ []))) ∙ ap (parts secrets hidden first_spot) (sym (found_both w xs (i ∷ [])))
+      rw (found_both w xs (i ∷ []), parts_both first_spot (found_lines w xs) (found_lines w (i ∷ [])))
+      (ap (λ (x : List ℕ). parts secrets hidden first_spot (found_lines w xs) ++ x) (sym (printed_is _ w i there)))
 
   -- as the code prints it
   pub one_more : (w : List ℕ) (xs : List FoundItem) (i : FoundItem) → IsThere w i → (s : Spot) (secret flag : Bool)
@@ -126,28 +109,19 @@ module _ (secrets : ℕ → Bool) (hidden : Bool) where
       → parts secrets hidden first_spot (found_lines w xs) ++ (gap s i.depth ++ (opening i.tag i.typ ++ value_part flag i.typ (content_at w i.offset)))
       ≡ parts secrets hidden first_spot (found_lines w (xs ++ (i ∷ [])))
   one_more w xs i there s secret flag is printed_lines hid =
-      let first = parts secrets hidden first_spot (found_lines w xs) in
-      ap (λ (b : Bool). first ++ (gap s i.depth ++ (opening i.tag i.typ ++ value_part b i.typ (content_at w i.offset)))) (hid
-      ∙ ap (λ (b : Bool). (hidden || is_inside s.secret i.depth) || b) printed_lines)
-      ∙ ap (λ (t : Spot). first ++ item_printed t w i) is ∙ parts_more w xs i there
+      rw (hid, printed_lines, is) (parts_more w xs i there)
 
   pub spot_more : (w : List ℕ) (xs : List FoundItem) (i : FoundItem) → spot_after secrets (spot_behind secrets first_spot (found_lines w xs)) i.depth i.tag
       i.typ ≡ spot_behind secrets first_spot (found_lines w (xs ++ (i ∷ [])))
   spot_more w xs i =
-      let s = spot_behind secrets first_spot (found_lines w xs) in
-      sym (ap (spot_behind secrets first_spot) (found_both w xs (i ∷ [])) ∙ spot_both first_spot (found_lines w xs) (found_lines w (i ∷ []))
-      ∙ ap (λ (k : TtlvType). spot_after secrets s i.depth i.tag k) (kind_code i.typ))
+      rw (found_both w xs (i ∷ []), spot_both first_spot (found_lines w xs) (found_lines w (i ∷ [])), kind_code i.typ) refl
 
   -- all items of a message
   line_is : (w : List ℕ) → ArePlain w → (xs : List FoundItem) (h : Lists w xs) → parts secrets hidden first_spot (found_lines w xs)
       ++ (closes (spot_behind secrets first_spot (found_lines w xs)).depth ++ 10 ∷ []) ≡ json_line secrets hidden h.message
   line_is w plain xs h =
-      let t = h.message in
-      let all = found_lines w xs in
-      let end = closes (spot_behind secrets first_spot all).depth in
-      sym (append_assoc (parts secrets hidden first_spot all) end (10 ∷ []))
-      ∙ ap (λ (ls : List Line). (parts secrets hidden first_spot ls ++ closes (spot_behind secrets first_spot ls).depth) ++ 10 ∷ []) (tree_lines w xs h)
-      ∙ ap (λ (x : List ℕ). x ++ 10 ∷ []) (message_flat secrets hidden t w h.text (tree_plain w plain xs h))
+      rw (tree_lines w xs h) (sym (append_assoc (parts secrets hidden first_spot (lines 0 h.message)) _ (10 ∷ []))
+      ∙ ap (λ (x : List ℕ). x ++ 10 ∷ []) (message_flat secrets hidden h.message w h.text (tree_plain w plain xs h)))
 
 -- a walk over a whole message comes to its end
 no_fault : (w : List ℕ) (some : List FoundItem) → Lists w some → (xs : List FoundItem) (fault : Option Fault) → Ended w xs fault → Lists w xs
@@ -175,13 +149,9 @@ module _ (secrets : ℕ → Bool) (hidden : Bool) (w : List ℕ) (plain : ArePla
 
   begun : parts secrets hidden first_spot (found_lines w xs) ++ rest_printed ≡ json_line secrets hidden left.lists.message
   begun =
-      let all = found_lines w (xs ++ left.more) in
-      let end = closes (spot_behind secrets first_spot all).depth ++ 10 ∷ [] in
-      let first = parts secrets hidden first_spot (found_lines w xs) in
-      let second = parts secrets hidden (spot_behind secrets first_spot (found_lines w xs)) (found_lines w left.more) in
-      sym (append_assoc first second end)
-      ∙ ap (λ (x : List ℕ). x ++ end) (sym (ap (parts secrets hidden first_spot) (found_both w xs left.more)
-      ∙ parts_both secrets hidden first_spot (found_lines w xs) (found_lines w left.more)))
+      sym (append_assoc (parts secrets hidden first_spot (found_lines w xs)) _ _)
+      ∙ ap (λ (x : List ℕ). x ++ (closes (spot_behind secrets first_spot (found_lines w (xs ++ left.more))).depth ++ 10 ∷ []))
+      (sym (ap (parts secrets hidden first_spot) (found_both w xs left.more) ∙ parts_both secrets hidden first_spot (found_lines w xs) _))
       ∙ line_is secrets hidden w plain (xs ++ left.more) left.lists
 
   -- and the line is printed of the message
@@ -200,18 +170,11 @@ json_is secrets hidden w plain some lists xs (Some f) ended = absurd (ended.1 so
 pub some_json : (secrets : ℕ → Bool) (hidden : Bool) (w : List ℕ) → ArePlain w → (text : List ℕ) × (fault : Option Fault) × IsJson secrets hidden w text fault
 some_json secrets hidden w plain =
     let end : Ends w [] = ends w plain 0 [] [] (at_first refl refl refl) in
-    (line_of_any end, end.fault, record { found = end.more; ended = end.ended; is = refl })
-  where
-    line_of_any : Ends w [] → List ℕ
-    line_of_any end = json_text secrets hidden w end.more end.fault end.ended
+    (json_text secrets hidden w end.more end.fault end.ended, end.fault, record { found = end.more; ended = end.ended; is = refl })
 
--- it failed
-pub err_holds : {T E : Type 0} (r : Result T E) (P : Type 0) → P → OnErr r P
-err_holds (Ok x) P h = tt
-err_holds (Err e) P h = h
-
--- a beginning of it was added
-pub broken_json : {X : Type 0} (breaks : X → List ℕ → X → Type 0) (secrets : ℕ → Bool) (hidden : Bool) (w : List ℕ) (a b : X) (text : List ℕ)
-    (fault : Option Fault) → IsJson secrets hidden w text fault → breaks a text b
-    → SomeText (λ t. (fault : Option Fault) × IsJson secrets hidden w t fault) (λ t. breaks a t b)
-broken_json breaks secrets hidden w a b text fault is holds = record { text = text; is = (fault, is); holds = holds }
+-- it failed, and a beginning of the text was added
+pub err_json : {T E X : Type 0} (r : Result T E) (breaks : X → List ℕ → X → Type 0) {secrets : ℕ → Bool} {hidden : Bool} {w text : List ℕ}
+    {fault : Option Fault} {a b : X} → IsJson secrets hidden w text fault → breaks a text b
+    → OnErr r (SomeText (λ t. (fault : Option Fault) × IsJson secrets hidden w t fault) (λ t. breaks a t b))
+err_json (Ok x) breaks is holds = tt
+err_json (Err e) breaks {text = text} {fault = fault} is holds = record { text = text; is = (fault, is); holds = holds }

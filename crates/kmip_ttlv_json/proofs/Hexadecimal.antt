@@ -1,11 +1,11 @@
 -- Two ways to write bytes in hexadecimal are one.
-use Rattle.std.proofs.Common.{◌≡◌, ℕ, zero, suc, ◌/◌, ◌%◌, ◌<◌, true, List, [], ◌∷◌, get_or, refl, ap, sym, ◌∙◌, arith}
-use Rattle.std.specs.{Prelude.slice_index, Fmt.digit_glyph, List.flat_map}
+use Rattle.std.proofs.Common.{◌≡◌, ℕ, zero, suc, ◌/◌, ◌%◌, ◌<◌, true, List, [], ◌∷◌, get_or, refl, ap, arith}
+use Rattle.std.specs.{Prelude.slice_index, Fmt.digit_glyph}
 use Rattle.hex.specs.Hex.{upper_digits, encode_with, encode_upper}
-use Rattle.kmip_ttlv_util.specs.Pretty.{two_digits, hex_bytes}
+use Rattle.kmip_ttlv_util.specs.Pretty.{hex_bytes}
 
 -- a digit
-glyph : (d : ℕ) → d < 16 → slice_index upper_digits d ≡ digit_glyph true d
+pub glyph : (d : ℕ) → d < 16 → slice_index upper_digits d ≡ digit_glyph true d
 glyph zero lt = refl
 glyph (suc zero) lt = refl
 glyph (suc (suc zero)) lt = refl
@@ -29,9 +29,5 @@ unfolding hex_bytes encode_with
 hex_upper [] plain = refl
 hex_upper (b ∷ bytes) plain =
     let small : b < 256 = plain 0 in
-    let high : digit_glyph true (b / 16) ≡ slice_index upper_digits (b / 16) = sym (glyph (b / 16) (omega arith)) in
-    let low : digit_glyph true (b % 16) ≡ slice_index upper_digits (b % 16) = sym (glyph (b % 16) (omega arith)) in
-    let more : flat_map two_digits bytes ≡ encode_with upper_digits bytes = hex_upper bytes (λ k. plain (suc k)) in
-    ap (λ (c : ℕ). c ∷ digit_glyph true (b % 16) ∷ flat_map two_digits bytes) high
-    ∙ ap (λ (c : ℕ). slice_index upper_digits (b / 16) ∷ c ∷ flat_map two_digits bytes) low
-    ∙ ap (λ (s : List ℕ). slice_index upper_digits (b / 16) ∷ slice_index upper_digits (b % 16) ∷ s) more
+    rw (glyph (b / 16) (omega arith), glyph (b % 16) (omega arith))
+    (ap (λ (s : List ℕ). digit_glyph true (b / 16) ∷ digit_glyph true (b % 16) ∷ s) (hex_upper bytes (λ k. plain (suc k))))

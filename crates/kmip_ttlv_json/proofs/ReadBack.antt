@@ -9,9 +9,7 @@ use Rattle.serde_json.specs.Data.{Data, string, array, object, Items, item, no_m
 use Rattle.serde_json.specs.Read.{read, max_depth, of_json, of_items}
 use Rattle.serde_json.specs.Written.{compact_text, outline, items_outline}
 use Rattle.serde_json.proofs.{OnLiterals.serde_json_on_literals, Texts.print-outline}
-use Rattle.kmip_ttlv_types.specs.declared.typ.TtlvType.{TtlvType}
-use Rattle.kmip_ttlv_types.specs.declared.typ.TtlvType.TheVariants.{Structure, Integer, LongInteger, BigInteger, Enumeration, Boolean, TextString, ByteString}
-use Rattle.kmip_ttlv_types.specs.declared.typ.TtlvType.TheVariants.{DateTime, Interval}
+use Rattle.kmip_ttlv_types.specs.declared.typ.TtlvType.{TtlvType, TheVariants.Structure, TheVariants.Enumeration}
 use Rattle.kmip_ttlv_types.specs.Trees.{Tree, Trees, leaf, node, no_trees}
 use Rattle.kmip_ttlv_json.specs.Jsons.{type_word, hex_text, value_json, item_json, tree_json, trees_json}
 use Rattle.json.specs.Json as json
@@ -31,24 +29,8 @@ record AllBack (ds : Items) : Type 0 where
 
 value_back : (hidden : Bool) (typ : TtlvType) (content : List ℕ) → Back (value_json hidden typ content)
 value_back hidden Enumeration content = record { numbers = tt; shallow = refl; same = refl }
-value_back true Structure content = record { numbers = tt; shallow = refl; same = refl }
-value_back true Integer content = record { numbers = tt; shallow = refl; same = refl }
-value_back true LongInteger content = record { numbers = tt; shallow = refl; same = refl }
-value_back true BigInteger content = record { numbers = tt; shallow = refl; same = refl }
-value_back true Boolean content = record { numbers = tt; shallow = refl; same = refl }
-value_back true TextString content = record { numbers = tt; shallow = refl; same = refl }
-value_back true ByteString content = record { numbers = tt; shallow = refl; same = refl }
-value_back true DateTime content = record { numbers = tt; shallow = refl; same = refl }
-value_back true Interval content = record { numbers = tt; shallow = refl; same = refl }
-value_back false Structure content = record { numbers = tt; shallow = refl; same = refl }
-value_back false Integer content = record { numbers = tt; shallow = refl; same = refl }
-value_back false LongInteger content = record { numbers = tt; shallow = refl; same = refl }
-value_back false BigInteger content = record { numbers = tt; shallow = refl; same = refl }
-value_back false Boolean content = record { numbers = tt; shallow = refl; same = refl }
-value_back false TextString content = record { numbers = tt; shallow = refl; same = refl }
-value_back false ByteString content = record { numbers = tt; shallow = refl; same = refl }
-value_back false DateTime content = record { numbers = tt; shallow = refl; same = refl }
-value_back false Interval content = record { numbers = tt; shallow = refl; same = refl }
+value_back true typ content = record { numbers = tt; shallow = refl; same = refl }
+value_back false typ content = record { numbers = tt; shallow = refl; same = refl }
 
 -- the members stand in the order of their keys
 put_all : (a b v : Data) → put (codes "value") v (put (codes "type") b (put (codes "tag") a no_members)) ≡ member (codes "tag") a

@@ -9,7 +9,7 @@ use Rattle.kmip_ttlv_types.specs.Trees.{Tree, Trees, leaf, node, no_trees, tree,
 use Rattle.kmip_ttlv_write.specs.OpenStructures.{add_last}
 use Rattle.kmip_ttlv_write.proofs.{Opens.below_last, Patches.lead}
 use Rattle.kmip_ttlv_json.specs.{declared.failure.BadMember.BadMember, declared.failure.JsonError.JsonError, JsonTrees.both, Readings.Fails, Readings.is_node}
-use Rattle.kmip_ttlv_json.specs.declared.failure.JsonError.TheVariants.{NotJson, NotItem, NotStructure, TooLong, OutOfMemory}
+use Rattle.kmip_ttlv_json.specs.declared.failure.JsonError.TheVariants.{NotItem, OutOfMemory}
 
 -- ---- trees, one after the other
 
@@ -41,17 +41,14 @@ pub begun_more : (whole rest : Result Trees BadMember) (old mid new : List ℕ) 
 begun_more whole rest old mid new t b e = record {
   done = add_last b.done t;
   is = b.is ∙ sym (before_last b.done t rest);
-  all = e ∙ ap (λ (s : List ℕ). s ++ bytes t) b.all ∙ append_assoc old (bytes_below b.done) (bytes t)
-      ∙ ap (λ (s : List ℕ). old ++ s) (sym (below_last b.done t));
+  all = rw below_last (e ∙ ap (λ (s : List ℕ). s ++ bytes t) b.all ∙ append_assoc old (bytes_below b.done) (bytes t));
 }
 
-pub fails_all : (whole rest : Result Trees BadMember) (one : Result Tree BadMember) (old new : List ℕ) (e : JsonError) → Begun whole (both one rest) old new
-    → Fails one e → Fails whole e
-fails_all whole rest one old new (NotItem bad) b h = b.is ∙ ap (λ (r : Result Tree BadMember). before b.done (both r rest)) h ∙ before_bad b.done bad
-fails_all whole rest one old new OutOfMemory b h = tt
-fails_all whole rest one old new (NotJson line column) b h = h
-fails_all whole rest one old new NotStructure b h = h
-fails_all whole rest one old new TooLong b h = h
+pub fails_all : {whole : Result Trees BadMember} (rest : Result Trees BadMember) (one : Result Tree BadMember) {old new : List ℕ} (e : JsonError)
+    → Begun whole (both one rest) old new → Fails one e → Fails whole e
+fails_all rest one (NotItem bad) b h = b.is ∙ ap (λ (r : Result Tree BadMember). before b.done (both r rest)) h ∙ before_bad b.done bad
+fails_all rest one OutOfMemory b h = tt
+fails_all rest one e b h = h
 
 -- an item of an array is no deeper than all of them
 pub item_deep : (vs : List Value) (i : ℕ) (d : Value) → i < length vs → depth (view (get_or vs i d)) ≤ items_depth (items_view vs)
@@ -77,10 +74,7 @@ module _ (old d out : List ℕ) (tag top : ℕ) (top-is : top ≡ length old) (h
   unfolding node_bytes
   node_put =
       let n : length out - (top + 8) ≡ length d = omega (arith, len) in
-      ap (λ (s : List ℕ). s ++ (to_be_bytes w32 (length out - (top + 8)) ++ drop (top + 8) out)) front
-      ∙ ap (λ (s : List ℕ). (old ++ lead tag Structure) ++ (to_be_bytes w32 (length out - (top + 8)) ++ s)) back
-      ∙ ap (λ (k : ℕ). (old ++ lead tag Structure) ++ (to_be_bytes w32 k ++ d)) n
-      ∙ simp append_assoc
+      rw (front, back, n) (simp append_assoc)
 
 -- ---- what fits
 

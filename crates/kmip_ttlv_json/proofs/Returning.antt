@@ -4,21 +4,20 @@ use Rattle.std.proofs.Common.{option_and_then, Ok, refl, ap, sym, arith, length-
 use Rattle.std.specs.{Prelude.nat_lt, Option.ok_or, Result.result_ok}
 use Rattle.std.specs.Int.{w32, w64, to_be_bytes, from_be_bytes, bytes_high_first}
 use Rattle.std.proofs.lemmas.{Bool.ltb-true, Bool.eqb-true, Nat.be_bytes_8}
-use Rattle.hex.specs.Hex.{encode_with, encode_upper, upper_digits, decode_of, decode_sized}
+use Rattle.hex.specs.Hex.{encode_with, encode_upper, upper_digits, decode_sized}
 use Rattle.hex.proofs.HexLemmas.{IsDigits-upper_digits, decode_of-encode_upper, decode_pairs-encode_with}
 use Rattle.serde_json.specs.Data.{Data, string, array, depth}
 use Rattle.serde_json.specs.{Read.max_depth, Written.compact_text}
 use Rattle.kmip_ttlv_types.specs.{declared.typ.TtlvType.TtlvType, Leaves.is_valid}
-use Rattle.kmip_ttlv_types.specs.declared.typ.TtlvType.TheVariants.{Structure, Integer, LongInteger, BigInteger, Enumeration, Boolean, TextString, ByteString}
-use Rattle.kmip_ttlv_types.specs.declared.typ.TtlvType.TheVariants.{DateTime, Interval}
+use Rattle.kmip_ttlv_types.specs.declared.typ.TtlvType.TheVariants.{Structure, Boolean, TextString}
 use Rattle.kmip_ttlv_types.proofs.PlaceLemmas.{raw_with, text_length}
-use Rattle.kmip_ttlv_types.specs.Trees.{Tree, Trees, leaf, node, no_trees, bytes, bytes_below, IsTreeText, AreTreeTexts, IsStructure, Fits}
+use Rattle.kmip_ttlv_types.specs.Trees.{Tree, Trees, leaf, node, no_trees, bytes, bytes_below, IsTreeText, AreTreeTexts, IsStructure}
 use Rattle.kmip_ttlv_items.specs.{declared.found.FoundItem.FoundItem, FoundItems.Lists}
 use Rattle.kmip_ttlv_items.proofs.Spans.{leaf_not}
 use Rattle.kmip_ttlv_write.specs.GivenItems.{lines, lines_below}
 use Rattle.kmip_ttlv_write.proofs.Opens.{leaf_len, node_len, padding_is}
 use Rattle.kmip_ttlv_json.specs.Jsons.{type_word, hex_text, is_true, value_json, item_json, tree_json, trees_json}
-use Rattle.kmip_ttlv_json.specs.JsonTrees.{boolean_bytes, tag_in, type_in, content_in, valid_in, leaf_in, node_of, typed_in, tagged_in, both, tree_of, below_of}
+use Rattle.kmip_ttlv_json.specs.JsonTrees.{boolean_bytes, tag_in, type_in, content_in, valid_in, leaf_in, node_of, typed_in, tagged_in, tree_of, below_of}
 use Rattle.kmip_ttlv_json.specs.JsonTrees.{trees_of}
 use Rattle.kmip_ttlv_json.specs.{declared.failure.BadMember.TheVariants.Value, Laws.no_secrets, Readings.Stands, Readings.is_node}
 use Rattle.kmip_ttlv_json.proofs.{Found.tree_plain, ReadBack.tree_back, ReadBack.text_back, ReadingBack.structure_fits, Determining.both_true}
@@ -27,34 +26,22 @@ use Rattle.kmip_ttlv_types.specs.Trees as trees
 
 -- ---- the members of an item
 
-tag_number : (tag : ℕ) → tag < 2 ^ 24 → from_be_bytes w32 (0 ∷ bytes_high_first 3 tag) ≡ tag
-tag_number tag lt = omega (arith, lt)
-
 sized : (tag : ℕ) → decode_sized (encode_upper (bytes_high_first 3 tag)) 3 ≡ Ok (bytes_high_first 3 tag)
 unfolding encode_with
 sized tag = decode_pairs-encode_with upper_digits IsDigits-upper_digits 0 (bytes_high_first 3 tag) (tag_plain tag)
 
 tag_returns : (tag : ℕ) → tag < 2 ^ 24 → tag_in (string (hex_text (bytes_high_first 3 tag))) ≡ Some tag
-tag_returns tag lt = ap (λ r. option_map (λ s. from_be_bytes w32 (0 ∷ s)) (result_ok r)) (sized tag) ∙ ap Some (tag_number tag lt)
+tag_returns tag lt =
+    let same : from_be_bytes w32 (0 ∷ bytes_high_first 3 tag) ≡ tag = omega (arith, lt) in
+    ap (λ r. option_map (λ s. from_be_bytes w32 (0 ∷ s)) (result_ok r)) (sized tag) ∙ ap Some same
 
 type_returns : (typ : TtlvType) → type_in (string (type_word typ)) ≡ Some typ
 type_returns Structure = refl
-type_returns Integer = refl
-type_returns LongInteger = refl
-type_returns BigInteger = refl
-type_returns Enumeration = refl
-type_returns Boolean = refl
-type_returns TextString = refl
-type_returns ByteString = refl
-type_returns DateTime = refl
-type_returns Interval = refl
+type_returns typ = refl
 
 item_returns : (tag : ℕ) (typ : TtlvType) (v : Data) → tag < 2 ^ 24 → tree_of (item_json tag typ v) ≡ typed_in tag (Some typ) v (below_of v)
 item_returns tag typ v lt = ap (λ o. tagged_in o (string (type_word typ)) v (below_of v)) (tag_returns tag lt)
     ∙ ap (λ o. typed_in tag o v (below_of v)) (type_returns typ)
-
-digits_return : (content : List ℕ) → ArePlain content → result_ok (decode_of (encode_upper content)) ≡ Some content
-digits_return content plain = ap result_ok (decode_of-encode_upper content plain)
 
 number_bit : (n : ℕ) → n < 2 → (if nat_lt 0 n then 1 else 0) ≡ n
 number_bit n lt = grind arith
@@ -68,38 +55,21 @@ boolean_returns content good plain =
 content_returns : (typ : TtlvType) (content : List ℕ) → is_valid typ content ≡ true → ArePlain content
     → content_in typ (value_json false typ content) ≡ Some content
 content_returns Structure content good plain = absurd (leaf_not Structure content good refl)
-content_returns Integer content good plain = digits_return content plain
-content_returns LongInteger content good plain = digits_return content plain
-content_returns BigInteger content good plain = digits_return content plain
-content_returns Enumeration content good plain = digits_return content plain
 content_returns Boolean content good plain = ap Some (boolean_returns content good plain)
 content_returns TextString content good plain = refl
-content_returns ByteString content good plain = digits_return content plain
-content_returns DateTime content good plain = digits_return content plain
-content_returns Interval content good plain = digits_return content plain
-
-valid_returns : (typ : TtlvType) (content : List ℕ) → is_valid typ content ≡ true → valid_in typ content ≡ Some content
-valid_returns typ content good = ap (λ b. if b then Some content else None) good
+content_returns typ content good plain = ap result_ok (decode_of-encode_upper content plain)
 
 leaf_returns : (tag : ℕ) (typ : TtlvType) (content : List ℕ) → is_valid typ content ≡ true → ArePlain content
     → leaf_in tag typ (value_json false typ content) ≡ Ok (leaf tag typ content)
 leaf_returns tag typ content good plain =
     ap (λ o. ok_or (option_map (leaf tag typ) (option_and_then (valid_in typ) o)) Value) (content_returns typ content good plain)
-    ∙ ap (λ o. ok_or (option_map (leaf tag typ) o) Value) (valid_returns typ content good)
+    ∙ ap (λ b. ok_or (option_map (leaf tag typ) (if b then Some content else None)) Value) good
 
 -- it is a leaf of that type
 typed_leaf : (tag : ℕ) (typ : TtlvType) (content : List ℕ) → is_valid typ content ≡ true → ArePlain content
     → typed_in tag (Some typ) (value_json false typ content) (below_of (value_json false typ content)) ≡ Ok (leaf tag typ content)
 typed_leaf tag Structure content good plain = absurd (leaf_not Structure content good refl)
-typed_leaf tag Integer content good plain = leaf_returns tag Integer content good plain
-typed_leaf tag LongInteger content good plain = leaf_returns tag LongInteger content good plain
-typed_leaf tag BigInteger content good plain = leaf_returns tag BigInteger content good plain
-typed_leaf tag Enumeration content good plain = leaf_returns tag Enumeration content good plain
-typed_leaf tag Boolean content good plain = leaf_returns tag Boolean content good plain
-typed_leaf tag TextString content good plain = leaf_returns tag TextString content good plain
-typed_leaf tag ByteString content good plain = leaf_returns tag ByteString content good plain
-typed_leaf tag DateTime content good plain = leaf_returns tag DateTime content good plain
-typed_leaf tag Interval content good plain = leaf_returns tag Interval content good plain
+typed_leaf tag typ content good plain = leaf_returns tag typ content good plain
 
 -- ---- trees
 
@@ -114,8 +84,7 @@ mutual
   trees_return d no_trees text h plain = refl
   trees_return d (trees.tree t ts) text h plain =
       let p = plain_both (lines d t) (lines_below d ts) plain in
-      let rest = trees_of (trees_json no_secrets false ts) in
-      ap (λ r. both r rest) (tree_returns d t h.0 h.3 p.0) ∙ ap (both (Ok t)) (trees_return d ts h.1 h.4 p.1)
+      rw (tree_returns d t h.0 h.3 p.0, trees_return d ts h.1 h.4 p.1) refl
 
 -- ---- messages
 
@@ -146,10 +115,9 @@ pub stands_back : (w : List ℕ) (xs : List FoundItem) → ArePlain w → (h : L
     → Stands (compact_text (tree_json no_secrets false h.message)) h.message
 stands_back w xs plain h deep =
     let t = h.message in
-    let d = tree_json no_secrets false t in
     let len : length (bytes t) < 2 ^ 32 + 8 = omega (arith, structure_short t w h.text h.root, len_of t w h.text) in
     record {
-      reads = record { json = d; parsed = text_back d (tree_back no_secrets false t) deep; is = tree_returns 0 t w h.text (tree_plain w plain xs h) };
+      reads = record { json = _; parsed = text_back _ (tree_back no_secrets false t) deep; is = tree_returns 0 t w h.text (tree_plain w plain xs h) };
       root = h.root;
       fits = (structure_fits t (structure_is t h.root) len).1;
     }

@@ -6,11 +6,9 @@ use Rattle.std.proofs.lemmas.Bool.{eqb-true}
 use Rattle.hex.specs.declared.error.FromHexError.{FromHexError, TheVariants.OddLength, TheVariants.InvalidStringLength}
 use Rattle.hex.specs.Hex.{decode_pairs, decode_sized, IsBytes}
 use Rattle.hex.proofs.HexLemmas.{decode_pairs-ok}
-use Rattle.serde_json.specs.Data.{Data, null, boolean, number, string, array, object, Items, no_items, item, no_members, member}
+use Rattle.serde_json.specs.Data.{Data, array, object, Items, no_items, item, no_members, member}
 use Rattle.serde_json.specs.Find.{as_str}
-use Rattle.kmip_ttlv_types.specs.{declared.typ.TtlvType.TtlvType, Leaves.is_valid}
-use Rattle.kmip_ttlv_types.specs.declared.typ.TtlvType.TheVariants.{Structure, Integer, LongInteger, BigInteger, Enumeration, Boolean, TextString, ByteString}
-use Rattle.kmip_ttlv_types.specs.declared.typ.TtlvType.TheVariants.{DateTime, Interval}
+use Rattle.kmip_ttlv_types.specs.{declared.typ.TtlvType.TtlvType, Leaves.is_valid, declared.typ.TtlvType.TheVariants.Structure}
 use Rattle.kmip_ttlv_types.specs.Trees.{Tree, Trees, leaf, node, no_trees, tree, bytes, IsTreeText, Fits, FitsBelow}
 use Rattle.kmip_ttlv_items.proofs.Spans.{leaf_not}
 use Rattle.kmip_ttlv_write.proofs.Opens.{AllTexts, leaf_text, node_text}
@@ -23,20 +21,12 @@ use Rattle.kmip_ttlv_json.specs.JsonTrees.{below_of, trees_of}
 -- what a choice that succeeded was made of
 chosen : (odd sized : Bool) (r : Result (List ℕ) FromHexError) (s : List ℕ) → (if odd then Err OddLength else if sized then r else Err InvalidStringLength)
     ≡ Ok s → (sized ≡ true) × (r ≡ Ok s)
-chosen true sized r s h = absurd (cc)
 chosen false true r s h = (refl, h)
-chosen false false r s h = absurd (cc)
+chosen odd sized r s h = absurd (cc)
 
 three_small : (s : List ℕ) → length s ≡ 3 → IsBytes s → from_be_bytes w32 (0 ∷ s) < 2 ^ 24
-three_small [] len small = absurd (omega (arith, len))
-three_small (a ∷ []) len small = absurd (omega (arith, len))
-three_small (a ∷ b ∷ []) len small = absurd (omega (arith, len))
-three_small (a ∷ b ∷ c ∷ []) len small =
-    let p : a < 256 = small 0 in
-    let q : b < 256 = small 1 in
-    let r : c < 256 = small 2 in
-    omega (arith, p, q, r)
-three_small (a ∷ b ∷ c ∷ d ∷ s) len small = absurd (omega (arith, len))
+three_small (a ∷ b ∷ c ∷ []) len small = omega (arith, small 0, small 1, small 2)
+three_small s len small = absurd (omega (arith, len))
 
 abbrev number_in : Option ℕ → ℕ
 number_in None = 0
@@ -48,9 +38,7 @@ sized_small digits (Err e) n is h = absurd (cc)
 sized_small digits (Ok s) n is h =
     let k = chosen (length digits % 2 == 1) (length digits / 2 == 3) (decode_pairs 0 digits) s is in
     let all = decode_pairs-ok 0 digits s k.1 in
-    let half : length digits / 2 ≡ 3 = eqb-true (length digits / 2) 3 k.0 in
-    let lt = three_small s (omega (arith, half, all.1)) all.2 in
-    subst (λ m. m < 2 ^ 24) (ap number_in h) lt
+    subst (λ m. m < 2 ^ 24) (ap number_in h) (three_small s (omega (arith, eqb-true (length digits / 2) 3 k.0, all.1)) all.2)
 
 text_small : (o : Option (List ℕ)) (n : ℕ) → option_map (λ s. from_be_bytes w32 (0 ∷ s)) (option_and_then (λ digits. result_ok (decode_sized digits 3)) o)
     ≡ Some n → n < 2 ^ 24
@@ -72,8 +60,7 @@ module _ (tag : ℕ) (typ : TtlvType) (small : tag < 2 ^ 24) where
   valid_sound content false t is h fits = absurd (cc)
   valid_sound content true t is h fits =
       let e : leaf tag typ content ≡ t = ap tree_in h in
-      let short : Fits (leaf tag typ content) = subst Fits (sym e) fits in
-      subst (λ u. IsTreeText u (bytes u)) e (leaf_text tag typ content small (leaf_not typ content is) short is)
+      subst (λ u. IsTreeText u (bytes u)) e (leaf_text tag typ content small (leaf_not typ content is) (subst Fits (sym e) fits) is)
 
   content_sound : (o : Option (List ℕ)) (t : Tree) → ok_or (option_map (leaf tag typ) (option_and_then (valid_in typ) o)) Value ≡ Ok t → Fits t
       → IsTreeText t (bytes t)
@@ -100,15 +87,7 @@ typed_sound : (tag : ℕ) (o : Option TtlvType) (v : Data) (r : Result Trees Bad
     → Fits t → IsTreeText t (bytes t)
 typed_sound tag None v r t small below h fits = absurd (cc)
 typed_sound tag (Some Structure) v r t small below h fits = node_sound tag r t small below h fits
-typed_sound tag (Some Integer) v r t small below h fits = leaf_sound tag Integer small v t h fits
-typed_sound tag (Some LongInteger) v r t small below h fits = leaf_sound tag LongInteger small v t h fits
-typed_sound tag (Some BigInteger) v r t small below h fits = leaf_sound tag BigInteger small v t h fits
-typed_sound tag (Some Enumeration) v r t small below h fits = leaf_sound tag Enumeration small v t h fits
-typed_sound tag (Some Boolean) v r t small below h fits = leaf_sound tag Boolean small v t h fits
-typed_sound tag (Some TextString) v r t small below h fits = leaf_sound tag TextString small v t h fits
-typed_sound tag (Some ByteString) v r t small below h fits = leaf_sound tag ByteString small v t h fits
-typed_sound tag (Some DateTime) v r t small below h fits = leaf_sound tag DateTime small v t h fits
-typed_sound tag (Some Interval) v r t small below h fits = leaf_sound tag Interval small v t h fits
+typed_sound tag (Some typ) v r t small below h fits = leaf_sound tag typ small v t h fits
 
 tagged_sound : (d : Data) (o : Option ℕ) (typ v : Data) (r : Result Trees BadMember) (t : Tree) → tag_in d ≡ o → AreSound r → tagged_in o typ v r ≡ Ok t
     → Fits t → IsTreeText t (bytes t)
@@ -134,33 +113,20 @@ trees_in (Err bad) = no_trees
 
 both_ok : (one : Result Tree BadMember) (more : Result Trees BadMember) (ts : Trees) → both one more ≡ Ok ts → Both one more ts
 both_ok (Ok t) (Ok rest) ts h = record { t = t; rest = rest; first = refl; others = refl; is = ap trees_in h }
-both_ok (Ok t) (Err bad) ts h = absurd (cc)
-both_ok (Err bad) more ts h = absurd (cc)
+both_ok one more ts h = absurd (cc)
 
 mutual
   pub sound : (d : Data) (t : Tree) → tree_of d ≡ Ok t → Fits t → IsTreeText t (bytes t)
   sound (object (member a tag (member b typ (member c v no_members)))) t h fits = named_sound (are_named a b c) tag typ v (below_of v) t (below_sound v) h fits
-  sound (object (member a tag (member b typ (member c v (member e w ms))))) t h fits = absurd (cc)
-  sound (object (member a tag (member b typ no_members))) t h fits = absurd (cc)
-  sound (object (member a tag no_members)) t h fits = absurd (cc)
-  sound (object no_members) t h fits = absurd (cc)
-  sound (array ds) t h fits = absurd (cc)
-  sound (string s) t h fits = absurd (cc)
-  sound (number n) t h fits = absurd (cc)
-  sound (boolean b) t h fits = absurd (cc)
-  sound null t h fits = absurd (cc)
+  sound d t h fits = absurd (cc)
 
   below_sound : (d : Data) → AreSound (below_of d)
   below_sound (array ds) ts h fits = all_sound ds ts h fits
-  below_sound (object ms) ts h fits = absurd (cc)
-  below_sound (string s) ts h fits = absurd (cc)
-  below_sound (number n) ts h fits = absurd (cc)
-  below_sound (boolean b) ts h fits = absurd (cc)
-  below_sound null ts h fits = absurd (cc)
+  below_sound d ts h fits = absurd (cc)
 
   all_sound : (ds : Items) → AreSound (trees_of ds)
   all_sound no_items ts h fits = subst AllTexts (ap trees_in h) tt
   all_sound (item d ds) ts h fits =
       let k = both_ok (tree_of d) (trees_of ds) ts h in
-      let all : FitsBelow (tree k.t k.rest) = subst FitsBelow (sym k.is) fits in
+      let all = subst FitsBelow (sym k.is) fits in
       subst AllTexts k.is (sound d k.t k.first all.0, all_sound ds k.rest k.others all.1)

@@ -1,21 +1,21 @@
 -- The text that is printed item by item is that of the tree.
-use Rattle.std.proofs.Common.{◌≡◌, ◌≢◌, ◌∙◌, ℕ, zero, suc, ◌+◌, ◌-◌, ◌<◌, ◌≤◌, ◌==◌, Bool, true, false, not, ◌||◌, ◌&&◌, List, [], ◌∷◌, ◌++◌, get_or}
+use Rattle.std.proofs.Common.{◌≡◌, ◌≢◌, ◌∙◌, ℕ, zero, suc, ◌+◌, ◌-◌, ◌<◌, ◌≤◌, ◌==◌, Bool, true, false, not, ◌||◌, List, [], ◌∷◌, ◌++◌, get_or}
 use Rattle.std.proofs.Common.{if◌then◌else◌, Option, Some, None, refl, sym, ap, ap₂, arith, append_assoc, append-nil}
 use Rattle.std.specs.{Prelude.codes, Int.bytes_high_first}
+use Rattle.std.proofs.{Math.Bool.and-false, Math.Bool.and-true, Math.Bool.or-false}
 use Rattle.std.proofs.lemmas.Bool.{lt-ltb, le-ltb, ltb-true, ltb-false, ne_eqb, eq-eqb}
 use Rattle.hex.specs.Hex.{encode_upper}
 use Rattle.json.specs.Print.{escape_byte, escape, quoted}
 use Rattle.serde_json.specs.Data.{Data}
 use Rattle.serde_json.specs.Written.{compact_text, items_text, comma_if}
 use Rattle.kmip_ttlv_types.specs.{declared.typ.TtlvType.TtlvType, ItemTypes.code}
-use Rattle.kmip_ttlv_types.specs.declared.typ.TtlvType.TheVariants.{Structure, Integer, LongInteger, BigInteger, Enumeration, Boolean, TextString, ByteString}
-use Rattle.kmip_ttlv_types.specs.declared.typ.TtlvType.TheVariants.{DateTime, Interval}
+use Rattle.kmip_ttlv_types.specs.declared.typ.TtlvType.TheVariants.{Structure, Enumeration, Boolean, TextString, ByteString}
 use Rattle.kmip_ttlv_types.specs.Trees.{Tree, Trees, leaf, node, no_trees, tree, IsTreeText, AreTreeTexts}
 use Rattle.kmip_ttlv_items.proofs.Spans.{leaf_not}
 use Rattle.kmip_ttlv_write.specs.GivenItems.{Line, lines, lines_below}
 use Rattle.kmip_ttlv_json.specs.declared.print.Spot.{Spot}
 use Rattle.kmip_ttlv_json.specs.Jsons.{type_word, value_json, item_json, hex_text, is_true, tree_json, trees_json}
-use Rattle.kmip_ttlv_json.specs.Parts.{closes, is_inside, spot_after, gap, type_part, opening, value_part, item_part, kind, parts, spot_behind, first_spot}
+use Rattle.kmip_ttlv_json.specs.Parts.{closes, is_inside, spot_after, gap, opening, value_part, item_part, kind, parts, spot_behind, first_spot}
 use Rattle.kmip_ttlv_json.proofs.Escapes.{escape_digits}
 
 abbrev pub ArePlain : List ℕ → Type 0
@@ -23,15 +23,7 @@ ArePlain xs = (k : ℕ) → get_or xs k 0 < 256
 
 pub kind_code : (typ : TtlvType) → kind (code typ) ≡ typ
 kind_code Structure = refl
-kind_code Integer = refl
-kind_code LongInteger = refl
-kind_code BigInteger = refl
-kind_code Enumeration = refl
-kind_code Boolean = refl
-kind_code TextString = refl
-kind_code ByteString = refl
-kind_code DateTime = refl
-kind_code Interval = refl
+kind_code typ = refl
 
 -- ---- one item
 
@@ -40,15 +32,7 @@ type_is : (typ : TtlvType) (s : List ℕ) → 44 ∷ (quoted (codes "type") ++ 5
     ≡ 44 ∷ 34 ∷ 116 ∷ 121 ∷ 112 ∷ 101 ∷ 34 ∷ 58 ∷ 34 ∷ (type_word typ ++ (codes "\",\"value\":" ++ s))
 unfolding escape_byte
 type_is Structure s = refl
-type_is Integer s = refl
-type_is LongInteger s = refl
-type_is BigInteger s = refl
-type_is Enumeration s = refl
-type_is Boolean s = refl
-type_is TextString s = refl
-type_is ByteString s = refl
-type_is DateTime s = refl
-type_is Interval s = refl
+type_is typ s = refl
 
 pub tag_plain : (tag : ℕ) → ArePlain (bytes_high_first 3 tag)
 tag_plain tag zero = omega arith
@@ -67,12 +51,10 @@ unfolding opening escape_byte
 item_is tag typ value =
     let s = compact_text value ++ 125 ∷ [] in
     let digits = encode_upper (bytes_high_first 3 tag) in
-    let rest = 44 ∷ (quoted (codes "type") ++ 58 ∷ (quoted (type_word typ) ++ 44 ∷ (quoted (codes "value") ++ 58 ∷ s))) in
-    append_assoc (codes "{\"tag\":\"0x" ++ digits) (type_part typ) s
-    ∙ append_assoc (codes "{\"tag\":\"0x") digits (type_part typ ++ s)
-    ∙ ap (λ (t : List ℕ). codes "{\"tag\":\"0x" ++ (digits ++ (codes "\",\"type\":\"" ++ t))) (append_assoc (type_word typ) (codes "\",\"value\":") s)
-    ∙ sym (ap (λ (t : List ℕ). codes "{\"tag\":\"0x" ++ (digits ++ 34 ∷ t)) (type_is typ s))
-    ∙ sym (ap (λ (t : List ℕ). codes "{\"tag\":" ++ t) (quoted_hex (bytes_high_first 3 tag) rest (tag_plain tag)))
+    let front : opening tag typ ++ s ≡ codes "{\"tag\":\"0x" ++ (digits ++ (codes "\",\"type\":\"" ++ (type_word typ ++ (codes "\",\"value\":" ++ s)))) =
+    simp append_assoc in
+    front ∙ ap (λ (t : List ℕ). codes "{\"tag\":\"0x" ++ (digits ++ 34 ∷ t)) (sym (type_is typ s))
+    ∙ ap (λ (t : List ℕ). codes "{\"tag\":" ++ t) (sym (quoted_hex (bytes_high_first 3 tag) _ (tag_plain tag)))
 
 quoted_digits : (content : List ℕ) → ArePlain content → encode_upper content ++ 34 ∷ [] ≡ escape (encode_upper content) ++ 34 ∷ []
 quoted_digits content plain = sym (ap (λ (t : List ℕ). t ++ 34 ∷ []) (escape_digits content plain))
@@ -82,18 +64,7 @@ value_is : (hidden : Bool) (typ : TtlvType) (content : List ℕ) → typ ≢ Str
     → value_part hidden typ content ≡ compact_text (value_json hidden typ content) ++ 125 ∷ []
 unfolding escape_byte
 value_is hidden Structure content ne plain = absurd (ne refl)
-value_is true Integer content ne plain = refl
-value_is true LongInteger content ne plain = refl
-value_is true BigInteger content ne plain = refl
-value_is true Boolean content ne plain = refl
-value_is true TextString content ne plain = refl
-value_is true ByteString content ne plain = refl
-value_is true DateTime content ne plain = refl
-value_is true Interval content ne plain = refl
 value_is hidden Enumeration content ne plain = ap (λ (t : List ℕ). 34 ∷ 48 ∷ 120 ∷ (t ++ 125 ∷ [])) (quoted_digits content plain)
-value_is false Integer content ne plain = ap (λ (t : List ℕ). 34 ∷ 48 ∷ 120 ∷ (t ++ 125 ∷ [])) (quoted_digits content plain)
-value_is false LongInteger content ne plain = ap (λ (t : List ℕ). 34 ∷ 48 ∷ 120 ∷ (t ++ 125 ∷ [])) (quoted_digits content plain)
-value_is false BigInteger content ne plain = ap (λ (t : List ℕ). 34 ∷ 48 ∷ 120 ∷ (t ++ 125 ∷ [])) (quoted_digits content plain)
 value_is false Boolean content ne plain = by (is_true content)
   where
     by : (b : Bool) → (if b then codes "true" else codes "false") ++ codes "}" ≡ compact_text (Data.boolean b) ++ 125 ∷ []
@@ -101,8 +72,8 @@ value_is false Boolean content ne plain = by (is_true content)
     by false = refl
 value_is false TextString content ne plain = refl
 value_is false ByteString content ne plain = ap (λ (t : List ℕ). 34 ∷ (t ++ 125 ∷ [])) (quoted_digits content plain)
-value_is false DateTime content ne plain = ap (λ (t : List ℕ). 34 ∷ 48 ∷ 120 ∷ (t ++ 125 ∷ [])) (quoted_digits content plain)
-value_is false Interval content ne plain = ap (λ (t : List ℕ). 34 ∷ 48 ∷ 120 ∷ (t ++ 125 ∷ [])) (quoted_digits content plain)
+value_is true typ content ne plain = refl
+value_is false typ content ne plain = ap (λ (t : List ℕ). 34 ∷ 48 ∷ 120 ∷ (t ++ 125 ∷ [])) (quoted_digits content plain)
 
 -- ---- items behind one another
 
@@ -141,10 +112,8 @@ module _ (secrets : ℕ → Bool) (hidden : Bool) where
 
   pub flat_is : (s : Spot) (ls : List Line) → parts secrets hidden s ls ++ closes (spot_behind secrets s ls).depth ≡ flat s ls
   flat_is s [] = refl
-  flat_is s (l ∷ ls) =
-      let t = spot_after secrets s l.depth l.tag (kind l.code) in
-      let part = item_part secrets hidden s l.depth l.tag (kind l.code) l.content in
-      append_assoc part (parts secrets hidden t ls) (closes (spot_behind secrets t ls).depth) ∙ ap (λ (x : List ℕ). part ++ x) (flat_is t ls)
+  flat_is s (l ∷ ls) = rw append_assoc (ap (λ (x : List ℕ). item_part secrets hidden s l.depth l.tag (kind l.code) l.content ++ x)
+      (flat_is (spot_after secrets s l.depth l.tag (kind l.code)) ls))
 
   -- a structure ends in front of an item that is not in it
   close_one : (d : ℕ) (b : Bool) (s : Option ℕ) (r : List Line) → IsLow d r → flat (spot (suc d) b s) r ≡ 93 ∷ 125 ∷ flat (spot d false s) r
@@ -152,26 +121,13 @@ module _ (secrets : ℕ → Bool) (hidden : Bool) where
   close_one d b s (l ∷ ls) low =
       let more : suc d - l.depth ≡ suc (d - l.depth) = omega (arith, low) in
       let other : (suc d == l.depth) ≡ false = ne_eqb (suc d) l.depth (λ e. omega (arith, e, low)) in
-      let rest = opening l.tag (kind l.code) ++ value_part ((hidden || is_inside s l.depth) || secrets l.tag) (kind l.code) l.content in
-      let behind = flat (spot_after secrets (spot d false s) l.depth l.tag (kind l.code)) ls in
-      ap (λ (n : ℕ). ((closes n ++ comma_if (not (b && (suc d == l.depth)))) ++ rest) ++ behind) more
-      ∙ ap (λ (c : Bool). ((closes (suc (d - l.depth)) ++ comma_if (not c)) ++ rest) ++ behind) (ap (λ (c : Bool). b && c) other ∙ no b)
-    where
-      no : (b : Bool) → (b && false) ≡ false
-      no true = refl
-      no false = refl
+      rw (more, other, and-false b) refl
 
   -- where an item is in no secret one, it doesn't matter which was the last
   swap : (d : ℕ) (b : Bool) (s t : Option ℕ) (r : List Line) → IsLow d r → is_inside s d ≡ false → is_inside t d ≡ false
       → flat (spot d b s) r ≡ flat (spot d b t) r
   swap d b s t [] low u v = refl
-  swap d b s t (l ∷ ls) low u v =
-      let one = inside_less s d l.depth u low in
-      let two = inside_less t d l.depth v low in
-      from s one ∙ sym (from t two)
-    where
-      from : (o : Option ℕ) → is_inside o l.depth ≡ false → flat (spot d b o) (l ∷ ls) ≡ flat (spot d b None) (l ∷ ls)
-      from o not-in = rw not-in refl
+  swap d b s t (l ∷ ls) low u v = rw (inside_less s d l.depth u low, inside_less t d l.depth v low) refl
 
   -- which secret item is open behind an item
   abbrev secret_behind : Option ℕ → ℕ → ℕ → Option ℕ
@@ -199,11 +155,7 @@ module _ (secrets : ℕ → Bool) (hidden : Bool) where
   gap_is : (d : ℕ) (b : Bool) (s : Option ℕ) → gap (spot d b s) d ≡ comma_if (not b)
   gap_is d b s =
       let none : d - d ≡ 0 = omega arith in
-      ap (λ (n : ℕ). closes n ++ comma_if (not (b && (d == d)))) none ∙ ap (λ (c : Bool). comma_if (not (b && c))) (eq-eqb d d refl) ∙ by b
-    where
-      by : (b : Bool) → comma_if (not (b && true)) ≡ comma_if (not b)
-      by true = refl
-      by false = refl
+      rw (none, eq-eqb d d refl, and-true b) refl
 
   mutual
     tree_flat : (d : ℕ) (b : Bool) (s : Option ℕ) (t : Tree) (text : List ℕ) (r : List Line) → IsTreeText t text → AllPlain (lines d t) → IsLow d r
@@ -222,35 +174,21 @@ module _ (secrets : ℕ → Bool) (hidden : Bool) where
       where
         leaf_after : (k : TtlvType) → k ≢ Structure → flat (spot_after secrets (spot d b s) d tag k) r ≡ flat (spot d false (secret_behind s d tag)) r
         leaf_after Structure ne = absurd (ne refl)
-        leaf_after Integer ne = refl
-        leaf_after LongInteger ne = refl
-        leaf_after BigInteger ne = refl
-        leaf_after Enumeration ne = refl
-        leaf_after Boolean ne = refl
-        leaf_after TextString ne = refl
-        leaf_after ByteString ne = refl
-        leaf_after DateTime ne = refl
-        leaf_after Interval ne = refl
+        leaf_after typ ne = refl
     tree_flat d b s (node tag below) text r h plain low =
         let u = secret_behind s d tag in
         let hid = (hidden || is_inside s d) || secrets tag in
         let inner = trees_json secrets hid below in
         let rest = flat (spot d false s) r in
         let one_more : d + 1 ≡ suc d = omega arith in
-        let deep : flat (spot (d + 1) true u) (lines_below (suc d) below ++ r) ≡ flat (spot (suc d) true u) (lines_below (suc d) below ++ r) =
-        ap (λ (n : ℕ). flat (spot n true u) (lines_below (suc d) below ++ r)) one_more in
+        let deep = ap (λ (n : ℕ). flat (spot n true u) (lines_below (suc d) below ++ r)) one_more in
         let all : flat (spot (d + 1) true u) (lines_below (suc d) below ++ r) ≡ items_text false inner ++ 125 ∷ rest =
         deep ∙ trees_flat d true u below h.0 r h.2 plain.1 low
         ∙ ap (λ (k : Bool). items_text false (trees_json secrets k below) ++ 125 ∷ flat (spot d false u) r) (hidden_below s d tag)
         ∙ ap (λ (x : List ℕ). items_text false inner ++ 125 ∷ x) (secret_same s d tag false r low) in
-        let own : opening tag Structure ++ (91 ∷ (items_text false inner ++ 125 ∷ [])) ≡ compact_text (item_json tag Structure (Data.array inner)) =
-        item_is tag Structure (Data.array inner) in
+        let own = item_is tag Structure (Data.array inner) in
         ap₂ (λ (x y : List ℕ). (x ++ (opening tag Structure ++ 91 ∷ [])) ++ y) (gap_is d b s) all
-        ∙ regroup (comma_if (not b)) (opening tag Structure) (items_text false inner) rest
-        ∙ ap (λ (x : List ℕ). comma_if (not b) ++ (x ++ rest)) own
-      where
-        regroup : (c o i rest : List ℕ) → (c ++ (o ++ 91 ∷ [])) ++ (i ++ 125 ∷ rest) ≡ c ++ ((o ++ 91 ∷ (i ++ 125 ∷ [])) ++ rest)
-        regroup c o i rest = simp append_assoc
+        ∙ simp append_assoc (simp append_assoc at (ap (λ (x : List ℕ). comma_if (not b) ++ (x ++ rest)) own))
 
     trees_flat : (d : ℕ) (b : Bool) (s : Option ℕ) (ts : Trees) (text : List ℕ) (r : List Line) → AreTreeTexts ts text → AllPlain (lines_below (suc d) ts)
         → IsLow d r
@@ -262,24 +200,13 @@ module _ (secrets : ℕ → Bool) (hidden : Bool) where
         let hid = hidden || is_inside s (suc d) in
         let more = lines_below (suc d) ts ++ r in
         let one = compact_text (tree_json secrets hid t) in
-        let others = items_text true (trees_json secrets hid ts) in
-        let rest = 125 ∷ flat (spot d false s) r in
         ap (flat (spot (suc d) b s)) (append_assoc (lines (suc d) t) (lines_below (suc d) ts) r)
         ∙ tree_flat (suc d) b s t h.0 more h.3 k.0 (low_below d ts r low)
-        ∙ ap (λ (x : List ℕ). comma_if (not b) ++ (one ++ x)) (trees_flat d false s ts h.1 r h.4 k.1 low)
-        ∙ regroup (comma_if (not b)) one others rest
-      where
-        regroup : (c o i rest : List ℕ) → c ++ (o ++ (i ++ rest)) ≡ (c ++ (o ++ i)) ++ rest
-        regroup c o i rest = simp append_assoc
+        ∙ ap (λ (x : List ℕ). comma_if (not b) ++ (one ++ x)) (trees_flat d false s ts h.1 r h.4 k.1 low) ∙ simp append_assoc
 
   -- a whole message
   pub message_flat : (t : Tree) (text : List ℕ) → IsTreeText t text → AllPlain (lines 0 t) → parts secrets hidden first_spot (lines 0 t) ++ closes
       (spot_behind secrets first_spot (lines 0 t)).depth ≡ compact_text (tree_json secrets hidden t)
   message_flat t text h plain =
-      let none : (hidden || false) ≡ hidden = by hidden in
       flat_is first_spot (lines 0 t) ∙ ap (flat first_spot) (sym (append-nil (lines 0 t))) ∙ tree_flat 0 true None t text [] h plain tt
-      ∙ append-nil (compact_text (tree_json secrets (hidden || false) t)) ∙ ap (λ (b : Bool). compact_text (tree_json secrets b t)) none
-    where
-      by : (b : Bool) → (b || false) ≡ b
-      by true = refl
-      by false = refl
+      ∙ append-nil _ ∙ ap (λ (b : Bool). compact_text (tree_json secrets b t)) (or-false hidden)

@@ -38,16 +38,14 @@ BeginsAs (t ∷ ts) (Some x) = HasHead (raw_of t) x
 -- the next item has a name's tag if its head has
 named_first : (name : List ℕ) (ts : List Tree) (y : Option Head) → BeginsAs ts y → names name (map raw_of ts) ≡ is_named name y
 named_first name [] None h = refl
-named_first name [] (Some x) h = absurd h
-named_first name (t ∷ ts) None h = absurd h
 named_first name (t ∷ ts) (Some x) h = ap (has_tag name) h.0
+named_first name ts y h = absurd h
 
 -- and it is like another item if its head is
 like_first : (r : Raw) (x : Head) (ts : List Tree) (y : Option Head) → HasHead r x → BeginsAs ts y → is_like r (map raw_of ts) ≡ is_alike x y
 like_first r x [] None e h = refl
-like_first r x [] (Some y) e h = absurd h
-like_first r x (t ∷ ts) None e h = absurd h
 like_first r x (t ∷ ts) (Some y) e h = rw (e.0, e.1, h.0, h.1) refl
+like_first r x ts y e h = absurd h
 
 -- the item after a sequence that ends isn't like its first
 not_alike : (v : Value) (x : Head) (y : Option Head) → goes_on v x y ≡ false → is_run v ≡ true → is_alike x y ≡ false
@@ -154,20 +152,19 @@ pub record FormsAreRead (ss : Forms) (k : List TagValue) (ws : Values) (y : Opti
   pub head_is : BeginsAs trees y
   pub reads : AllByRecursion Fits trees → ReadsForms ss k (map raw_of trees) vs k' []
 
+-- so it is read from one item
+read_alone : {s : Form} {k k' : List TagValue} {h : PendingTag} {w v : Value} {x : Head} (t : Tree) → items w h ≡ Some (t ∷ []) → HasHead (raw_of t) x
+    → (Fits t → (ys : List Raw) → Reads s k (raw_of t ∷ ys) v k' ys) → IsRead s k h w x v k'
+read_alone t are head reads = record { first = t; rest = []; are = are; head_is = head; alone = λ e. refl; reads = λ f ys apart. reads f.0 ys }
+
 -- a leaf
 leaf_is_read : {s : Form} {h : PendingTag} {w v : Value} {t : ℕ} (k : List TagValue) → pending_tag h ≡ Some t → LeafIs s w v
     → IsRead s k h w record { tag = t; typ = leaf_type w } v (with_value s t w k)
 leaf_is_read {s} {h} {w} {v} {t} k pending l =
     let x : Raw = record { tag = t; typ = leaf_type w; content = l.content } in
-    record {
-      first = leaf t (leaf_type w) l.content;
-      rest = [];
-      are = l.written h t pending;
-      head_is = (refl, refl);
-      alone = λ e. refl;
-      reads = λ f ys apart. subst (λ (u : Value). Reads s k (x ∷ ys) u (with_value s t w k) ys) l.gives
-          (subst (λ (c : List TagValue). Reads s k (x ∷ ys) (decoded_leaf s l.content) c ys) (l.keeps t k) (read_leaf {h = x} l.takes_it l.valid));
-    }
+    read_alone (leaf t (leaf_type w) l.content) (l.written h t pending) (refl, refl)
+    (λ f ys. subst (λ (u : Value). Reads s k (x ∷ ys) u (with_value s t w k) ys) l.gives
+    (subst (λ (c : List TagValue). Reads s k (x ∷ ys) (decoded_leaf s l.content) c ys) (l.keeps t k) (read_leaf {h = x} l.takes_it l.valid)))
 
 -- a variant reads what its content reads
 variant_reads : {vs : Variants} {i : ℕ} {own name : List ℕ} {c : Content} {k k' : List TagValue} {xs ys : List Raw} {v : Value} → HasVariant vs i name c
@@ -196,11 +193,9 @@ like_same q r x [] h g = refl
 like_same q r x (y ∷ ys) h g = rw (h.0, h.1, g.0, g.1) refl
 
 -- a value that is no sequence is read from one item, whatever follows
-one_read : (s : Form) (k k' : List TagValue) (v : Value) (t : Tree) (rest : List Tree) (zs : List Raw) → rest ≡ []
-    → is_run v ≡ false
+one_read : (s : Form) (k k' : List TagValue) (v : Value) (t : Tree) (rest : List Tree) (zs : List Raw) → rest ≡ [] → is_run v ≡ false
     → (AllByRecursion Fits (t ∷ rest) → (is_run v ≡ true → is_like (raw_of t) zs ≡ false) → Reads s k (raw_of t ∷ (map raw_of rest ++ zs)) v k' zs)
-    → Fits t
-    → Reads s k (raw_of t ∷ zs) v k' zs
+    → Fits t → Reads s k (raw_of t ∷ zs) v k' zs
 one_read s k k' v t rest zs e single read f =
     let fits : AllByRecursion Fits (t ∷ rest) = subst (λ (l : List Tree). AllByRecursion Fits (t ∷ l)) (sym e) (f, tt) in
     let apart : is_run v ≡ true → is_like (raw_of t) zs ≡ false = λ is. absurd (let k : true ≡ false = sym is ∙ single in cc) in
@@ -220,14 +215,8 @@ mutual
       record { first = r.first; rest = r.rest; are = r.are; head_is = r.head_is; alone = r.alone; reads = λ f ys apart. wrap (r.reads f ys apart) }
   agreed (struct_agrees {t = t} {ws = ws} tagged encloses a) =
       let r = fields_agreed a in
-      record {
-        first = node t (trees_of r.trees);
-        rest = [];
-        are = enclosing_items r.trees encloses r.are;
-        head_is = (refl, refl);
-        alone = λ e. refl;
-        reads = λ f ys apart. structure tagged refl (content_splits ws r.trees r.are f.0.1) (r.reads (fits_below r.trees f.0.1)) refl;
-      }
+      read_alone (node t (trees_of r.trees)) (enclosing_items r.trees encloses r.are) (refl, refl)
+      (λ f ys. structure tagged refl (content_splits ws r.trees r.are f.1) (r.reads (fits_below r.trees f.1)) refl)
   agreed (rule_agrees is variant a) =
       let r = agreed a in
       record {
@@ -240,22 +229,10 @@ mutual
       }
   agreed (tuple_agrees {t = t} {ws = ws} is variant encloses a) =
       let r = forms_agreed a in
-      record {
-        first = node t (trees_of r.trees);
-        rest = [];
-        are = enclosing_items r.trees encloses r.are;
-        head_is = (refl, refl);
-        alone = λ e. refl;
-        reads = λ f ys apart. by_rule is (variant_reads variant (parts refl (content_splits ws r.trees r.are f.0.1) (r.reads (fits_below r.trees f.0.1))));
-      }
-  agreed (number_agrees {t = t} {n = n} numbered units) = record {
-    first = leaf t Enumeration (to_be_bytes w32 n);
-    rest = [];
-    are = numbered_items numbered;
-    head_is = (refl, refl);
-    alone = λ e. refl;
-    reads = λ f ys apart. by_number {h = record { tag = t; typ = Enumeration; content = to_be_bytes w32 n }} units.no_rule refl refl units.named;
-  }
+      read_alone (node t (trees_of r.trees)) (enclosing_items r.trees encloses r.are) (refl, refl)
+      (λ f ys. by_rule is (variant_reads variant (parts refl (content_splits ws r.trees r.are f.1) (r.reads (fits_below r.trees f.1)))))
+  agreed (number_agrees {t = t} {n = n} numbered units) = read_alone (leaf t Enumeration (to_be_bytes w32 n)) (numbered_items numbered) (refl, refl)
+      (λ f ys. by_number {h = record { tag = t; typ = Enumeration; content = to_be_bytes w32 n }} units.no_rule refl refl units.named)
   agreed (seq_agrees a) =
       let r = run_agreed a in
       record { first = r.first; rest = r.rest; are = r.are; head_is = r.head_is; alone = λ e. absurd cc; reads = λ f ys apart. r.starts f ys (apart refl) }
@@ -331,16 +308,9 @@ root_single e (leaf_agrees {s = s} {w = w} {v = v} pending c) = (leaf_of s w v c
 root_single e (inner_agrees wraps a) = root_single e a
 root_single e (option_agrees a) = root_single e a
 root_single e (newtype_agrees a) = root_single e a
-root_single e (struct_agrees tagged encloses a) = refl
 root_single e (rule_agrees is variant a) = absurd cc
-root_single e (tuple_agrees is variant encloses a) = refl
-root_single e (number_agrees numbered units) = refl
 root_single e (seq_agrees a) = absurd cc
-
--- so it is read from its item alone
-alone_read : (s : Form) (k k' : List TagValue) (h : PendingTag) (w v : Value) (x : Head) (r : IsRead s k h w x v k') → is_run v ≡ false
-    → AllByRecursion Fits (r.first ∷ r.rest) → Reads s k (raw_of r.first ∷ []) v k' []
-alone_read s k k' h w v x r single fits = one_read s k k' v r.first r.rest [] (r.alone single) single (λ f. r.reads f []) fits.0
+root_single e a = refl
 
 pub agreeing_is_written : AgreeingIsWritten
 agreeing_is_written s k k' h w v x a = let r = agreed a in (r.first, r.rest, r.are, r.head_is.0, r.head_is.1)
@@ -350,6 +320,7 @@ agreeing_is_read s w v d n written root (x, k, a) is =
     let r = agreed a in
     let same : is.trees ≡ r.first ∷ r.rest = let e : Some is.trees ≡ Some (r.first ∷ r.rest) = sym is.are ∙ r.are in cc in
     let fits : AllByRecursion Fits (r.first ∷ r.rest) = subst (AllByRecursion Fits) same is.fit.each in
-    let reads : Reads s [] (raw_of r.first ∷ []) v k [] = alone_read s [] k Nothing w v x r (root_single root a) fits in
+    let single = root_single root a in
+    let reads = one_read s [] k v r.first r.rest [] (r.alone single) single (λ f. r.reads f []) fits.0 in
     let begins : Begins s written v = (reading_what_was_written w v n written r.first r.rest s is r.are root).1 (k, reads) in
     (λ g. begins_one s written d v g begins, λ e. subst (Begins s written) (sym e) begins)

@@ -2,9 +2,7 @@
 use Rattle.std.proofs.Common.{◌≡◌, ℕ, true, List, [], ◌∷◌, length, Some, refl, sym, ap, subst, ◌∙◌, arith}
 use Rattle.std.specs.List.{AllByRecursion}
 use Rattle.std.proofs.lemmas.List.{length-append}
-use Rattle.kmip_ttlv_types.specs.{declared.typ.TtlvType.TtlvType, Leaves.is_valid, Items.IsTextOf}
-use Rattle.kmip_ttlv_types.specs.declared.typ.TtlvType.TheVariants.{Structure, Integer, LongInteger, BigInteger, Enumeration, Boolean, TextString, ByteString}
-use Rattle.kmip_ttlv_types.specs.declared.typ.TtlvType.TheVariants.{DateTime, Interval}
+use Rattle.kmip_ttlv_types.specs.{declared.typ.TtlvType.TtlvType, Leaves.is_valid, Items.IsTextOf, declared.typ.TtlvType.TheVariants.Structure}
 use Rattle.kmip_ttlv_types.specs.Trees.{Tree, leaf, node, Trees, no_trees, tree, bytes, bytes_below, bytes_all, raw_of, leaf_bytes, node_bytes, Fits, FitsBelow}
 use Rattle.kmip_ttlv_types.specs.Trees.{IsTreeText, AreTreeTexts}
 use Rattle.kmip_ttlv_ser.specs.{declared.pending.PendingTag.TheVariants.Nothing, Sizes.FitsAfter}
@@ -16,28 +14,12 @@ use Rattle.kmip_ttlv_laws.proofs.{Roots.begins_alone, TreeTexts.padding_of_trees
 -- such a content is valid
 valid_of : (typ : TtlvType) (content : List ℕ) → IsContent Utf8 typ content → is_valid typ content ≡ true
 valid_of Structure content h = h
-valid_of Integer content h = h
-valid_of LongInteger content h = h
-valid_of BigInteger content h = h
-valid_of Enumeration content h = h
-valid_of Boolean content h = h
-valid_of TextString content h = h
-valid_of ByteString content h = h
-valid_of DateTime content h = h
-valid_of Interval content h = h
+valid_of typ content h = h
 
 -- and conversely
 content_of : (typ : TtlvType) (content : List ℕ) → is_valid typ content ≡ true → IsContent Utf8 typ content
 content_of Structure content h = h
-content_of Integer content h = h
-content_of LongInteger content h = h
-content_of BigInteger content h = h
-content_of Enumeration content h = h
-content_of Boolean content h = h
-content_of TextString content h = h
-content_of ByteString content h = h
-content_of DateTime content h = h
-content_of Interval content h = h
+content_of typ content h = h
 
 -- the canonical bytes of a tree that fits encode it
 mutual
@@ -99,12 +81,9 @@ mutual
   canonical_below (tree t ts) a h =
       let k = canonical_of t h.0 h.3 in
       let l = canonical_below ts h.1 h.4 in
-      record {
-        made = (k.made, l.made);
-        fits = (k.fits, l.fits);
-        long =
-            omega (arith, ap length h.2, length-append h.0 h.1, length-append (bytes t) (bytes_below ts), k.long, l.long);
-      }
+      let long : length (bytes_below (tree t ts)) ≡ length a =
+      omega (arith, ap length h.2, length-append h.0 h.1, length-append (bytes t) (bytes_below ts), k.long, l.long) in
+      record { made = (k.made, l.made); fits = (k.fits, l.fits); long = long }
 
 pub canonical_is_text : CanonicalIsText
 canonical_is_text t a h = let k = canonical_of t a h in (made_text t k.made k.fits, k.long)

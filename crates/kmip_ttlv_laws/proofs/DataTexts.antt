@@ -15,27 +15,14 @@ values_texts f h (b ∷ bs) = (h b, values_texts f h bs)
 -- the texts in one layer of data are UTF-8, if those of each data in it are
 layer_texts : {A B : Type 0} (f : B → Data A) → ((b : B) → TextsAreUtf8 (view (f b))) → (y : layer.Data-F A B)
     → TextsAreUtf8 (view_step (map-Data A (Data A) Value view (map-Data A B (Data A) f y)))
-layer_texts f h (layer.Bool b) = tt
-layer_texts f h (layer.I8 z) = tt
-layer_texts f h (layer.I16 z) = tt
-layer_texts f h (layer.I32 z) = tt
-layer_texts f h (layer.U32 n) = tt
-layer_texts f h (layer.I64 z) = tt
-layer_texts f h (layer.U64 n) = tt
-layer_texts f h (layer.DateTime z) = tt
-layer_texts f h (layer.Interval n) = tt
 layer_texts f h (layer.Text s) = is_utf8-from_IsUtf8 (string_bytes s) (IsUtf8-string_bytes s)
-layer_texts f h (layer.Bytes v) = tt
-layer_texts f h (layer.BigInteger v) = tt
-layer_texts f h layer.None = tt
 layer_texts f h (layer.Some b) = h b.value
 layer_texts f h (layer.Seq v) = values_texts f h v.items
 layer_texts f h (layer.Struct name fields) = values_texts f h fields.items
 layer_texts f h (layer.Newtype name inner) = h inner.value
-layer_texts f h (layer.UnitVariant name variant) = tt
 layer_texts f h (layer.NewtypeVariant name variant inner) = h inner.value
 layer_texts f h (layer.TupleVariant name variant fields) = values_texts f h fields.items
-layer_texts f h (layer.Unsupported name) = tt
+layer_texts f h y = tt
 
 pub data_texts : {A : Type 0} (d : Data A) → TextsAreUtf8 (view d)
 data_texts {A} = ind-Data A (λ d. TextsAreUtf8 (view d)) (λ x y is.

@@ -86,9 +86,8 @@ pub options_equal : {T : Type 0} (f g : T → Value) (E : T → T → Bool) → 
     → optional f x ≡ optional g y
     → option_eq E x y ≡ true
 options_equal f g E equal None None e = refl
-options_equal f g E equal None (Some y) e = absurd cc
-options_equal f g E equal (Some x) None e = absurd cc
 options_equal f g E equal (Some x) (Some y) e = let same : f x ≡ g y = cc in equal x y same
+options_equal f g E equal x y e = absurd cc
 
 -- the same of what has one value
 pub options_same : {T : Type 0} (f : T → Value) (E : T → T → Bool) → ReturnsEqual f f E → (x y : Option T) → optional f x ≡ optional f y
@@ -100,12 +99,11 @@ sequences_equal : {T : Type 0} (f g : T → Value) (E : T → T → Bool) → Re
     → values_of (map f xs) ≡ values_of (map g ys)
     → pointwise E xs ys ≡ true
 sequences_equal f g E equal [] [] e = refl
-sequences_equal f g E equal [] (y ∷ ys) e = absurd cc
-sequences_equal f g E equal (x ∷ xs) [] e = absurd cc
 sequences_equal f g E equal (x ∷ xs) (y ∷ ys) e =
     let head : f x ≡ g y = cc in
     let rest : values_of (map f xs) ≡ values_of (map g ys) = cc in
     rw (equal x y head) (sequences_equal f g E equal xs ys rest)
+sequences_equal f g E equal xs ys e = absurd cc
 
 pub several_equal : {T : Type 0} (f g : T → Value) (E : T → T → Bool) → ReturnsEqual f g E → (xs ys : List T)
     → sequence f xs ≡ sequence g ys
@@ -119,11 +117,10 @@ pub any_equal : {T : Type 0} (f g : T → Value) (E : T → T → Bool) → Retu
     → optional_sequence f xs ≡ optional_sequence g ys
     → pointwise E xs ys ≡ true
 any_equal f g E equal [] [] e = refl
-any_equal f g E equal [] (y ∷ ys) e = absurd cc
-any_equal f g E equal (x ∷ xs) [] e = absurd cc
 any_equal f g E equal (x ∷ xs) (y ∷ ys) e =
     let same : values_of (map f (x ∷ xs)) ≡ values_of (map g (y ∷ ys)) = cc in
     sequences_equal f g E equal (x ∷ xs) (y ∷ ys) same
+any_equal f g E equal xs ys e = absurd cc
 
 -- a number that is read as none of the listed ones is itself
 pub others_equal : (listed : List ℕ) (m n : ℕ) → u32_value m ≡ numbered_value (other_number listed n) → (m == n) ≡ true
@@ -144,10 +141,7 @@ pub found_same : {T : Type 0} (name : T → List ℕ) (rows : List (List ℕ × 
     → name x ≡ name y
     → x ≡ y
 found_same name rows found x y e =
-    let a : row_of (name x) rows ≡ Some x = found x in
-    let b : row_of (name y) rows ≡ Some y = found y in
-    let c : row_of (name x) rows ≡ row_of (name y) rows = ap (λ t. row_of t rows) e in
-    let d : Some x ≡ Some y = cc in
+    let same : Some x ≡ Some y = sym (found x) ∙ ap (λ t. row_of t rows) e ∙ found y in
     cc
 
 -- the name of the variant that a value is

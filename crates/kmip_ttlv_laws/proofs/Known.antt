@@ -4,7 +4,7 @@ use Rattle.std.proofs.Common.{◌==◌}
 use Rattle.std.specs.Prelude.{◌&&◌, ◌||◌, not}
 use Rattle.std.specs.List.{last_or}
 use Rattle.std.proofs.lemmas.Bool.{and_parts, eq-eqb, eqb-true, false≢true, not-true, or_right}
-use Rattle.std.proofs.lemmas.Option.{none-some}
+use Rattle.std.proofs.lemmas.{List.append-nil, List.Elements.filter-append, Option.none-some}
 use Rattle.kmip_ttlv_base.specs.Forms.{Form, struct, option, seq, newtype, enum, any_number, text as text_form, Fields, no_fields, field, Variants, no_variants}
 use Rattle.kmip_ttlv_base.specs.Forms.{variant, Content, unit, wrapped, tuple}
 use Rattle.kmip_ttlv_base.specs.Values.{Value, Values, text_value, u32_value}
@@ -16,27 +16,17 @@ use Rattle.kmip_ttlv_laws.specs.Agreements.{number_agrees, option_agrees, rule_a
 
 -- ---- the last text of a tag
 
-found_last : (o : Option TagValue) (k : List TagValue) (r : TagValue) → last_or o (filter (λ q. q.tag == r.tag) (k ++ r ∷ [])) ≡ Some r
-found_last o [] r = rw (eq-eqb r.tag r.tag refl) refl
-found_last o (q ∷ k) r = elim (q.tag == r.tag) as
-    (λ b. last_or o (cond b (q ∷ filter (λ p. p.tag == r.tag) (k ++ r ∷ [])) (filter (λ p. p.tag == r.tag) (k ++ r ∷ []))) ≡ Some r) [
-      | true ↦ found_last (Some q) k r
-      | false ↦ found_last o k r
-    ]
+found_last : (o : Option TagValue) (k : List TagValue) (r : TagValue) → last_or o (k ++ r ∷ []) ≡ Some r
+found_last o [] r = refl
+found_last o (q ∷ k) r = found_last (Some q) k r
 
 -- the text that was kept last under a tag is the last
 last_stored : (k : List TagValue) (r : TagValue) → last (k ++ r ∷ []) r.tag ≡ Some r.text
-last_stored k r = ap (option_map (λ q. q.text)) (found_last None k r)
-
-skips : (o : Option TagValue) (k : List TagValue) (r : TagValue) (t : ℕ) → (r.tag == t) ≡ false → last_or o (filter (λ q. q.tag == t) (k ++ r ∷ [])) ≡ last_or o
-    (filter (λ q. q.tag == t) k)
-skips o [] r t other = rw other refl
-skips o (q ∷ k) r t other = elim (q.tag == t) as (λ b. last_or o (cond b (q ∷ filter (λ p. p.tag == t) (k ++ r ∷ [])) (filter (λ p. p.tag == t) (k ++ r ∷ [])))
-    ≡ last_or o (cond b (q ∷ filter (λ p. p.tag == t) k) (filter (λ p. p.tag == t) k))) [ true ↦ skips (Some q) k r t other | false ↦ skips o k r t other ]
+last_stored k r = rw (filter-append, eq-eqb r.tag r.tag refl) (ap (option_map (λ q. q.text)) (found_last None (filter (λ q. q.tag == r.tag) k) r))
 
 -- and it still is after a text under another tag
 still_stored : (k : List TagValue) (r : TagValue) (t : ℕ) → (r.tag == t) ≡ false → last (k ++ r ∷ []) t ≡ last k t
-still_stored k r t other = ap (option_map (λ q. q.text)) (skips None k r t other)
+still_stored k r t other = rw (filter-append, other, append-nil) refl
 
 -- ---- what is known
 
@@ -161,22 +151,16 @@ left known u s = filter (λ r. spares r.tag u s) known
 said_left : (p : ℕ → Boole) (known : List Known) (t : ℕ) (text : List ℕ) → said (filter (λ r. p r.tag) known) t ≡ Some text → (p t ≡ true)
     × (said known t ≡ Some text)
 said_left p [] t text = λ e. absurd (none-some text e)
-said_left p (r ∷ known) t text =
-    elim (p r.tag) as (λ b. p r.tag ≡ b → said (cond b (r ∷ filter (λ q. p q.tag) known) (filter (λ q. p q.tag) known)) t ≡ Some text → (p t ≡ true)
-    × (cond (r.tag == t) r.text (said known t) ≡ Some text)) [
-      | true ↦ λ passes.
-          elim (r.tag == t) as (λ b. (r.tag == t) ≡ b → cond b r.text (said (filter (λ q. p q.tag) known) t) ≡ Some text → (p t ≡ true)
-          × (cond b r.text (said known t) ≡ Some text)) [
-            | true ↦ λ same e. (sym (ap p (eqb-true r.tag t same)) ∙ passes, e)
-            | false ↦ λ differ e. said_left p known t text e
-          ] refl
-      | false ↦ λ fails e.
-          let later = said_left p known t text e in
-          elim (r.tag == t) as (λ b. (r.tag == t) ≡ b → (p t ≡ true) × (cond b r.text (said known t) ≡ Some text)) [
-            | true ↦ λ same. absurd (false≢true (sym fails ∙ ap p (eqb-true r.tag t same) ∙ later.0))
-            | false ↦ λ differ. later
-          ] refl
-    ] refl
+said_left p (r ∷ known) t text = by (p r.tag) (r.tag == t) refl refl (said_left p known t text)
+  where
+    by : (b d : Boole) → p r.tag ≡ b → (r.tag == t) ≡ d
+        → (said (filter (λ q. p q.tag) known) t ≡ Some text → (p t ≡ true) × (said known t ≡ Some text))
+        → said (cond b (r ∷ filter (λ q. p q.tag) known) (filter (λ q. p q.tag) known)) t ≡ Some text
+        → (p t ≡ true) × (cond d r.text (said known t) ≡ Some text)
+    by true true passes same later e = (sym (ap p (eqb-true r.tag t same)) ∙ passes, rw same at e)
+    by true false passes differ later e = later (rw differ at e)
+    by false true fails same later e = absurd (false≢true (sym fails ∙ ap p (eqb-true r.tag t same) ∙ (later e).0))
+    by false false fails differ later e = later e
 
 -- where less is known, it is known as well
 pub finds_less : (known : List Known) (k : List TagValue) (u : ℕ) (s : Form) → Finds known k → Finds (left known u s) k

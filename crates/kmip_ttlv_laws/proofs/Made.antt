@@ -4,13 +4,11 @@ use Rattle.std.specs.{Prelude.option_and_then, List.AllByRecursion}
 use Rattle.std.specs.Int.{w32, w64, to_be_bytes, from_bool}
 use Rattle.std.proofs.lemmas.{Bool.ltb-true, List.append-nil, List.length-replicate}
 use Rattle.kmip_ttlv_types.specs.{declared.typ.TtlvType.TtlvType, ItemTypes.pad_len, ItemTypes.padding, Leaves.is_valid, Items.IsTextOf}
-use Rattle.kmip_ttlv_types.specs.declared.typ.TtlvType.TheVariants.{Structure, Integer, LongInteger, BigInteger, Enumeration, Boolean, TextString, ByteString}
-use Rattle.kmip_ttlv_types.specs.declared.typ.TtlvType.TheVariants.{DateTime, Interval}
+use Rattle.kmip_ttlv_types.specs.declared.typ.TtlvType.TheVariants.{Structure, Enumeration, Boolean, TextString}
 use Rattle.kmip_ttlv_types.specs.Names.{tag_of, number, below_tag_limit, transparent_name, override_name}
 use Rattle.kmip_ttlv_types.specs.Trees.{Tree, leaf, node, Trees, no_trees, tree, trees_of, bytes, bytes_below, raw_of, leaf_bytes, node_bytes, Fits}
-use Rattle.kmip_ttlv_base.specs.Values.{Value, boolean_value, i8_value, i16_value, i32_value, u32_value, i64_value, u64_value, date_time_value, interval_value}
-use Rattle.kmip_ttlv_base.specs.Values.{text_value, bytes_value, big_integer_value, none_value, some_value, seq_value, struct_value, newtype_value}
-use Rattle.kmip_ttlv_base.specs.Values.{unit_variant_value, newtype_variant_value, tuple_variant_value, unsupported_value, Values, no_values, value}
+use Rattle.kmip_ttlv_base.specs.Values.{Value, boolean_value, text_value, none_value, some_value, seq_value, struct_value, newtype_value, unit_variant_value}
+use Rattle.kmip_ttlv_base.specs.Values.{newtype_variant_value, tuple_variant_value, unsupported_value, Values, no_values, value}
 use Rattle.kmip_ttlv_ser.specs.declared.pending.PendingTag.{PendingTag}
 use Rattle.kmip_ttlv_ser.specs.declared.pending.PendingTag.TheVariants.{Nothing, Plain, Overriding}
 use Rattle.kmip_ttlv_ser.specs.WrittenItems.{◌>>=◌, take_tag, one_leaf, one_node, one_structure, some_item, left_over, without_override, pending_after}
@@ -149,17 +147,7 @@ boolean_content false = refl
 mutual
   pub items_made : (P : List ℕ → Type 0) (v : Value) (w : PendingTag) (ts : List Tree) → EachText P v → TagFits w → items v w ≡ Some ts → AllMade P ts
   items_made P (boolean_value b) w ts h f e = leaf_made P w Boolean _ ts f (boolean_content b) e
-  items_made P (i8_value z) w ts h f e = leaf_made P w Integer _ ts f refl e
-  items_made P (i16_value z) w ts h f e = leaf_made P w Integer _ ts f refl e
-  items_made P (i32_value z) w ts h f e = leaf_made P w Integer _ ts f refl e
-  items_made P (u32_value n) w ts h f e = leaf_made P w Enumeration _ ts f refl e
-  items_made P (i64_value z) w ts h f e = leaf_made P w LongInteger _ ts f refl e
-  items_made P (u64_value n) w ts h f e = leaf_made P w DateTime _ ts f refl e
-  items_made P (date_time_value z) w ts h f e = leaf_made P w DateTime _ ts f refl e
-  items_made P (interval_value n) w ts h f e = leaf_made P w Interval _ ts f refl e
   items_made P (text_value s) w ts h f e = leaf_made P w TextString s ts f h e
-  items_made P (bytes_value s) w ts h f e = leaf_made P w ByteString s ts f refl e
-  items_made P (big_integer_value s) w ts h f e = leaf_made P w BigInteger _ ts f refl e
   items_made P none_value w ts h f e = absurd cc
   items_made P (some_value v) w ts h f e = items_made P v w ts h f e
   items_made P (seq_value vs) w ts h f e = items_in_made P vs w ts h f e
@@ -170,6 +158,7 @@ mutual
   items_made P (tuple_variant_value name vname vs) w ts h f e = structure_made P w (without_override name) (items_in vs Nothing) ts f
       (λ us. items_in_made P vs Nothing us h tt) e
   items_made P (unsupported_value name) w ts h f e = absurd cc
+  items_made P v w ts h f e = leaf_made P w _ _ ts f refl e
 
   pub items_in_made : (P : List ℕ → Type 0) (vs : Values) (w : PendingTag) (ts : List Tree) → EachTextIn P vs → TagFits w → items_in vs w ≡ Some ts
       → AllMade P ts
@@ -187,27 +176,13 @@ Any s = Unit {0}
 
 mutual
   pub any_texts : (v : Value) → EachText Any v
-  any_texts (boolean_value b) = tt
-  any_texts (i8_value z) = tt
-  any_texts (i16_value z) = tt
-  any_texts (i32_value z) = tt
-  any_texts (u32_value n) = tt
-  any_texts (i64_value z) = tt
-  any_texts (u64_value n) = tt
-  any_texts (date_time_value z) = tt
-  any_texts (interval_value n) = tt
-  any_texts (text_value s) = tt
-  any_texts (bytes_value s) = tt
-  any_texts (big_integer_value s) = tt
-  any_texts none_value = tt
   any_texts (some_value v) = any_texts v
   any_texts (seq_value vs) = any_texts_in vs
   any_texts (struct_value name vs) = any_texts_in vs
   any_texts (newtype_value name v) = any_texts v
-  any_texts (unit_variant_value name vname) = tt
   any_texts (newtype_variant_value name vname v) = any_texts v
   any_texts (tuple_variant_value name vname vs) = any_texts_in vs
-  any_texts (unsupported_value name) = tt
+  any_texts v = tt
 
   pub any_texts_in : (vs : Values) → EachTextIn Any vs
   any_texts_in no_values = tt
@@ -218,30 +193,13 @@ mutual
 -- a leaf is padded to a multiple of eight bytes
 leaf_padding : (P : List ℕ → Type 0) (typ : TtlvType) (content : List ℕ) (n : ℕ) → IsContent P typ content → pad_len n ≡ padding typ n
 leaf_padding P Structure content n h = absurd cc
-leaf_padding P Integer content n h = refl
-leaf_padding P LongInteger content n h = refl
-leaf_padding P BigInteger content n h = refl
-leaf_padding P Enumeration content n h = refl
-leaf_padding P Boolean content n h = refl
-leaf_padding P TextString content n h = refl
-leaf_padding P ByteString content n h = refl
-leaf_padding P DateTime content n h = refl
-leaf_padding P Interval content n h = refl
+leaf_padding P typ content n h = refl
 
 -- the canonical bytes of a tree encode its item
 pub text_of_tree : (P : List ℕ → Type 0) (t : Tree) → IsMade P t → Fits t → IsTextOf (raw_of t) (bytes t)
 unfolding leaf_bytes node_bytes
-text_of_tree P (leaf tag typ content) m f = record {
-  tag_fits = m.0;
-  length_fits = f;
-  pad = replicate (pad_len (length content)) 0;
-  pad_length = length-replicate (pad_len (length content)) 0 ∙ leaf_padding P typ content (length content) m.1;
-  parts = refl;
-}
-text_of_tree P (node tag below) m f = record {
-  tag_fits = m.0;
-  length_fits = f.0;
-  pad = [];
-  pad_length = refl;
-  parts = sym (append-nil (node_bytes tag (bytes_below below)));
-}
+text_of_tree P (leaf tag typ content) m f =
+    let pads = length-replicate (pad_len (length content)) 0 ∙ leaf_padding P typ content (length content) m.1 in
+    record { tag_fits = m.0; length_fits = f; pad = replicate (pad_len (length content)) 0; pad_length = pads; parts = refl }
+text_of_tree P (node tag below) m f =
+    record { tag_fits = m.0; length_fits = f.0; pad = []; pad_length = refl; parts = sym (append-nil (node_bytes tag (bytes_below below))) }

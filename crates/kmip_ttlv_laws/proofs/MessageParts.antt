@@ -1,8 +1,9 @@
 -- Structures whose parts agree with themselves, field by field: lemmas for a message type's own proof.
 use Rattle.std.proofs.Common.{◌≡◌, ◌<◌, subst, FitsSigned, ℤ, ℕ, Bool as Boole, true, false, List, [], ◌++◌, ◌∷◌, Some, None, Option, option_map, map, length}
 use Rattle.std.proofs.Common.{◌==◌, refl, sym, ap, ◌∙◌, arith, String, string_bytes}
+use Rattle.std.proofs.{Math.Bool.and-false, lemmas.Bool.or_parts}
 use Rattle.std.proofs.lemmas.{Bool.eqb-true, Bool.false≢true, List.Elements.recursion_from_All, Str.IsUtf8-string_bytes, Str.is_utf8-from_IsUtf8, Int.to_z-of_z}
-use Rattle.std.specs.Prelude.{◌&&◌, ◌||◌, ◌%◌, All, IfSome}
+use Rattle.std.specs.Prelude.{◌||◌, ◌%◌, All, IfSome}
 use Rattle.std.specs.{List.AllByRecursion, Int.w32, Int.w64, Str.is_utf8}
 use Rattle.kmip_ttlv_types.specs.{Primitives.sign_extended, Names.number, Names.transparent_name}
 use Rattle.kmip_ttlv_types.specs.declared.typ.TtlvType.TheVariants.{Structure, Integer, LongInteger, BigInteger, Enumeration, Boolean, TextString, ByteString}
@@ -76,15 +77,21 @@ unit_agrees {tag} {vname} {name} {vs} {t} {n} takes numbered text k units =
     (unit_variant_value tag m) (k ++ record { tag = t; text = text_of_number n } ∷ []) in
     subst P text (number_agrees (unit_is_numbered takes numbered) units)
 
+-- an Enumeration of several numbers, of which this is one
+pub unit_part : {tag vname : List ℕ} {vs : Variants} {t n : ℕ} → take_tag Nothing tag ≡ Some t → number vname ≡ Some n → text_of_number n ≡ vname
+    → ((k : List TagValue) → NamesUnit vs k n) → PartAgrees (enum tag vs) (unit_variant_value tag vname) record { tag = t; typ = Enumeration }
+    (unit_variant_value tag vname)
+unit_part {t = t} {n = n} takes numbered text units = record {
+  stored = λ k. k ++ record { tag = t; text = text_of_number n } ∷ [];
+  agrees = λ k. unit_agrees takes numbered text k (units k);
+}
+
 -- an Enumeration of one number
 pub constant_then : {known : List Known} {tag vname : List ℕ} {vs : Variants} {fs : Fields} {ws us : Values} {t n : ℕ} {y : Option Head}
     → take_tag Nothing tag ≡ Some t → number vname ≡ Some n → text_of_number n ≡ vname → has_tag tag t ≡ true → ((k : List TagValue) → NamesUnit vs k n)
     → PartsAgree (left known t (enum tag vs)) fs ws y us → PartsAgree known (field tag (enum tag vs) fs) (value (unit_variant_value tag vname) ws)
     (Some record { tag = t; typ = Enumeration }) (value (unit_variant_value tag vname) us)
-constant_then {t = t} {n = n} takes numbered text named units rest = part_then named refl record {
-  stored = λ k. k ++ record { tag = t; text = text_of_number n } ∷ [];
-  agrees = λ k. unit_agrees takes numbered text k (units k);
-} rest
+constant_then takes numbered text named units rest = part_then named refl (unit_part takes numbered text units) rest
 
 -- what is true of fields where less is known
 where_more_is_known : {known : List Known} {fs : Fields} {ws vs : Values} {y : Option Head} (u : ℕ) (s : Form) → PartsAgree (left known u s) fs ws y vs
@@ -151,22 +158,13 @@ as_whole s whole =
 
 -- a number in an option that is encoded by its bits comes back as itself
 pub as_int32_by_bits : (z : ℤ) → FitsSigned w32 z → ComesBack int32 (i32_value (by_bits w32 z)) (i32_value z)
-as_int32_by_bits z fits =
-    let same : by_bits w32 z ≡ z = to_z-of_z w32 z fits in
-    let P : ℤ → Type 0 = λ y. ComesBack int32 (i32_value y) (i32_value z) in
-    subst P (sym same) (as_int32 fits)
+as_int32_by_bits z fits = rw (to_z-of_z w32 z fits) (as_int32 fits)
 
 pub as_int64_by_bits : (z : ℤ) → FitsSigned w64 z → ComesBack int64 (i64_value (by_bits w64 z)) (i64_value z)
-as_int64_by_bits z fits =
-    let same : by_bits w64 z ≡ z = to_z-of_z w64 z fits in
-    let P : ℤ → Type 0 = λ y. ComesBack int64 (i64_value y) (i64_value z) in
-    subst P (sym same) (as_int64 fits)
+as_int64_by_bits z fits = rw (to_z-of_z w64 z fits) (as_int64 fits)
 
 pub as_date_time_by_bits : (z : ℤ) → FitsSigned w64 z → ComesBack date_time (date_time_value (by_bits w64 z)) (date_time_value z)
-as_date_time_by_bits z fits =
-    let same : by_bits w64 z ≡ z = to_z-of_z w64 z fits in
-    let P : ℤ → Type 0 = λ y. ComesBack date_time (date_time_value y) (date_time_value z) in
-    subst P (sym same) (as_date_time fits)
+as_date_time_by_bits z fits = rw (to_z-of_z w64 z fits) (as_date_time fits)
 
 -- ---- leaves, units and structures alone, as elements of a sequence and as the content of a variant
 
@@ -179,15 +177,6 @@ leaf_part wraps takes back = record { stored = _; agrees = λ k. newtype_agrees 
 pub wrapped_leaf : {s : Form} {w u v : Value} {h : PendingTag} {t : ℕ} → Wraps Nothing w h u → pending_tag h ≡ Some t → ComesBack s u v
     → PartAgrees s w record { tag = t; typ = leaf_type u } v
 wrapped_leaf wraps pending back = record { stored = _; agrees = λ k. inner_agrees wraps (leaf_agrees pending back) }
-
--- an Enumeration of several numbers, of which this is one
-pub unit_part : {tag vname : List ℕ} {vs : Variants} {t n : ℕ} → take_tag Nothing tag ≡ Some t → number vname ≡ Some n → text_of_number n ≡ vname
-    → ((k : List TagValue) → NamesUnit vs k n) → PartAgrees (enum tag vs) (unit_variant_value tag vname) record { tag = t; typ = Enumeration }
-    (unit_variant_value tag vname)
-unit_part {t = t} {n = n} takes numbered text units = record {
-  stored = λ k. k ++ record { tag = t; text = text_of_number n } ∷ [];
-  agrees = λ k. unit_agrees takes numbered text k (units k);
-}
 
 -- the number that a name of an Enumeration says: its text is the name, and it is a unit of these
 pub record IsUnit (vs : Variants) (name : List ℕ) : Type 0 where
@@ -208,11 +197,7 @@ pub wrapped_unit : {own name : List ℕ} {vs : Variants} {w u : Value} {h : Pend
 wrapped_unit {own} {name} {vs} {w} {u} {h} {t} {n} wraps numbered text units =
     let P : List ℕ → List TagValue → Type 0 = λ m k. Agrees (enum own vs) k Nothing w record { tag = t; typ = Enumeration } (unit_variant_value own m)
     (k ++ record { tag = t; text = text_of_number n } ∷ []) in
-    record {
-      stored = λ k. k ++ record { tag = t; text = text_of_number n } ∷ [];
-      agrees =
-          λ k. subst (λ m. P m k) text (inner_agrees wraps (number_agrees numbered (units k)));
-    }
+    record { stored = _; agrees = λ k. subst (λ m. P m k) text (inner_agrees wraps (number_agrees numbered (units k))) }
 
 -- a structure that is encoded as a newtype which is no wrapper
 pub newtype_structure : {name : List ℕ} {fs : Fields} {deny : Boole} {w : Value} {vs : Values} {t : ℕ} {y : Option Head} → has_tag name t ≡ true
@@ -252,14 +237,10 @@ nothing_behind = record { head = None; has = λ name. false; other = λ name non
 abbrev pub part_behind : Head → Behind
 part_behind x = record { head = Some x; has = λ name. is_named name (Some x); other = λ name none. none }
 
-neither : (a b : Boole) → (a || b) ≡ false → (a ≡ false) × (b ≡ false)
-neither true b e = absurd cc
-neither false b e = (refl, e)
-
 pub other_behind : {T : Type 0} (o : Option T) (x : Head) (b : Behind) (name : List ℕ) → (is_named name (Some x) || b.has name) ≡ false
     → is_named name (head_or o x b.head) ≡ false
 other_behind o x b name none =
-    let both = neither (is_named name (Some x)) (b.has name) none in
+    let both = or_parts (is_named name (Some x)) (b.has name) none in
     neither_named name o x b.head both.0 (b.other name both.1)
 
 -- a part that may be absent, and what stands behind it
@@ -307,18 +288,14 @@ optional_same_then f = optional_then f f
 
 -- ---- sequences
 
-none_alike : (b : Boole) → (b && false) ≡ false
-none_alike true = refl
-none_alike false = refl
-
 -- what is last in a structure; it may be a sequence
 pub last_then : {known : List Known} {name : List ℕ} {s : Form} {w v : Value} {x : Head} → is_field_of name s x ≡ true → PartAgrees s w x v
     → PartsAgree known (field name s no_fields) (value w no_values) (Some x) (value v no_values)
-last_then {v = v} named p = field_then named (none_alike (is_run v)) p nothing_left
+last_then {v = v} named p = field_then named (and-false (is_run v)) p nothing_left
 
 -- and a sequence ends before what isn't like its items
 pub run_ends : (v : Value) (x : Head) (y : Option Head) → is_alike x y ≡ false → goes_on v x y ≡ false
-run_ends v x y other = rw other (none_alike (is_run v))
+run_ends v x y other = rw other (and-false (is_run v))
 
 -- a field that may be a sequence: what follows isn't like its items
 pub run_then : {known : List Known} {name : List ℕ} {s : Form} {fs : Fields} {w v : Value} {ws vs : Values} {x : Head} {y : Option Head}

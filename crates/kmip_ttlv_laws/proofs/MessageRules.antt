@@ -3,7 +3,7 @@ use Rattle.std.proofs.Common.{◌≡◌, ◌<◌, ◌^◌, subst, ℕ, Bool as B
 use Rattle.std.proofs.Common.{◌∙◌, ◌==◌, arith}
 use Rattle.std.specs.{Option.IsSomeAnd, List.AllByRecursion, Str.bytes_eq, Str.is_utf8}
 use Rattle.std.specs.Prelude.{All, IfSome, ◌||◌, not}
-use Rattle.std.proofs.lemmas.{List.Elements.recursion_from_All, Bool.and_parts, Option.none-some}
+use Rattle.std.proofs.lemmas.{List.Elements.recursion_from_All, Bool.and_parts, Bool.or_parts, Option.none-some}
 use Rattle.kmip_ttlv_types.specs.declared.typ.TtlvType.TheVariants.{Structure, Enumeration, TextString}
 use Rattle.kmip_ttlv_types.specs.{declared.typ.TtlvType.TtlvType, Names.number, Names.transparent_name}
 use Rattle.kmip_ttlv_base.specs.Forms.{Form, any_number, option, seq, text as text_form, struct, newtype, enum, wrapped, Fields, field, Variants}
@@ -92,13 +92,9 @@ if_any (Some t) = tt
 
 -- ---- what is chosen
 
-neither : (a b : Boole) → a || b ≡ false → (a ≡ false) × (b ≡ false)
-neither true b e = absurd cc
-neither false b e = (refl, e)
-
 -- a text that is none of some is not the first of them, and none of the others
 pub not_first : (said other : List ℕ) (others : List (List ℕ)) → IsNoneOf said (other ∷ others) → (bytes_eq said other ≡ false) × IsNoneOf said others
-not_first said other others none = neither (bytes_eq said other) _ none
+not_first said other others none = or_parts (bytes_eq said other) _ none
 
 -- where this text was kept last under a tag, the value agrees with the form as the other
 pub record PartAfter (tag : ℕ) (text : List ℕ) (s : Form) (w : Value) (x : Head) (v : Value) : Type 0 where

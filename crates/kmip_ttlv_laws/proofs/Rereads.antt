@@ -3,7 +3,7 @@ use Rattle.std.proofs.Common.{sym, subst, ℕ, List, [], Result, Ok, Err}
 use Rattle.std.specs.Prelude.{IfOk, IfErr}
 use Rattle.std.proofs.lemmas.List.{append-nil}
 use Rattle.kmip_ttlv_base.specs.{declared.error.Error.Error, Forms.Form, Values.Value}
-use Rattle.kmip_ttlv_base.specs.Errors.{Kind, io_error, exceeds_limit, malformed, mismatch, out_of_memory, length_overflow, view_of_kind, kind_of}
+use Rattle.kmip_ttlv_base.specs.Errors.{Kind, io_error, out_of_memory, length_overflow, view_of_kind, kind_of}
 use Rattle.kmip_ttlv_reader.specs.Reads.{Begins}
 use Rattle.kmip_ttlv_reader.specs.ReadResults.{ErrorStands, NothingBegins, sort_of_kind}
 use Rattle.kmip_ttlv_laws.specs.Rereads.{IsOfSize}
@@ -22,9 +22,7 @@ decoding_fails : (k : Kind) (s : Form) (bytes : List ℕ) (v : Value) → Begins
 decoding_fails out_of_memory s bytes v b n = tt
 decoding_fails length_overflow s bytes v b n = tt
 decoding_fails (io_error x) s bytes v b n = absurd (n v b)
-decoding_fails (exceeds_limit x) s bytes v b n = absurd (n [] v (subst (λ all. Begins s all v) (sym (append-nil bytes)) b))
-decoding_fails (malformed x) s bytes v b n = absurd (n [] v (subst (λ all. Begins s all v) (sym (append-nil bytes)) b))
-decoding_fails (mismatch x) s bytes v b n = absurd (n [] v (subst (λ all. Begins s all v) (sym (append-nil bytes)) b))
+decoding_fails k s bytes v b n = absurd (n [] v (subst (λ all. Begins s all v) (sym (append-nil bytes)) b))
 
 pub if_decoding_fails : {T A : Type 0} {s : Form} {bytes : List ℕ} (r : Result T (Error A))
     → ((v : Value) × Begins s bytes v)

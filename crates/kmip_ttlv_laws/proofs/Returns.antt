@@ -2,18 +2,16 @@
 use Rattle.std.proofs.Common.{◌≡◌, ℕ, ℤ, Bool, true, false, List, [], ◌∷◌, Option, Some, refl, ap, subst, ◌∙◌, FitsSigned, arith}
 use Rattle.std.specs.Int.{w32, w64, to_be_bytes, from_be_bytes, cast_signed, cast_unsigned}
 use Rattle.std.proofs.{lemmas.Int.to_z-of_z, lemmas.Nat.from_be_bytes-to_be_bytes_4, lemmas.Nat.from_be_bytes-to_be_bytes_8, Math.Facts.Fits-of_z}
-use Rattle.kmip_ttlv_types.specs.{declared.typ.TtlvType.TheVariants.Enumeration, Leaves.is_valid, Items.Raw, Trees.leaf as leaf_tree, Primitives.sign_extended}
-use Rattle.kmip_ttlv_base.specs.Forms.{Form, int32, int64, boolean, text, octets, date_time, interval, big_integer, any_number}
-use Rattle.kmip_ttlv_base.specs.Values.{Value, boolean_value, i8_value, i16_value, i32_value, u32_value, i64_value, u64_value, date_time_value, interval_value}
-use Rattle.kmip_ttlv_base.specs.Values.{text_value, bytes_value, big_integer_value, unit_variant_value}
+use Rattle.kmip_ttlv_types.specs.{declared.typ.TtlvType.TheVariants.Enumeration, Leaves.is_valid, Items.Raw, Trees.leaf as leaf_tree}
+use Rattle.kmip_ttlv_base.specs.Forms.{Form, boolean}
+use Rattle.kmip_ttlv_base.specs.Values.{Value, boolean_value, i32_value, u32_value, i64_value, date_time_value, interval_value, unit_variant_value}
 use Rattle.kmip_ttlv_ser.specs.declared.pending.PendingTag.{PendingTag, TheVariants.Plain}
 use Rattle.kmip_ttlv_ser.specs.WrittenItems.{pending_tag, items, enumeration, one_leaf, ◌>>=◌}
 use Rattle.kmip_ttlv_reader.specs.TagValues.{TagValue}
 use Rattle.kmip_ttlv_reader.specs.Reads.{Reads, leaf, by_number, decoded_leaf, takes, stored_after_leaf}
 use Rattle.kmip_ttlv_laws.specs.Agreements.{is_run, leaf_type, with_value}
 use Rattle.kmip_ttlv_laws.specs.ReadingLaws.{LeavesComeBack, UnitsComeBack}
-use Rattle.kmip_ttlv_laws.specs.Returns.{ComesBack, as_big_integer, as_big_octets, as_boolean, as_date, as_date_time, as_int16, as_int32, as_int64, as_int8}
-use Rattle.kmip_ttlv_laws.specs.Returns.{as_interval, as_number, as_octets, as_text}
+use Rattle.kmip_ttlv_laws.specs.Returns.{ComesBack, as_boolean, as_date, as_date_time, as_int16, as_int32, as_int64, as_int8, as_interval, as_number, as_text}
 
 -- a value is encoded as one leaf, whose type and content the form takes, and it reads the other value from these
 pub record LeafIs (s : Form) (w v : Value) : Type 0 where
@@ -25,18 +23,13 @@ pub record LeafIs (s : Form) (w v : Value) : Type 0 where
   pub single : is_run v ≡ false
   pub keeps : (t : ℕ) (k : List TagValue) → stored_after_leaf s record { tag = t; typ = leaf_type w; content = content } k ≡ with_value s t w k
 
-leaf_by : (s : Form) (w v : Value) (content : List ℕ) → ((h : PendingTag) → items w h ≡ one_leaf h (leaf_type w) content) → takes s (leaf_type w) ≡ true
+leaf_by : {s : Form} {w v : Value} (content : List ℕ) → ((h : PendingTag) → items w h ≡ one_leaf h (leaf_type w) content) → takes s (leaf_type w) ≡ true
     → is_valid (leaf_type w) content ≡ true → decoded_leaf s content ≡ v → is_run v ≡ false
     → ((t : ℕ) (k : List TagValue) → stored_after_leaf s record { tag = t; typ = leaf_type w; content = content } k ≡ with_value s t w k) → LeafIs s w v
-leaf_by s w v content are takes_it valid gives single keeps = record {
-  content = content;
-  written = λ h t e. are h ∙ ap (λ (o : Option ℕ). o >>= λ n. Some (leaf_tree n (leaf_type w) content ∷ [])) e;
-  takes_it = takes_it;
-  valid = valid;
-  gives = gives;
-  single = single;
-  keeps = keeps;
-}
+leaf_by {w = w} content are takes_it valid gives single keeps =
+    let written = λ (h : PendingTag) (t : ℕ) (e : pending_tag h ≡ Some t). are h
+    ∙ ap (λ (o : Option ℕ). o >>= λ n. Some (leaf_tree n (leaf_type w) content ∷ [])) e in
+    record { content = content; written = written; takes_it = takes_it; valid = valid; gives = gives; single = single; keeps = keeps }
 
 -- signed numbers come back from their bytes
 four_back : (z : ℤ) → FitsSigned w32 z → cast_signed w32 (from_be_bytes w32 (to_be_bytes w32 (cast_unsigned w32 z))) ≡ z
@@ -47,34 +40,23 @@ eight_back z f = ap (cast_signed w64) (from_be_bytes-to_be_bytes_8 (cast_unsigne
 
 -- a truth value comes back
 bool_is : (b : Bool) → LeafIs boolean (boolean_value b) (boolean_value b)
-bool_is true = leaf_by boolean (boolean_value true) (boolean_value true) (to_be_bytes w64 1) (λ h. refl) refl refl refl refl (λ t k. refl)
-bool_is false = leaf_by boolean (boolean_value false) (boolean_value false) (to_be_bytes w64 0) (λ h. refl) refl refl refl refl (λ t k. refl)
+bool_is true = leaf_by (to_be_bytes w64 1) (λ h. refl) refl refl refl refl (λ t k. refl)
+bool_is false = leaf_by (to_be_bytes w64 0) (λ h. refl) refl refl refl refl (λ t k. refl)
 
 -- for each rule
 pub leaf_of : (s : Form) (w v : Value) → ComesBack s w v → LeafIs s w v
-leaf_of s w v (as_int8 {z = z} f) = leaf_by int32 (i8_value z) (i32_value z) (to_be_bytes w32 (cast_unsigned w32 z)) (λ h. refl) refl refl
-    (ap i32_value (four_back z f)) refl (λ t k. refl)
-leaf_of s w v (as_int16 {z = z} f) = leaf_by int32 (i16_value z) (i32_value z) (to_be_bytes w32 (cast_unsigned w32 z)) (λ h. refl) refl refl
-    (ap i32_value (four_back z f)) refl (λ t k. refl)
-leaf_of s w v (as_int32 {z = z} f) = leaf_by int32 (i32_value z) (i32_value z) (to_be_bytes w32 (cast_unsigned w32 z)) (λ h. refl) refl refl
-    (ap i32_value (four_back z f)) refl (λ t k. refl)
-leaf_of s w v (as_int64 {z = z} f) = leaf_by int64 (i64_value z) (i64_value z) (to_be_bytes w64 (cast_unsigned w64 z)) (λ h. refl) refl refl
-    (ap i64_value (eight_back z f)) refl (λ t k. refl)
-leaf_of s w v (as_date {n = n} lt) = leaf_by int64 (u64_value n) (i64_value (cast_signed w64 n)) (to_be_bytes w64 n) (λ h. refl) refl refl
-    (ap (λ m. i64_value (cast_signed w64 m)) (from_be_bytes-to_be_bytes_8 n lt)) refl (λ t k. refl)
+leaf_of s w v (as_int8 {z = z} f) = leaf_by _ (λ h. refl) refl refl (ap i32_value (four_back z f)) refl (λ t k. refl)
+leaf_of s w v (as_int16 {z = z} f) = leaf_by _ (λ h. refl) refl refl (ap i32_value (four_back z f)) refl (λ t k. refl)
+leaf_of s w v (as_int32 {z = z} f) = leaf_by _ (λ h. refl) refl refl (ap i32_value (four_back z f)) refl (λ t k. refl)
+leaf_of s w v (as_int64 {z = z} f) = leaf_by _ (λ h. refl) refl refl (ap i64_value (eight_back z f)) refl (λ t k. refl)
+leaf_of s w v (as_date {n = n} lt) =
+    leaf_by _ (λ h. refl) refl refl (ap (λ m. i64_value (cast_signed w64 m)) (from_be_bytes-to_be_bytes_8 n lt)) refl (λ t k. refl)
 leaf_of s w v (as_boolean {b = b}) = bool_is b
-leaf_of s w v (as_text {s = c} u) = leaf_by text (text_value c) (text_value c) c (λ h. refl) refl u refl refl (λ t k. refl)
-leaf_of s w v (as_octets {s = c}) = leaf_by octets (bytes_value c) (bytes_value c) c (λ h. refl) refl refl refl refl (λ t k. refl)
-leaf_of s w v (as_date_time {z = z} f) = leaf_by date_time (date_time_value z) (date_time_value z) (to_be_bytes w64 (cast_unsigned w64 z)) (λ h. refl) refl refl
-    (ap date_time_value (eight_back z f)) refl (λ t k. refl)
-leaf_of s w v (as_interval {n = n} lt) = leaf_by interval (interval_value n) (interval_value n) (to_be_bytes w32 n) (λ h. refl) refl refl
-    (ap interval_value (from_be_bytes-to_be_bytes_4 n lt)) refl (λ t k. refl)
-leaf_of s w v (as_number {n = n} lt) = leaf_by any_number (u32_value n) (u32_value n) (to_be_bytes w32 n) (λ h. refl) refl refl
-    (ap u32_value (from_be_bytes-to_be_bytes_4 n lt)) refl (λ t k. refl)
-leaf_of s w v (as_big_integer {s = c}) = leaf_by big_integer (big_integer_value c) (big_integer_value (sign_extended c)) (sign_extended c)
-    (λ h. refl) refl refl refl refl (λ t k. refl)
-leaf_of s w v (as_big_octets {s = c}) = leaf_by octets (big_integer_value c) (bytes_value (sign_extended c)) (sign_extended c) (λ h. refl) refl refl refl refl
-    (λ t k. refl)
+leaf_of s w v (as_text u) = leaf_by _ (λ h. refl) refl u refl refl (λ t k. refl)
+leaf_of s w v (as_date_time {z = z} f) = leaf_by _ (λ h. refl) refl refl (ap date_time_value (eight_back z f)) refl (λ t k. refl)
+leaf_of s w v (as_interval {n = n} lt) = leaf_by _ (λ h. refl) refl refl (ap interval_value (from_be_bytes-to_be_bytes_4 n lt)) refl (λ t k. refl)
+leaf_of s w v (as_number {n = n} lt) = leaf_by _ (λ h. refl) refl refl (ap u32_value (from_be_bytes-to_be_bytes_4 n lt)) refl (λ t k. refl)
+leaf_of s w v c = leaf_by _ (λ h. refl) refl refl refl refl (λ t k. refl)
 
 -- it comes back, whatever was kept before and whatever follows
 pub leaves_come_back : LeavesComeBack

@@ -1,28 +1,14 @@
 -- What a root form reads from.
 use Rattle.std.proofs.Common.{◌≡◌, true, List, ◌∷◌}
 use Rattle.kmip_ttlv_types.specs.{Items.Raw, declared.typ.TtlvType.TtlvType, declared.typ.TtlvType.TheVariants.Structure}
-use Rattle.kmip_ttlv_base.specs.Forms.{Form, struct, option, seq, newtype, enum, int32, int64, boolean, text, octets, date_time, interval, big_integer}
-use Rattle.kmip_ttlv_base.specs.Forms.{any_number}
-use Rattle.kmip_ttlv_base.specs.Values.{Value}
+use Rattle.kmip_ttlv_base.specs.{Forms.Form, Forms.struct, Values.Value}
 use Rattle.kmip_ttlv_reader.specs.TagValues.{TagValue}
-use Rattle.kmip_ttlv_reader.specs.Reads.{Reads, leaf, wrap_some, wrap, run, structure, by_rule, by_number, is_root, takes}
+use Rattle.kmip_ttlv_reader.specs.Reads.{Reads, leaf, wrap_some, wrap, structure, is_root, takes}
 
 -- a form of leaves is no root
 no_leaf : (s : Form) (t : TtlvType) → is_root s ≡ true → takes s t ≡ true → t ≡ Structure
 no_leaf (struct name fs deny) t e h = absurd cc
-no_leaf (option s) t e h = absurd cc
-no_leaf (seq s) t e h = absurd cc
-no_leaf (newtype name s) t e h = absurd cc
-no_leaf (enum name vs) t e h = absurd cc
-no_leaf int32 t e h = absurd cc
-no_leaf int64 t e h = absurd cc
-no_leaf boolean t e h = absurd cc
-no_leaf text t e h = absurd cc
-no_leaf octets t e h = absurd cc
-no_leaf date_time t e h = absurd cc
-no_leaf interval t e h = absurd cc
-no_leaf big_integer t e h = absurd cc
-no_leaf any_number t e h = absurd cc
+no_leaf s t e h = absurd cc
 
 -- what a root form reads from is a Structure
 pub root_structure : {s : Form} {k k' : List TagValue} {x : Raw} {xs ys : List Raw} {v : Value} → is_root s ≡ true → Reads s k (x ∷ xs) v k' ys
@@ -30,7 +16,5 @@ pub root_structure : {s : Form} {k k' : List TagValue} {x : Raw} {xs ys : List R
 root_structure e (leaf {s = s} {h = h} t v) = no_leaf s h.typ e t
 root_structure e (wrap_some r) = root_structure e r
 root_structure e (wrap r) = root_structure e r
-root_structure e (run r rs) = absurd cc
 root_structure e (structure n t z fs m) = t
-root_structure e (by_rule c r) = absurd cc
-root_structure e (by_number c t v f) = absurd cc
+root_structure e r = absurd cc

@@ -1,6 +1,5 @@
 -- Encodings of one tree.
 use Rattle.std.proofs.Common.{◌≡◌, ℕ, List, [], ◌∷◌, refl, subst}
-use Rattle.kmip_ttlv_types.specs.declared.typ.TtlvType.TheVariants.{Structure}
 use Rattle.kmip_ttlv_types.specs.Items.{Raw, IsTextOf, Splits}
 use Rattle.kmip_ttlv_types.specs.Trees.{Tree, leaf, node, Trees, no_trees, tree, IsTreeText, AreTreeTexts}
 use Rattle.kmip_ttlv_laws.specs.ReadingLaws.{TextsDifferInPadding, PaddingOfTreesIsFree}
@@ -25,23 +24,10 @@ record Pairs (a b : List ℕ) : Type 0 where
 -- two encodings of a tree encode items that are the same but for padding
 mutual
   pair_of : (t : Tree) (a b : List ℕ) → IsTreeText t a → IsTreeText t b → Pair a b
-  pair_of (leaf tag typ content) a b h k = record {
-    one = record { tag = tag; typ = typ; content = content };
-    two =
-        record { tag = tag; typ = typ; content = content };
-    one_text = h.1;
-    two_text = k.1;
-    alike = equal_items;
-  }
+  pair_of (leaf tag typ content) a b h k = record { one = _; two = _; one_text = h.1; two_text = k.1; alike = equal_items }
   pair_of (node tag below) a b h k =
       let p = pairs_of below h.0 k.0 h.2 k.2 in
-      record {
-        one = record { tag = tag; typ = Structure; content = h.0 };
-        two = record { tag = tag; typ = Structure; content = k.0 };
-        one_text = h.1;
-        two_text = k.1;
-        alike = split_alike refl refl refl p.ones_split p.twos_split p.all_alike;
-      }
+      record { one = _; two = _; one_text = h.1; two_text = k.1; alike = split_alike refl refl refl p.ones_split p.twos_split p.all_alike }
 
   pairs_of : (ts : Trees) (a b : List ℕ) → AreTreeTexts ts a → AreTreeTexts ts b → Pairs a b
   pairs_of no_trees a b h k = record { ones = []; twos = []; ones_split = h; twos_split = k; all_alike = both_end }

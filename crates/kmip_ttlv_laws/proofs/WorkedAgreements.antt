@@ -1,5 +1,5 @@
 -- Worked values agree with their forms, computed on the definitions.
-use Rattle.std.proofs.Common.{◌≡◌, ℤ, pos, true, None, refl, codes, List, [], ◌∷◌, FitsSigned, lit<}
+use Rattle.std.proofs.Common.{ℤ, pos, None, refl, codes, List, [], ◌∷◌, FitsSigned, lit<}
 use Rattle.std.specs.Int.{w32}
 use Rattle.std.proofs.lemmas.List.Elements.{recursion_from_All}
 use Rattle.std.specs.Str.{chars, is_utf8, trim_end, trim_start}
@@ -19,28 +19,11 @@ use Rattle.kmip_ttlv_laws.specs.Returns.{as_int32}
 use Rattle.kmip_ttlv_laws.specs.WorkedAgreements.{AttributesAgree, OptionsAgree, SequencesAgree, attribute_form, number_under, written_attribute}
 use Rattle.kmip_ttlv_laws.specs.WorkedAgreements.{read_attribute}
 
-three_fits : FitsSigned w32 (pos 3)
-three_fits = record { sfits = lit< tt }
-
-five_fits : FitsSigned w32 (pos 5)
-five_fits = record { sfits = lit< tt }
-
-bits_fit : FitsSigned w32 (pos 128)
-bits_fit = record { sfits = lit< tt }
-
-algorithm_utf8 : is_utf8 (codes "Cryptographic Algorithm") ≡ true
-unfolding is_utf8 chars encode
-algorithm_utf8 = refl
-
-length_utf8 : is_utf8 (codes "Cryptographic Length") ≡ true
-unfolding is_utf8 chars encode
-length_utf8 = refl
-
 pub options_agree : OptionsAgree
 unfolding take_tag tag_of number transparent_name
 options_agree =
-    let first = inner_agrees (newtype_wraps refl refl) (leaf_agrees refl (as_int32 three_fits)) in
-    let second = inner_agrees (newtype_wraps refl refl) (leaf_agrees refl (as_int32 five_fits)) in (
+    let first = inner_agrees (newtype_wraps refl refl) (leaf_agrees refl (as_int32 record { sfits = lit< tt })) in
+    let second = inner_agrees (newtype_wraps refl refl) (leaf_agrees refl (as_int32 record { sfits = lit< tt })) in (
       _,
       _,
       struct_agrees refl (struct_encodes refl) (nothing_agrees (absent_agrees refl
@@ -53,9 +36,9 @@ algorithm_agrees : PartAgrees attribute_form (written_attribute (codes "Cryptogr
     (a_structure 0x420008) (read_attribute (codes "Cryptographic Algorithm") (codes "if 0x42000A==Cryptographic Algorithm")
     (unit_variant_value (codes "algorithm") (codes "0x00000003")))
 unfolding take_tag tag_of number transparent_name override_name pending_after is_wrapper rule sides equal at_least member in_brackets trim_end chars
-    trim_start encode
+    trim_start encode is_utf8
 algorithm_agrees = structure refl refl (
-    stored_then refl refl (wrapped_text_stored (newtype_wraps refl refl) refl algorithm_utf8) (
+    stored_then refl refl (wrapped_text_stored (newtype_wraps refl refl) refl refl) (
     choice_then {tag = 0x42000A} refl refl refl (chosen_after first_variant (λ k found. rw found refl) (
     wrapped_unit (variant_wraps refl refl) (unit_is_numbered refl refl) refl (λ k. record { no_rule = refl; named = refl }))) nothing_left))
 
@@ -63,11 +46,11 @@ algorithm_agrees = structure refl refl (
 length_agrees : PartAgrees attribute_form (written_attribute (codes "Cryptographic Length") (i32_value (pos 128))) (a_structure 0x420008)
     (read_attribute (codes "Cryptographic Length") (codes "if 0x42000A in [Cryptographic Length, Cryptographic Usage Mask]") (i32_value (pos 128)))
 unfolding take_tag tag_of number transparent_name override_name pending_after is_wrapper rule sides equal at_least member in_brackets trim_end chars
-    trim_start encode
+    trim_start encode is_utf8
 length_agrees = structure refl refl (
-    stored_then refl refl (wrapped_text_stored (newtype_wraps refl refl) refl length_utf8) (
+    stored_then refl refl (wrapped_text_stored (newtype_wraps refl refl) refl refl) (
     choice_then {tag = 0x42000A} refl refl refl (chosen_after (later_variant first_variant) (λ k found. rw found refl) (
-    wrapped_leaf (variant_wraps refl refl) refl (as_int32 bits_fit))) nothing_left))
+    wrapped_leaf (variant_wraps refl refl) refl (as_int32 record { sfits = lit< tt }))) nothing_left))
 
 -- both, each as it is encoded and as it is decoded
 both : List (Value × Value)

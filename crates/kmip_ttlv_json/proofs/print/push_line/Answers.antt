@@ -1,11 +1,11 @@
 use Rattle.std.proofs.Common.{◌∙◌, ◌<◌, ℕ, List, [], ◌∷◌, ◌++◌, get_or, refl, ap, subst, arith}
-use Rattle.std.specs.Prelude.{codes, None}
+use Rattle.std.specs.Prelude.{codes}
 use Rattle.kmip_ttlv_items.specs.{Enclosing.open_ends, ItemWalks.Ended, Stepping.Steps, Stepping.StepsTo}
 use Rattle.kmip_ttlv_util.proofs.Saying.{adds_same, breaks_same}
 use Rattle.kmip_ttlv_json.specs.declared.print.Spot.{Spot}
 use Rattle.kmip_ttlv_json.specs.Parts.{closes, spot_after, parts, spot_behind, first_spot}
 use Rattle.kmip_ttlv_json.specs.Printings.{secrets_of, hides_all, has_line, IsThere}
-use Rattle.kmip_ttlv_json.proofs.Found.{found_lines, one_more, spot_more, left_over, rest_printed, begun_json, json_is, broken_json, err_holds}
+use Rattle.kmip_ttlv_json.proofs.Found.{found_lines, one_more, spot_more, left_over, rest_printed, begun_json, json_is, err_json}
 use Rattle.kmip_ttlv_json.proofs.print.push_line.Goals as goal
 
 pub items-init : goal.items-init
@@ -13,9 +13,8 @@ items-init g c = record { bytes = c.new-walk.ensures.bytes; printed_lines = ([],
 
 pub push_item-requires : goal.push_item-requires
 push_item-requires g c =
-    let i = c.in-Item.item in
-    let comes : StepsTo c.items.walk c.next.new.self i = subst (Steps c.items.walk c.next.new.self) c.in-Item.is c.in_ok-item.ensures.ok in
-    subst (λ (s : List ℕ). IsThere s i) c.items.invariant.bytes comes.whole
+    let comes : StepsTo c.items.walk c.next.new.self c.in-Item.item = rw c.in-Item.is at c.in_ok-item.ensures.ok in
+    rw c.items.invariant.bytes at comes.whole
 
 pub items-preserved : goal.items-preserved
 items-preserved g c =
@@ -47,16 +46,12 @@ pub returns-in_err-item-clause-err : goal.returns-in_err-item-clause-err
 returns-in_err-item-clause-err g c =
     let w = c.args.message.now in
     let plain : (k : ℕ) → get_or w k 0 < 256 = λ k. omega (arith, c.type_inv.message k) in
-    let secrets = secrets_of c.args.hiding (has_line c.args.secrets.now) in
-    let hidden = hides_all c.args.hiding in
     let walk = c.items.walk in
     let found = c.items.invariant.printed_lines.0 in
     let left = left_over w walk.bytes.now c.items.invariant.bytes plain c.requires.found c.requires.ended walk.offset (open_ends walk.ends) found
     c.items.invariant.printed_lines.1 in
-    let first = parts secrets hidden first_spot (found_lines w found) in
-    let rest = rest_printed secrets hidden w plain found left in
-    err_holds _ _ (broken_json g.S.TextSink.breaks secrets hidden w _ _ (first ++ rest) None (begun_json secrets hidden w plain found left)
-    (g.met.S.TextSink.breaks_first _ _ first rest (g.met.S.TextSink.breaks_after _ _ first c.items.invariant.printed_lines.3)))
+    err_json _ g.S.TextSink.breaks (begun_json (secrets_of c.args.hiding (has_line c.args.secrets.now)) (hides_all c.args.hiding) w plain found left)
+    (g.met.S.TextSink.breaks_first _ _ _ _ (g.met.S.TextSink.breaks_after _ _ _ c.items.invariant.printed_lines.3))
 
 -- the sink failed in an item, behind which others follow
 pub returns-in_err-push_item-in-Item-clause-err : goal.returns-in_err-push_item-in-Item-clause-err
@@ -78,10 +73,8 @@ returns-in_err-push_item-in-Item-clause-err g c =
     let here = breaks_same g.S.TextSink.adds g.S.TextSink.breaks _ _ _ _
     (g.met.S.TextSink.breaks_second _ _ _ (parts secrets hidden first_spot (found_lines w found)) _ c.items.invariant.printed_lines.3
     c.in_err-push_item-in-Item.ensures.err) same in
-    let rest = rest_printed secrets hidden w plain more left in
-    err_holds _ _ (broken_json g.S.TextSink.breaks secrets hidden w _ _ (parts secrets hidden first_spot (found_lines w more) ++ rest) None
-    (begun_json secrets hidden w plain more left)
-    (g.met.S.TextSink.breaks_first _ _ (parts secrets hidden first_spot (found_lines w more)) rest here))
+    err_json _ g.S.TextSink.breaks (begun_json secrets hidden w plain more left) (g.met.S.TextSink.breaks_first _ _
+    (parts secrets hidden first_spot (found_lines w more)) (rest_printed secrets hidden w plain more left) here)
 
 pub returns-in_err-push_end-in-End-clause-err : goal.returns-in_err-push_end-in-End-clause-err
 returns-in_err-push_end-in-End-clause-err g c =
@@ -94,12 +87,10 @@ returns-in_err-push_end-in-End-clause-err g c =
     let ends = subst (Steps c.items.walk c.next.new.self) c.in-End.is c.in_ok-item.ensures.ok in
     let ended = subst (λ (s : List ℕ). Ended s found fault) c.items.invariant.bytes (ends.1 found c.items.invariant.printed_lines.1) in
     let first = parts secrets hidden first_spot (found_lines w found) in
-    err_holds _ _ (broken_json g.S.TextSink.breaks secrets hidden w _ _
-    (first ++ (closes (spot_behind secrets first_spot (found_lines w found)).depth ++ codes "\n")) fault
-    (json_is secrets hidden w plain c.requires.found c.requires.ended found fault ended)
+    err_json _ g.S.TextSink.breaks (json_is secrets hidden w plain c.requires.found c.requires.ended found fault ended)
     (breaks_same g.S.TextSink.adds g.S.TextSink.breaks _ _ _ _
     (g.met.S.TextSink.breaks_second _ _ _ first _ c.items.invariant.printed_lines.3 c.in_err-push_end-in-End.ensures.err)
-    (ap (λ (s : Spot). first ++ (closes s.depth ++ codes "\n")) c.items.invariant.printed_lines.2)))
+    (ap (λ (s : Spot). first ++ (closes s.depth ++ codes "\n")) c.items.invariant.printed_lines.2))
 
 pub returns-in-End-clause-ok : goal.returns-in-End-clause-ok
 returns-in-End-clause-ok g c =

@@ -16,8 +16,7 @@ push_items-push_tree-requires t c =
     let xs = c.deref-item-items.result.now in
     let x = c.item-item.result in
     let deep : depth (view x) ≤ items_depth (items_view c.args.items.now.items) =
-    subst (λ ys. depth (view x) ≤ items_depth (items_view ys)) c.deref-item-items.ensures.value
-    (subst (λ y. depth (view y) ≤ items_depth (items_view xs)) (sym c.item-item.is) (item_deep xs c.loop-item.item-index x c.loop-item-test.true)) in
+    rw (c.item-item.is, sym c.deref-item-items.ensures.value) (item_deep xs c.loop-item.item-index x c.loop-item-test.true) in
     let smaller : 2 * depth (view x) < 2 * items_depth (items_view c.args.items.now.items) + 1 = omega (arith, deep) in
     search rules
 
@@ -29,8 +28,8 @@ push_items-returns-in_err-push_tree-clause-err t c =
     let here : drop l.item-index xs ≡ x ∷ drop (l.item-index + 1) xs = drop_more xs l.item-index x c.loop-item-test.true
     ∙ ap (λ y. y ∷ drop (l.item-index + 1) xs) (sym c.item-item.is) in
     let begun = subst (λ ys. Begun (trees_of (items_view xs)) (trees_of (items_view ys)) c.args.out.now.items l.out.items) here l.invariant in
-    let all = fails_all (trees_of (items_view xs)) (trees_of (items_view (drop (l.item-index + 1) xs))) (tree_of (view x)) c.args.out.now.items l.out.items
-    c.in_err-push_tree.field-0.0 begun c.in_err-push_tree.ensures.err in
+    let all = fails_all (trees_of (items_view (drop (l.item-index + 1) xs))) (tree_of (view x)) c.in_err-push_tree.field-0.0 begun
+    c.in_err-push_tree.ensures.err in
     let whole = subst (λ ys. Fails (trees_of (items_view ys)) c.in_err-push_tree.field-0.0) c.deref-item-items.ensures.value all in
     search rules
 
