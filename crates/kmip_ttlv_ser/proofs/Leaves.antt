@@ -24,9 +24,6 @@ pub tree_len : (t : Tree) → 8 ≤ length (bytes t)
 tree_len (leaf t typ c) = omega (arith, leaf_len t typ c)
 tree_len (node t ts) = omega (arith, node_len t (bytes_below ts))
 
-pub some_len : (t : Tree) (ts : List Tree) → 8 ≤ length (bytes_all (t ∷ ts))
-some_len t ts = omega (arith, tree_len t, length-append (bytes t) (bytes_all ts))
-
 pub one_leaf_len : (t : ℕ) (typ : TtlvType) (c : List ℕ) → length (bytes_all (leaf t typ c ∷ [])) ≡ 8 + length c + pad_len (length c)
 one_leaf_len t typ c = ap length (append-nil (leaf_bytes t typ c)) ∙ leaf_len t typ c
 

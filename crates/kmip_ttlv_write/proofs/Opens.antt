@@ -166,6 +166,3 @@ pub leave_more : (d : ℕ) (o : Opened) → d < depth_of o → leave d (close_on
 leave_more d o lt =
     let k : depth_of o - d ≡ suc (depth_of (close_one o) - d) = omega (arith, close_depth o) in
     sym (ap (λ (n : ℕ). close_by n o) k)
-
-pub leave_none : (d : ℕ) (o : Opened) → depth_of o ≤ d → leave d o ≡ o
-leave_none d o le = let k : depth_of o - d ≡ 0 = omega arith in ap (λ (n : ℕ). close_by n o) k
