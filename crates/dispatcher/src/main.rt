@@ -1,5 +1,5 @@
 //! A dispatcher, and a client of it, over memory: an example to copy. The client's request goes to the server, whose log is printed,
-//! and then what the response says; after it a request that is cut, and one of another type.
+//! and then what the response says; after it a request that lacks its header's items, and one within a message that is none.
 #![tactic(auto)]
 
 mod client;
@@ -26,9 +26,12 @@ fn main(rt: HostRuntime) -> io::Result<()> {
         Ok(lines) => print!(rt; "{lines}")?,
         Err(error) => println!(rt; "{error}")?,
     }
-    // a request whose item lacks its payload, and then one whose type is none
-    let bad =
-        b"\x42\x00\x78\x01\x00\x00\x00\x08\x42\x00\x77\x01\x00\x00\x00\x00\x42\x00\x78\x0C\x00\x00\x00\x00";
-    let responses = served(&rt, alloc, bad)?;
+    // a request that lacks all items of its header, and behind it the first request within a message whose type code is none
+    let mut bad = b"\x42\x00\x78\x01\x00\x00\x00\x08\x42\x00\x77\x01\x00\x00\x00\x00".to_vec(
+        alloc,
+    )?;
+    bad.extend_from_slice(b"\x42\x00\x78\x0C\x00\x00\x00\xF8")?;
+    bad.extend_from_slice(request.as_slice())?;
+    let responses = served(&rt, alloc, bad.as_slice())?;
     println!(rt; "{} bytes of responses", responses.len())
 }

@@ -1,5 +1,6 @@
 //! The server's half: requests come from a reader, one message at a time, and their responses go to a writer. A line of the log is the
-//! diagnostic of a message: its tags, types, nesting and enumeration values, and no other value.
+//! diagnostic of a message: its tags, types, nesting and enumeration values, and no other value. Of bytes that aren't one whole message it
+//! has the fault, its offset and their number.
 //!
 //! It stands on `kmip_messages` for what a message is, and on `kmip_ttlv` for its bytes.
 
@@ -11,6 +12,7 @@ use kmip_messages::request_payload::RequestPayload;
 use kmip_messages::response::{Response, ResponseItem, ResultReason, ResultStatus};
 use kmip_messages::response_payload::{DiscoverVersionsResponse, QueryResponse, ResponsePayload};
 use kmip_ttlv::error::{Error, ErrorKind};
+use kmip_ttlv::items::find_fault;
 use kmip_ttlv::{Config, PrettyPrinter, from_reader, to_writer};
 use std::alloc::{AllocError, Global};
 use std::io::{self, Read, Write};
@@ -121,19 +123,36 @@ pub fn refuse(alloc: Global) -> Result<Response, AllocError> {
     Ok(response(items))
 }
 
-// Whether the next message can be read after this error: the bytes of this one were all taken.
-fn goes_on(error: &Error) -> bool {
-    matches!(
-        error.kind(),
-        ErrorKind::MalformedTtlv(_) | ErrorKind::SerdeError(_)
-    )
+// Whether these are all bytes of one message: then the next byte is the next message's first. After a type code that is none, or a
+// message beyond the limit, only the eight bytes of the header were taken, and what follows is not to be read as requests.
+fn is_taken_whole(bytes: &[u8]) -> bool {
+    match bytes {
+        [_, _, _, 1, a, b, c, d, body @ ..] => {
+            body.len() as u64 == u32::from_be_bytes([*a, *b, *c, *d]) as u64
+        }
+        _ => false,
+    }
+}
+
+// What is known of a message without any of its values.
+fn outline(alloc: Global, bytes: &[u8]) -> Result<String, AllocError> {
+    match find_fault(alloc, bytes)? {
+        Some(fault) => {
+            let (kind, at, count) = (fault.kind, fault.offset, bytes.len());
+            format!(in alloc; "{kind:?} at byte {at} of {count}")
+        }
+        None => {
+            let mut printer = PrettyPrinter::new(alloc);
+            printer.with_closed_empty(true);
+            let _ = printer.with_tag_prefix("4200".to_string(alloc)?);
+            printer.to_diag_string(bytes)
+        }
+    }
 }
 
 // A line of the log.
 fn note<L: Write>(alloc: Global, log: &mut L, who: &str, bytes: &[u8]) -> io::Result<()> {
-    let mut printer = PrettyPrinter::new(alloc);
-    let _ = printer.with_tag_prefix("4200".to_string(alloc)?);
-    let line = format!(in alloc; "{who} {}\n", printer.to_diag_string(bytes)?)?;
+    let line = format!(in alloc; "{who} {}\n", outline(alloc, bytes)?)?;
     log.write_all(line.as_bytes())
 }
 
@@ -151,8 +170,8 @@ fn send<W: Write, L: Write>(
     Ok(to_writer(alloc, response, writer).is_ok())
 }
 
-/// Answers requests until the reader ends, or until what follows can't be told apart from what came: a message of an unknown type,
-/// or beyond 65,536 bytes.
+/// Answers requests until the reader ends, or until what follows can't be told apart from what came: the last message is refused then, and
+/// nothing behind it is read.
 pub fn serve<R: Read, W: Write, L: Write>(
     alloc: Global,
     reader: &mut R,
@@ -167,14 +186,15 @@ pub fn serve<R: Read, W: Write, L: Write>(
         {
             break;
         }
-        if let Some(bytes) = config.read_buf() {
-            note(alloc, log, ">", bytes.as_slice())?;
-        }
-        let (response, more) = match &read {
-            Ok(request) => (respond(alloc, request)?, true),
-            Err(error) => (refuse(alloc)?, goes_on(error)),
+        let Some(bytes) = config.read_buf() else {
+            break;
         };
-        if !send(alloc, writer, log, &response)? || !more {
+        note(alloc, log, ">", bytes.as_slice())?;
+        let response = match &read {
+            Ok(request) => respond(alloc, request)?,
+            Err(_) => refuse(alloc)?,
+        };
+        if !send(alloc, writer, log, &response)? || !is_taken_whole(bytes.as_slice()) {
             break;
         }
     }
