@@ -77,5 +77,6 @@ pub use Rattle.kmip_ttlv_write.specs.GivenItems
 pub use Rattle.kmip_ttlv_write.specs.FlatWrites
 pub use Rattle.kmip_ttlv_write.specs.FlatLaws
 pub use Rattle.kmip_ttlv_names.specs.NameTables
+pub use Rattle.kmip_ttlv_names.specs.SecretTags
 pub use Rattle.kmip_ttlv_names.specs.ValueNames
 pub use Rattle.kmip_ttlv_names.specs.OwnNames

@@ -1,3 +1,4 @@
 pub mod NameTables
 pub mod ValueNames
 pub mod OwnNames
+pub mod SecretTags

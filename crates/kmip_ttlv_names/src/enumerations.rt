@@ -1,6 +1,7 @@
 //! The values of KMIP's enumerations, with the names that its specifications give them.
+//! Written by codegen/names from data/kmip_enumerations.tsv: change that, and run codegen/names.
 
-/// The enumerations of KMIP 1.0 (9.1.3.2) and of the later versions up to 2.1, as a table: a line for each, in
+/// The enumerations of KMIP 1.0 (9.1.3.2) and of the later versions up to 2.0, as a table: a line for each, in
 /// the order of their tags' numbers, with the list of its values. Masks, which are Integers, have none.
 pub const STANDARD_VALUES: &str = "\
 420007 1=Mandatory;2=Optional;3=Prohibited

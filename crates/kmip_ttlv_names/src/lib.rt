@@ -19,4 +19,6 @@ pub use own::{OwnNames, ValueMap, own_names, value_key};
 pub use secrets::STANDARD_SECRETS;
 pub use standard::STANDARD_TAGS;
 pub use table::{TableError, standard_names, tag_named, tag_names};
-pub use values::{standard_masks, standard_secrets, standard_values, value_name};
+pub use values::{
+    secrets_are_named, standard_masks, standard_secrets, standard_values, value_name,
+};

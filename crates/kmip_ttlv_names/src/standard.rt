@@ -1,6 +1,7 @@
 //! The tags of KMIP, with the names that its specifications give them.
+//! Written by codegen/names from data/kmip_tags.tsv: change that, and run codegen/names.
 
-/// The tags of KMIP 1.0 (9.1.3.1) and of the later versions up to 2.1, as a table: a line for each, in the
+/// The tags of KMIP 1.0 (9.1.3.1) and of the later versions up to 2.0, as a table: a line for each, in the
 /// order of their numbers.
 pub const STANDARD_TAGS: &str = "\
 420001 Activation Date

@@ -4,6 +4,7 @@
 ghost use Rattle.std.specs.Prelude.{◌≡◌, option_map, IfOk};
 ghost use Rattle.kmip_ttlv_util.specs.TagNames.{name_in};
 ghost use Rattle.kmip_ttlv_names.specs.NameTables.{names_of};
+ghost use Rattle.kmip_ttlv_names.specs.SecretTags.{NamesSecrets};
 ghost use Rattle.kmip_ttlv_names.specs.ValueNames.{name_of_value, entry_name};
 
 use crate::enumerations::STANDARD_VALUES;
@@ -74,7 +75,13 @@ pub fn standard_masks<A: Allocator + Copy>(alloc: A) -> Result<LentTagMap<'stati
     tag_names(alloc, STANDARD_MASKS)
 }
 
-/// Returns the tags in the KMIP specifications whose items hold secrets, each with its name.
+/// A law: `STANDARD_SECRETS` has a line for each secret tag of the KMIP specifications, and for no other tag.
+pub fn secrets_are_named()
+    ensures { NamesSecrets (names_of STANDARD_SECRETS.now) }
+{}
+
+/// Returns the secret tags of the KMIP specifications, each with its name: those whose items can hold a key, data to encrypt
+/// or decrypt, or proof of identity. A structure is secret with all that is in it.
 ///
 /// The only error is `OutOfMemory`.
 ///
@@ -84,6 +91,7 @@ pub fn standard_masks<A: Allocator + Copy>(alloc: A) -> Result<LentTagMap<'stati
 /// ```
 pub fn standard_secrets<A: Allocator + Copy>(alloc: A) -> Result<LentTagMap<'static, A>, TableError>
     ensures names { IfOk result (λ tags. name_in tags ≡ names_of STANDARD_SECRETS.now) }
+    ensures secrets { IfOk result (λ tags. NamesSecrets (name_in tags)) }
 {
     tag_names(alloc, STANDARD_SECRETS)
 }

@@ -1,7 +1,7 @@
 //! Names of enumerations' values, as the specification's tables spell them (KMIP 1.0, 9.1.3.2, and the tables
-//! of its later versions).
+//! of its later versions), and which tags are secret.
 
-use kmip_ttlv_names::{standard_values, value_name};
+use kmip_ttlv_names::{standard_secrets, standard_values, value_name};
 use kmip_ttlv_types::TtlvTag;
 use std::alloc::Global;
 
@@ -67,4 +67,69 @@ fn names_of_values(rt: HostRuntime) {
     for row in NAMES {
         assert!(rt; is_named(rt.alloc(), row), "{row:?}");
     }
+}
+
+// Tags of keys, of data to encrypt or decrypt, and of credentials, listed by hand.
+const SECRETS: [[u8; 3]; 24] = [
+    // Credential Value, Password, Ticket Value, and the passwords of KMIP 2.0.
+    [0x42, 0x00, 0x25],
+    [0x42, 0x00, 0xA1],
+    [0x42, 0x01, 0x4B],
+    [0x42, 0x01, 0x55],
+    [0x42, 0x01, 0x56],
+    [0x42, 0x01, 0x57],
+    // Key Value, Key Material, Key, and the private numbers of keys.
+    [0x42, 0x00, 0x45],
+    [0x42, 0x00, 0x43],
+    [0x42, 0x00, 0x3F],
+    [0x42, 0x00, 0x63],
+    [0x42, 0x00, 0x2E],
+    [0x42, 0x00, 0x5E],
+    [0x42, 0x00, 0x71],
+    [0x42, 0x00, 0x9F],
+    [0x42, 0x00, 0x60],
+    [0x42, 0x00, 0x61],
+    [0x42, 0x00, 0x27],
+    // Data, Opaque Data Value, Derivation Data, and what calls of PKCS#11 take and return.
+    [0x42, 0x00, 0xC2],
+    [0x42, 0x00, 0x5A],
+    [0x42, 0x00, 0x30],
+    [0x42, 0x01, 0x5B],
+    [0x42, 0x01, 0x5C],
+    // What a device, or an attestation, proves.
+    [0x42, 0x00, 0xA2],
+    [0x42, 0x00, 0xCC],
+];
+
+// A key block, a template, a Unique Identifier, a name's value, a Certificate Value, a Public Exponent, a Modulus, an
+// initialization vector, a Result Message.
+const PUBLIC: [[u8; 3]; 9] = [
+    [0x42, 0x00, 0x40],
+    [0x42, 0x00, 0x91],
+    [0x42, 0x00, 0x94],
+    [0x42, 0x00, 0x55],
+    [0x42, 0x00, 0x1E],
+    [0x42, 0x00, 0x6C],
+    [0x42, 0x00, 0x52],
+    [0x42, 0x00, 0x3D],
+    [0x42, 0x00, 0x7D],
+];
+
+// Whether each of these tags is secret, or none is.
+fn are_secret(alloc: Global, tags: &[[u8; 3]], secret: bool) -> bool {
+    let Ok(secrets) = standard_secrets(alloc) else {
+        return false;
+    };
+    for tag in tags {
+        if secrets.contains_key(&TtlvTag::from(*tag)) != secret {
+            return false;
+        }
+    }
+    true
+}
+
+#[test]
+fn secret_tags(rt: HostRuntime) {
+    assert!(rt; are_secret(rt.alloc(), &SECRETS, true));
+    assert!(rt; are_secret(rt.alloc(), &PUBLIC, false));
 }
