@@ -723,11 +723,40 @@ local MASKS = {
 }
 local SECRETS = {
   [0x420025] = true, -- Credential Value
+  [0x420027] = true, -- CRT Coefficient
+  [0x42002E] = true, -- D
+  [0x420030] = true, -- Derivation Data
+  [0x420035] = true, -- Digest Value
+  [0x42003F] = true, -- Key
   [0x420043] = true, -- Key Material
+  [0x420045] = true, -- Key Value
+  [0x42005A] = true, -- Opaque Data Value
+  [0x42005E] = true, -- P
+  [0x420060] = true, -- Prime Exponent P
+  [0x420061] = true, -- Prime Exponent Q
+  [0x420063] = true, -- Private Exponent
+  [0x420071] = true, -- Q
+  [0x42009C] = true, -- Vendor Extension
+  [0x42009F] = true, -- X
   [0x4200A1] = true, -- Password
+  [0x4200A2] = true, -- Device Identifier
+  [0x4200A9] = true, -- Machine Identifier
+  [0x4200AA] = true, -- Media Identifier
+  [0x4200AB] = true, -- Network Identifier
+  [0x4200B0] = true, -- Device Serial Number
+  [0x4200C2] = true, -- Data
+  [0x4200C3] = true, -- Signature Data
+  [0x4200C6] = true, -- MAC Data
+  [0x4200CB] = true, -- Attestation Measurement
+  [0x4200CC] = true, -- Attestation Assertion
+  [0x4200FE] = true, -- Authenticated Encryption Additional Data
+  [0x420107] = true, -- Digested Data
+  [0x42014B] = true, -- Ticket Value
   [0x420155] = true, -- Server Hashed Password
   [0x420156] = true, -- One Time Password
   [0x420157] = true, -- Hashed Password
+  [0x42015B] = true, -- PKCS#11 Input Parameters
+  [0x42015C] = true, -- PKCS#11 Output Parameters
 }
 -- END
 
