@@ -10,6 +10,7 @@ pub mod Longest
 pub mod Loop
 pub mod MapClones
 pub mod Message
+pub mod OpenOutlines
 pub mod Parts
 pub mod PrefixNumbers
 pub mod PrettyTexts

@@ -27,7 +27,7 @@ pub item_mark : {prefix given bytes : List ℕ} {p : ℕ} {i : Item} → given �
 item_mark same item = rw (same, item.tag, item.value) refl
 
 -- what a diagnostic has for leaves and for openings of structures
-diag_drawing : List ℕ → Drawing
+unfoldable pub diag_drawing : List ℕ → Drawing
 diag_drawing prefix = record {
   of_leaf = λ depth tag typ content. mark prefix tag typ (value_of typ content);
   of_node =
@@ -35,7 +35,7 @@ diag_drawing prefix = record {
 }
 
 -- its style writes that
-diag_draws : (prefix : List ℕ) (closed : Bool) (w : List ℕ) → Draws (diag_style prefix) (diag_drawing prefix) closed w
+pub diag_draws : (prefix : List ℕ) (closed : Bool) (w : List ℕ) → Draws (diag_style prefix) (diag_drawing prefix) closed w
 unfolding diag_drawing
 diag_draws prefix closed w = record {
   leafs = λ depth p tag typ content h. let value-is : detail_value typ (entry_at w p).detail ≡ value_of typ content = ap (detail_value typ) h.detail_is

@@ -18,11 +18,11 @@ use Rattle.kmip_ttlv_util.proofs.Stack.{step_leaf, step_opens}
 -- how many turns a tree takes, in addition to f
 abbrev mutual
   -- the turns of a tree
-  more : Tree → ℕ → ℕ
+  pub more : Tree → ℕ → ℕ
   more (leaf tag typ content) f = suc f
   more (node tag ts) f = suc (more_all ts f)
 
-  more_all : Trees → ℕ → ℕ
+  pub more_all : Trees → ℕ → ℕ
   more_all no_trees f = f
   more_all (tree t ts) f = more t (more_all ts f)
 
@@ -35,23 +35,23 @@ size_least : (typ : TtlvType) (n : ℕ) → 8 + n ≤ size typ n
 size_least typ n = omega arith
 
 -- the length of an encoding
-tree_length : (t : Tree) (text : List ℕ) → IsTreeText t text → 8 ≤ length text
+pub tree_length : (t : Tree) (text : List ℕ) → IsTreeText t text → 8 ≤ length text
 tree_length (leaf tag typ content) text h = omega (arith, text_length (raw_with tag typ content) text h.1, size_least typ (length content))
 tree_length (node tag ts) text h = omega (arith, text_length (raw_with tag Structure h.0) text h.1, size_least Structure (length h.0))
 
 -- there are enough bytes for all turns
-record Turns (g n : ℕ) (m : ℕ → ℕ) : Type 0 where
-  left : ℕ
-  is : g ≡ m left
-  enough : g ≤ left + n
+pub record Turns (g n : ℕ) (m : ℕ → ℕ) : Type 0 where
+  pub left : ℕ
+  pub is : g ≡ m left
+  pub enough : g ≤ left + n
 
 -- the length of a structure's encoding
-node_length : (tag : ℕ) (ts : Trees) (text : List ℕ) (h : IsTreeText (node tag ts) text) → length text ≡ 8 + length h.0
+pub node_length : (tag : ℕ) (ts : Trees) (text : List ℕ) (h : IsTreeText (node tag ts) text) → length text ≡ 8 + length h.0
 node_length tag ts text h = text_length (raw_with tag Structure h.0) text h.1 ∙ omega arith
 
 mutual
   -- a tree takes no more turns than it has bytes
-  turns : (t : Tree) (text : List ℕ) (g : ℕ) → IsTreeText t text → length text ≤ g → Turns g (length text) (more t)
+  pub turns : (t : Tree) (text : List ℕ) (g : ℕ) → IsTreeText t text → length text ≤ g → Turns g (length text) (more t)
   turns (leaf tag typ content) text zero h le = absurd (omega (arith, tree_length (leaf tag typ content) text h))
   turns (leaf tag typ content) text (suc g) h le = record { left = g; is = refl; enough = omega (arith, tree_length (leaf tag typ content) text h) }
   turns (node tag ts) text zero h le = absurd (omega (arith, tree_length (node tag ts) text h))
@@ -88,15 +88,15 @@ ends_itself false tag ts text none h = lt-ltb 0 (length text) (first_length tag 
 -- ---- the walk over a tree
 
 -- what follows the first part is after it
-next_at : (w : List ℕ) (p : ℕ) (a rest : List ℕ) → drop p w ≡ a ++ rest → drop (p + length a) w ≡ rest
+pub next_at : (w : List ℕ) (p : ℕ) (a rest : List ℕ) → drop p w ≡ a ++ rest → drop (p + length a) w ≡ rest
 next_at w p a rest e = sym (drop-drop (length a) p w) ∙ ap (drop (length a)) e ∙ drop_at a rest (length a) refl
 
 -- an encoding at an offset is within the bytes
-within_at : (w : List ℕ) (p : ℕ) (a rest : List ℕ) → p ≤ length w → drop p w ≡ a ++ rest → p + length a ≤ length w
+pub within_at : (w : List ℕ) (p : ℕ) (a rest : List ℕ) → p ≤ length w → drop p w ≡ a ++ rest → p + length a ≤ length w
 within_at w p a rest le e = omega (arith, ap length e, length-append a rest, length-drop p w)
 
 -- where its content is
-content_at_text : (w : List ℕ) (p : ℕ) (x : Raw) (text rest : List ℕ) (t : IsTextOf x text) → drop p w ≡ text ++ rest
+pub content_at_text : (w : List ℕ) (p : ℕ) (x : Raw) (text rest : List ℕ) (t : IsTextOf x text) → drop p w ≡ text ++ rest
     → drop (p + 8) w ≡ x.content ++ (t.pad ++ rest)
 content_at_text w p x text rest t e =
     let r : drop p w ≡ header_of x ++ (x.content ++ (t.pad ++ rest)) = e ∙ ap (λ (s : List ℕ). s ++ rest) t.parts ∙ simp append_assoc in
@@ -138,7 +138,7 @@ pub record Draws (style : Style) (d : Drawing) (closed : Bool) (w : List ℕ) : 
   pub nodes : (depth p tag : ℕ) → NodeHere closed (entry_at w p) tag → style.item depth p (entry_at w p) Structure ≡ d.of_node depth tag
 
 module _ (style : Style) (d : Drawing) (closed : Bool) (w : List ℕ) (draws : Draws style d closed w) where
-  leaf_step : (tag : ℕ) (typ : TtlvType) (content : List ℕ) (p f : ℕ) (es : List ℕ) (k : ℕ) (z : Bool) (text rest : List ℕ)
+  pub leaf_step : (tag : ℕ) (typ : TtlvType) (content : List ℕ) (p f : ℕ) (es : List ℕ) (k : ℕ) (z : Bool) (text rest : List ℕ)
       → IsTreeText (leaf tag typ content) text → drop p w ≡ text ++ rest → p ≤ length w → Ready (place p es k z)
       → text_from style closed w (suc f) (place p es k z) ≡ d.of_leaf (k + length es) tag typ content ++ text_from style closed w f
       (place (p + length text) es k z)
@@ -162,16 +162,16 @@ module _ (style : Style) (d : Drawing) (closed : Bool) (w : List ℕ) (draws : D
       (turn_reads style closed w f (place p es k z) typ ready reads).0 ∙ rw (draws.leafs (k + length es) p tag typ content here, goes) refl
 
   -- a structure's opening
-  node_step : (tag : ℕ) (ts : Trees) (p f : ℕ) (es : List ℕ) (k : ℕ) (z : Bool) (text rest : List ℕ) (h : IsTreeText (node tag ts) text)
-      → (closed ≡ false → HasNoEmpty (node tag ts)) → drop p w ≡ text ++ rest → p ≤ length w → Ready (place p es k z)
+  pub node_step : (tag : ℕ) (ts : Trees) (p f : ℕ) (es : List ℕ) (k : ℕ) (z : Bool) (text rest : List ℕ) (h : IsTreeText (node tag ts) text)
+      → has_end closed (length h.0) ≡ true → drop p w ≡ text ++ rest → p ≤ length w → Ready (place p es k z)
       → text_from style closed w (suc f) (place p es k z) ≡ d.of_node (k + length es) tag ++ text_from style closed w f
       (place (p + 8) ((p + 8 + length h.0) ∷ es) k z)
-  node_step tag ts p f es k z text rest h none at le ready =
+  node_step tag ts p f es k z text rest h ends at le ready =
       let item = item_at_text w p (raw_with tag Structure h.0) text rest le at h.1 in
       let n = length_at (entry_at w p).header 0 in
       let n-is : n ≡ length h.0 = entry_length w p ∙ sym item.len in
       let reads = read_structure w p (ap type_of (sym item.typ)) (omega (arith, item.there)) in
-      let own : has_end closed n ≡ true = ap (has_end closed) n-is ∙ ends_itself closed tag ts h.0 none h.2 in
+      let own : has_end closed n ≡ true = ap (has_end closed) n-is ∙ ends in
       let here : NodeHere closed (entry_at w p) tag = record { tag_is = entry_tag w p ∙ sym item.tag; own = own } in
       let goes : after closed (place p es k z) Structure n ≡ place (p + 8) ((p + 8 + length h.0) ∷ es) k z =
       sym (step_opens closed (place p es k z) Structure n (p + 8) ((p + 8 + length h.0) ∷ es) ready refl refl own
@@ -191,7 +191,7 @@ module _ (style : Style) (d : Drawing) (closed : Bool) (w : List ℕ) (draws : D
         let q-is : q ≡ p + length text = omega (arith, node_length tag ts text h) in
         let long : p + 8 ≤ length w = omega (arith, within_at w p text rest le at, tree_length (node tag ts) text h) in
         let deep : k + length (q ∷ e ∷ es) ≡ suc (k + length (e ∷ es)) = omega arith in
-        let first = node_step tag ts p (more_all ts f) (e ∷ es) k z text rest h none at le ready in
+        let first = node_step tag ts p (more_all ts f) (e ∷ es) k z text rest h (ends_itself closed tag ts h.0 none h.2) at le ready in
         let second = trees_text ts (p + 8) q f (e ∷ es) k z h.0 (h.1.pad ++ rest) h.2 (λ c. inner tag ts (none c))
         (content_at_text w p (raw_with tag Structure h.0) text rest h.1 at) long (omega arith) in
         rw (first, second, deep, ((turn_closes style closed w f q e es k z).0), q-is) (simp append_assoc)
@@ -221,7 +221,7 @@ module _ (style : Style) (d : Drawing) (closed : Bool) (w : List ℕ) (draws : D
   message_determined (node tag ts) h root none =
       let t = turns (node tag ts) w (suc (length w)) h (omega arith) in
       let at : drop 0 w ≡ w ++ [] = sym (append-nil w) in
-      let first = node_step tag ts 0 (more_all ts t.left) [] 0 false w [] h none at (omega arith) (ready_root 0 0 false) in
+      let first = node_step tag ts 0 (more_all ts t.left) [] 0 false w [] h (ends_itself closed tag ts h.0 none h.2) at (omega arith) (ready_root 0 0 false) in
       let second = trees_text ts (0 + 8) (0 + 8 + length h.0) t.left [] 0 false h.0 (h.1.pad ++ []) h.2 (λ c. inner tag ts (none c))
       (content_at_text w 0 (raw_with tag Structure h.0) w [] h.1 at) (omega (arith, node_length tag ts w h)) (omega arith) in
       rw (← text_start style closed w, t.is, first, second, (turn_over style closed w t.left (0 + 8 + length h.0) 0 false).0) refl

@@ -19,3 +19,4 @@ pub mod Pending
 pub mod Pieces
 pub mod Waiting
 pub mod Sinks
+pub mod CheckedDiagnostics

@@ -1,5 +1,5 @@
 -- Outlines of messages, which are what a diagnostic shows, and their text.
-use Rattle.std.specs.Prelude.{ℕ, ◌^◌, ◌<◌, List, [], ◌∷◌, ◌++◌, length, drop, true, if◌then◌else◌, Option, Some, None}
+use Rattle.std.specs.Prelude.{ℕ, ◌^◌, ◌<◌, Bool, true, false, List, [], ◌∷◌, ◌++◌, length, drop, if◌then◌else◌, Option, Some, None}
 use Rattle.std.specs.Prelude.{nat_eq, codes}
 use Rattle.std.specs.List.{starts_with}
 use Rattle.std.specs.Int.{w32, from_be_bytes}
@@ -80,3 +80,27 @@ abbrev mutual
   pub diag_all : List ℕ → Outlines → List ℕ
   diag_all prefix no_outlines = []
   diag_all prefix (outline o os) = diag prefix o ++ diag_all prefix os
+
+-- the closing bracket of an empty structure, if it stays open until the structure around it ends
+abbrev pub late : Outline → List ℕ
+late (leaf_outline tag typ value) = []
+late (node_outline tag no_outlines) = codes "]"
+late (node_outline tag (outline o os)) = []
+
+-- the diagnostic of an outline in a structure, if empty structures stay open as long as the one around them
+abbrev mutual
+  pub open_diag : List ℕ → Outline → List ℕ
+  open_diag prefix (leaf_outline tag typ value) = mark prefix tag typ value
+  open_diag prefix (node_outline tag no_outlines) = mark prefix tag Structure None
+  open_diag prefix (node_outline tag (outline o os)) =
+      mark prefix tag Structure None ++ (open_all prefix (outline o os) ++ codes "]")
+
+  pub open_all : List ℕ → Outlines → List ℕ
+  open_all prefix no_outlines = []
+  open_all prefix (outline o os) = open_diag prefix o ++ (open_all prefix os ++ late o)
+
+-- the diagnostic of a message with this outline; if empty structures stay open, a message without items ends with `ERR`
+abbrev pub shown : List ℕ → Bool → Outline → List ℕ
+shown prefix true o = diag prefix o
+shown prefix false (node_outline tag no_outlines) = mark prefix tag Structure None ++ codes "ERR"
+shown prefix false o = open_diag prefix o

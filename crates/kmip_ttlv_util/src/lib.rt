@@ -7,6 +7,7 @@
 #![tactic(auto)]
 
 mod buffer;
+mod checked;
 mod diagnostic;
 mod digits;
 mod indentation;
@@ -21,6 +22,7 @@ mod sink;
 mod undiag;
 mod walk;
 
+pub use checked::CheckedError;
 pub use indentation::{Indentation, push_beginning};
 pub use lines::{LentTagMap, TagMap, push_data_part, push_tag, push_tag_part};
 pub use named::{push_diag, push_read_back, read_back_counted, read_back_named, text_named};

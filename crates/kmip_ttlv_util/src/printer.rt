@@ -1,9 +1,10 @@
 //! The printer: its tag prefix, tag names and setting, and its calls.
 
-ghost use Rattle.std.specs.Prelude.{◌≡◌, ℕ, ◌+◌, ◌/◌, ◌≤◌, ◌<◌, Bool, false, List, [], length, IfOk, string_bytes};
+ghost use Rattle.std.specs.Prelude.{◌≡◌, ℕ, ◌+◌, ◌/◌, ◌≤◌, ◌<◌, Bool, false, List, [], length, IfOk, IfErr, string_bytes};
 ghost use Rattle.std.specs.Borrow.{sem};
 ghost use Rattle.kmip_ttlv_util.specs.Traces.{trace};
 ghost use Rattle.kmip_ttlv_util.specs.Diagnostics.{hostile};
+ghost use Rattle.kmip_ttlv_util.specs.CheckedDiagnostics.{ShowsMessage, ShowsNothing};
 ghost use Rattle.kmip_ttlv_util.specs.PrintResults.{IsExact};
 ghost use Rattle.kmip_ttlv_util.specs.Pieces.{WritesText, IsReadable, IsDiagnostic};
 ghost use Rattle.kmip_ttlv_util.specs.Pretty.{IsPrinted, IsPretty};
@@ -12,10 +13,12 @@ ghost use Rattle.kmip_ttlv_util.specs.TagNames.{name_in, no_names};
 ghost use Rattle.kmip_ttlv_util.specs.Undiag.{undiag};
 ghost use Rattle.kmip_ttlv_util.specs.ReadBack.{ReadsLongest, IsReadBack};
 
+use crate::checked::CheckedError;
 use crate::diagnostic::{diagnose, write_diagnostic};
 use crate::lines::TagMap;
 use crate::pretty::{print, write_printed};
 use crate::undiag::read_back;
+use kmip_ttlv_items::find_fault;
 use std::alloc::{AllocError, Allocator, Global};
 use std::collections::HashMap;
 use std::io;
@@ -207,8 +210,9 @@ impl<A: Allocator + Copy> PrettyPrinter<A> {
     /// Returns the diagnostic of any bytes: the tag and type of each item, the values of enumerations, and
     /// where structures open and close. It shows no other value.
     ///
-    /// If the bytes are no well-formed message, the text depends on their number and their trace alone, and
-    /// ends with `ERR` at an item that can't be read.
+    /// The text depends on the number of bytes and on their trace alone. It ends with `ERR` at an item that can't be
+    /// read, also where a message is well-formed: `420078[ERR` is that of a message without items, whose structure stays
+    /// open. Of a message with more bytes behind it it is the message's. [`PrettyPrinter::to_diag_checked`] tells them apart.
     ///
     /// ```
     /// let bytes = hex::decode(alloc, "42006A02000000040000000100000000")?;
@@ -223,6 +227,31 @@ impl<A: Allocator + Copy> PrettyPrinter<A> {
     {
         let (text, _) = self.to_diag_counted(bytes)?;
         Ok(text)
+    }
+
+    /// Returns the diagnostic of bytes that are exactly one whole well-formed message, or the first fault.
+    ///
+    /// The text is that of [`PrettyPrinter::to_diag_string`], which prints any bytes: of malformed ones up to the
+    /// first item that it can't read, and of several messages the first one's. This call prints nothing of such bytes.
+    ///
+    /// Errors: `Malformed`, with the fault that [`kmip_ttlv_items::find_fault`] finds; `OutOfMemory`.
+    ///
+    /// ```
+    /// let version = hex::decode(alloc, "420069010000001042005C05000000040000001400000000")?;
+    /// assert!(rt; printer.to_diag_checked(&version)?.as_str() == "420069[42005Ce14:]");
+    /// let cut = Fault { offset: 8, kind: FaultKind::Cut };
+    /// assert!(rt; printer.to_diag_checked(&version[..16]) == Err(CheckedError::Malformed(cut)));
+    /// ```
+    #[tactic(auto, using(crate::proofs::OpenOutlines::shown_message))]
+    pub fn to_diag_checked(&self, bytes: &[u8]) -> Result<String<A>, CheckedError>
+        ensures ok { IfOk result (λ r. ShowsMessage (prefix_of self.now) (closes_empty self.now)
+            bytes.now (string_bytes r)) }
+        ensures err { IfErr result (λ e. ShowsNothing bytes.now e) }
+    {
+        if let Some(fault) = find_fault(*self.prefix.allocator(), bytes)? {
+            return Err(CheckedError::Malformed(fault));
+        }
+        Ok(self.to_diag_string(bytes)?)
     }
 
     /// Writes the text of [`PrettyPrinter::to_diag_string`] to a writer, in pieces: the whole text is never in
