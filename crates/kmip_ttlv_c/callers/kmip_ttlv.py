@@ -1,6 +1,9 @@
 """TTLV, the encoding of OASIS KMIP: prints, redacts, lists, checks, decodes and encodes messages.
 
 Copy this file beside libkmip_ttlv.so, or set KMIP_TTLV_LIBRARY to the path of the library.
+
+Bytes are passed as `bytes`, `bytearray`, `memoryview`, or anything else with a buffer; what isn't `bytes` is copied first. Each call
+can raise MemoryError, and TypeError for an argument of another type.
 """
 import ctypes
 import os
@@ -34,8 +37,69 @@ FAULTS = (
 
 # offset: of the header, in bytes from the first; depth: the structures around; length: of the value, in bytes
 Item = namedtuple("Item", "offset depth tag typ length")
-# tag: its number; typ: its code; value: a list of nodes for a Structure, or the value as Python has it (see decode)
-Node = namedtuple("Node", "tag typ value")
+
+
+class Node(namedtuple("Node", "tag typ value")):
+    """tag: its number; typ: its code; value: a list of nodes for a Structure, or the value as Python has it (see decode).
+
+    Comparing and printing take no stack, however deep a node is. `repr` shows each value.
+    """
+
+    __slots__ = ()
+    __hash__ = tuple.__hash__
+
+    def __eq__(self, other):
+        if not isinstance(other, tuple):
+            return NotImplemented
+        waiting, compared = [(self, other)], set()
+        while waiting:
+            one, two = waiting.pop()
+            if isinstance(one, tuple) and isinstance(two, tuple) or isinstance(one, list) and isinstance(two, list):
+                if len(one) != len(two):
+                    return False
+                # a node that contains itself is met again
+                if one is not two and (id(one), id(two)) not in compared:
+                    compared.add((id(one), id(two)))
+                    waiting += zip(one, two)
+            elif one is not two and one != two:
+                return False
+        return True
+
+    def __ne__(self, other):
+        same = self.__eq__(other)
+        return same if same is NotImplemented else not same
+
+    def __repr__(self):
+        parts, waiting, around = [], [self], set()
+        while waiting:
+            it = waiting.pop()
+            if isinstance(it, _Part):
+                parts.append(it)
+                around.discard(it.of)
+            elif isinstance(it, Node) and isinstance(it.value, list) and id(it.value) not in around:
+                parts.append(f"Node(tag={it.tag!r}, typ={it.typ!r}, value=[")
+                around.add(id(it.value))
+                waiting.append(_Part("])", id(it.value)))
+                for index in range(len(it.value) - 1, -1, -1):
+                    waiting.append(it.value[index])
+                    waiting += [_Part(", ")] if index else []
+            elif isinstance(it, Node):
+                value = "[...]" if id(it.value) in around else repr(it.value)
+                parts.append(f"Node(tag={it.tag!r}, typ={it.typ!r}, value={value})")
+            else:
+                parts.append(repr(it))
+        return "".join(parts)
+
+
+class _Part(str):
+    """A part of what a node prints as, and the list that ends with it."""
+
+    def __new__(cls, text, of=None):
+        part = super().__new__(cls, text)
+        part.of = of
+        return part
+
+
 # offset: of the bad item, in bytes from the first; kind: an index into FAULTS
 Fault = namedtuple("Fault", "offset kind")
 
@@ -52,7 +116,7 @@ class BadItem(ValueError):
     """An item can't be written: `index` is its index in document order, from 0, `why` what is wrong with it."""
 
     def __init__(self, index, why, tag=None):
-        super().__init__(f"item {index}{'' if tag is None else f' (tag {tag!r})'}: {why}")
+        super().__init__(f"item {index}{'' if tag is None else f' (tag 0x{tag:06X})'}: {why}")
         self.index, self.why = index, why
 
 
@@ -89,13 +153,43 @@ def _call(name, *kinds):
 
 
 _to_diag = _call("to_diag", _lent, _lent, ctypes.c_bool, _lent, _sizes, _sizes)
-_to_text = _call("to_text", _lent, _lent, ctypes.c_bool, _lent, _sizes, _sizes)
-_to_standard_text = _call("to_standard_text", _lent, ctypes.c_bool, _lent, _sizes)
-_from_diag = _call("from_diag", _lent, _lent, _lent, _lent, _sizes, _sizes)
+_to_text = _call("to_text", _lent, _lent, ctypes.c_bool, _size, _lent, _sizes, _sizes)
+_to_standard_text = _call("to_standard_text", _lent, ctypes.c_bool, _size, _lent, _sizes)
+_from_diag = _call("from_diag", _lent, _lent, _lent, _size, _lent, _sizes, _sizes)
 _items = _call("items", _lent, ctypes.POINTER(_Item), _size, _sizes, ctypes.POINTER(_Fault))
 _check = _call("check", _lent, ctypes.POINTER(_Fault))
 _write = _call("write", ctypes.POINTER(_Item), _size, _lent, _lent, _sizes, ctypes.POINTER(_BadItem))
 _version = _call("version", _lent, _sizes)
+
+# One more than the largest number of a C type.
+_SIZES, _NUMBERS = 1 << 8 * ctypes.sizeof(_size), 1 << 32
+
+
+def _bytes(message):
+    """Returns the bytes of an object by its buffer: what a subclass says of its length could be false."""
+    return message if type(message) is bytes else memoryview(message).tobytes()
+
+
+def _utf8(text):
+    """Returns a text in UTF-8. Raises UnicodeEncodeError for a surrogate."""
+    if not isinstance(text, str):
+        raise TypeError("a text is no str")
+    return str.encode(text, "utf-8")
+
+
+def _int(number, what):
+    """Returns an int as it is, whatever a subclass says; a bool, a float and what else is none raise TypeError."""
+    if not isinstance(number, int) or isinstance(number, bool):
+        raise TypeError(f"{what} is no int")
+    return int.__index__(number)
+
+
+def _limit(limit, usual):
+    """Returns how much memory a text may take: what was asked for, or what is usual."""
+    limit = usual if limit is None else _int(limit, "the limit")
+    if limit < 0:
+        raise ValueError("the limit is negative")
+    return min(limit, _SIZES - 1)
 
 
 def _text(call, room, *further):
@@ -105,50 +199,70 @@ def _text(call, room, *further):
         out = ctypes.create_string_buffer(room + 1)
         status = call(out, room, ctypes.byref(length), *(ctypes.byref(it) for it in further))
         if status == OK:
-            return out.raw[: length.value].decode("utf-8")
+            return ctypes.string_at(out, length.value).decode("utf-8")
         if status != NO_ROOM:
-            _refuse(status, further)
+            raise _refusal(status, further)
         room = length.value
 
 
-def _refuse(status, further=()):
+def _refusal(status, further=()):
+    """Returns the exception that a status means."""
     if status == OUT_OF_MEMORY:
-        raise MemoryError
+        return MemoryError("out of memory, or the text takes more than its limit")
     if status == NOT_UTF8:
-        raise UnicodeError("a text is not UTF-8")
-    raise BadNames(further[0].value)
+        return UnicodeError("a text is not UTF-8")
+    return BadNames(further[0].value)
 
 
-def to_diag(message, prefix="", closed=False):
+def to_diag(message, prefix="", closed=True):
     """Returns the redacted diagnostic of any bytes: tags without a prefix, types, nesting, enumeration values.
 
-    For malformed bytes it ends with ERR, and may show key bytes where a tag is expected: call check first.
+    Call check first: of bytes that aren't one whole message it shows the items up to where they can't be read, which may have key
+    bytes where a tag is expected, and of two messages the first. It ends with ERR if an item can't be read.
+
+    With closed=False, as the Rust crate kmip-ttlv has it, an empty structure stays open until the structure around it ends: what follows
+    is shown as if it were in it, and a message that is an empty structure ends with ERR although it is whole.
     """
-    prefix, count = prefix.encode(), _size()
-    return _text(lambda *out: _to_diag(message, len(message), prefix, len(prefix), closed, *out), len(message) + 64, count)
+    message, prefix, count = _bytes(message), _utf8(prefix), _size()
+    return _text(lambda *out: _to_diag(message, len(message), prefix, len(prefix), not closed, *out), len(message) + 64, count)
 
 
-def to_text(message, names=None, closed=False):
+def to_text(message, names=None, closed=True, limit=None):
     """Returns any bytes as readable text with every value, and KMIP's tag names or those of a table of lines `TAG NAME`.
 
-    For malformed bytes it ends with a line `ERROR: ..`. Texts keep their control characters.
+    It ends with a line `ERROR: ..` if an item can't be read, or goes past the end of its structure. Texts keep their control
+    characters. Of two messages it shows the first.
+
+    `limit` is how many bytes of memory the library may hold to make it; if it needs more, MemoryError is raised. While a text grows it
+    takes up to three times its length. By default the limit is 64 for each byte of the message, 16 for each of the table, and a mebibyte:
+    each line is indented by its depth, so the text of n structures, each in the one before, has n * n bytes.
+
+    With closed=False an empty structure stays open as in to_diag, so the text of n empty ones side by side has n * n bytes too.
     """
-    room = 16 * len(message) + 256
+    message = _bytes(message)
+    room = 4 * len(message) + 256
     if names is None:
-        return _text(lambda *out: _to_standard_text(message, len(message), closed, *out), room)
-    names, line = names.encode(), _size()
-    return _text(lambda *out: _to_text(message, len(message), names, len(names), closed, *out), room, line)
+        limit = _limit(limit, 64 * len(message) + (1 << 20))
+        return _text(lambda *out: _to_standard_text(message, len(message), not closed, limit, *out), room)
+    names, line = _utf8(names), _size()
+    limit = _limit(limit, 64 * len(message) + 16 * len(names) + (1 << 20))
+    return _text(lambda *out: _to_text(message, len(message), names, len(names), not closed, limit, *out), room, line)
 
 
-def from_diag(diagnostic, prefix="", names=""):
-    """Reads a diagnostic back as lines, up to where it stops being one, with `<redacted>` in place of values that it doesn't show."""
-    diagnostic, prefix, names, line = diagnostic.encode(), prefix.encode(), names.encode(), _size()
-    lent = (diagnostic, len(diagnostic), prefix, len(prefix), names, len(names))
-    return _text(lambda *out: _from_diag(*lent, *out), 32 * len(diagnostic) + 256, line)
+def from_diag(diagnostic, prefix="", names="", limit=None):
+    """Reads a diagnostic back as lines, up to where it stops being one, with `<redacted>` in place of values that it doesn't show.
+
+    `limit` is as in to_text; by default it is 512 bytes for each of the diagnostic, 16 for each of the table, and a mebibyte.
+    """
+    diagnostic, prefix, names, line = _utf8(diagnostic), _utf8(prefix), _utf8(names), _size()
+    limit = _limit(limit, 512 * len(diagnostic) + 16 * len(names) + (1 << 20))
+    lent = (diagnostic, len(diagnostic), prefix, len(prefix), names, len(names), limit)
+    return _text(lambda *out: _from_diag(*lent, *out), 8 * len(diagnostic) + 256, line)
 
 
 def items(message):
     """Returns the items of a message in document order. Raises Malformed if the bytes are not one whole message."""
+    message = _bytes(message)
     room = len(message) // 8 + 1
     out, count, fault = (_Item * room)(), _size(), _Fault()
     status = _items(message, len(message), out, room, ctypes.byref(count), ctypes.byref(fault))
@@ -156,7 +270,7 @@ def items(message):
     if status == MALFORMED:
         raise Malformed(Fault(fault.offset, fault.kind), found)
     if status != OK:
-        _refuse(status)
+        raise _refusal(status)
     return found
 
 
@@ -196,10 +310,11 @@ def decode(message):
     bytes, and a datetime in UTC for Date-Time, or its seconds since 1970 if a datetime can't hold them. Nesting takes
     no stack.
     """
-    opened = []
+    message, opened = _bytes(message), []
     for it in items(message):
-        content = message[it.offset + 8 : it.offset + 8 + it.length]
-        node = Node(it.tag, it.typ, _VALUES[it.typ](content) if it.typ in _VALUES else [])
+        # the content of a Structure is its nodes: a copy of it at each depth would cost the square of the depth
+        content = b"" if it.typ == 1 else message[it.offset + 8 : it.offset + 8 + it.length]
+        node = Node(it.tag, it.typ, [] if it.typ == 1 else _VALUES[it.typ](content))
         del opened[it.depth :]
         if opened:
             opened[-1].value.append(node)
@@ -210,34 +325,55 @@ def decode(message):
     return root
 
 
+_FIELDS = tuple(zip(Item._fields, (_SIZES, _SIZES, _NUMBERS, _NUMBERS, _NUMBERS)))
+
+
+def _listed(item):
+    """Returns the five numbers of an item. Raises TypeError or ValueError if it has others."""
+    numbers = tuple(item) if isinstance(item, (tuple, list)) else ()
+    if len(numbers) != len(_FIELDS):
+        raise TypeError("it is no Item, which has five numbers")
+    numbers = tuple(_int(number, f"its {name}") for number, (name, _) in zip(numbers, _FIELDS))
+    for number, (name, limit) in zip(numbers, _FIELDS):
+        if not 0 <= number < limit:
+            raise ValueError(f"its {name} is negative or too large")
+    return numbers
+
+
 def write(found, lent):
     """Returns the canonical bytes of a flat list of items, as `items` returns it, whose values are in `lent`: write(items(m), m).
 
-    An item belongs to the last Structure before it of one depth less; `offset` and `length` of a Structure are ignored.
-    Raises BadItem for the first item that can't be written.
+    An item belongs to the last Structure before it of one depth less; `offset` and `length` of a Structure are ignored. They are one
+    whole message if one item has depth 0, and it is a Structure. Raises BadItem for the first item that can't be written; an item that
+    is no tuple of five numbers comes first.
     """
-    found, limits = list(found), (1 << 64, 1 << 64, 1 << 32, 1 << 32, 1 << 32)
-    for index, it in enumerate(found):
-        if not all(0 <= number < limit for number, limit in zip(it, limits)):
-            raise BadItem(index, "a number of it is negative or too large")
-    listed, length, bad = (_Item * (len(found) + 1))(*map(tuple, found)), _size(), _BadItem()
-    room = len(lent) + 16 * len(found)
+    lent, numbers = _bytes(lent), []
+    for item in found:
+        try:
+            numbers.append(_listed(item))
+        except (TypeError, ValueError) as why:
+            raise BadItem(len(numbers), str(why)) from why
+    listed, length, bad = (_Item * (len(numbers) + 1))(*numbers), _size(), _BadItem()
+    room = len(lent) + 16 * len(numbers)
     while True:
         out = ctypes.create_string_buffer(room + 1)
-        status = _write(listed, len(found), lent, len(lent), out, room, ctypes.byref(length), ctypes.byref(bad))
+        status = _write(listed, len(numbers), lent, len(lent), out, room, ctypes.byref(length), ctypes.byref(bad))
         if status == OK:
-            return out.raw[: length.value]
+            return ctypes.string_at(out, length.value)
         if status == MALFORMED:
             raise BadItem(bad.index, FAULTS[bad.kind])
         room = length.value
 
 
-def _signed(size):
-    return lambda value: value.to_bytes(size, "big", signed=True)
+def _whole(size, signed):
+    return lambda value: _int(value, "its value").to_bytes(size, "big", signed=signed)
 
 
 def _big(value):
-    return value.to_bytes(8 * (value.bit_length() // 64 + 1), "big", signed=True)
+    value = _int(value, "its value")
+    # the bits of a negative number's two's complement are those of its complement
+    bits = (value if value >= 0 else ~value).bit_length() + 1
+    return value.to_bytes(8 * -(-bits // 64), "big", signed=True)
 
 
 def _boolean(value):
@@ -246,59 +382,111 @@ def _boolean(value):
     return value.to_bytes(8, "big")
 
 
+def _encoded(value):
+    if not isinstance(value, str):
+        raise TypeError("its value is no str")
+    try:
+        return str.encode(value, "utf-8")
+    except UnicodeEncodeError:
+        raise ValueError("its value has a surrogate, which is no character") from None
+
+
+def _content(value):
+    try:
+        return _bytes(value)
+    except TypeError:
+        raise TypeError("its value is no bytes") from None
+
+
 def _seconds(value):
     if isinstance(value, datetime):
+        if value.utcoffset() is None:
+            raise ValueError("its value has no time zone")
         value, rest = divmod(value - datetime(1970, 1, 1, tzinfo=timezone.utc), timedelta(seconds=1))
         if rest:
             raise ValueError("its value has a fraction of a second")
-    return value.to_bytes(8, "big", signed=True)
+    return _int(value, "its value").to_bytes(8, "big", signed=True)
 
 
 # How a value becomes the content of a leaf, by the code of its type.
 _CONTENTS = {
-    2: _signed(4),
-    3: _signed(8),
+    2: _whole(4, True),
+    3: _whole(8, True),
     4: _big,
-    5: lambda value: value.to_bytes(4, "big"),
+    5: _whole(4, False),
     6: _boolean,
-    7: lambda value: value.encode("utf-8"),
-    8: lambda value: bytes(memoryview(value)),
+    7: _encoded,
+    8: _content,
     9: _seconds,
-    10: lambda value: value.to_bytes(4, "big"),
+    10: _whole(4, False),
 }
 
 
-def encode(root):
-    """Returns the message of nested nodes, as `decode` returns them: encode(decode(m)) == m for each message m in canonical form,
-    which pads with zeros and has Big Integers of the fewest bytes that are a multiple of eight.
+def _parts(node):
+    """Returns the tag, the type and the value of a node: its content, or the nodes in it. Raises what is wrong with it."""
+    parts = tuple(node) if isinstance(node, (tuple, list)) else ()
+    if len(parts) != 3:
+        raise TypeError("it is no Node, which has a tag, a typ and a value")
+    tag, typ, value = parts
+    tag, typ = _int(tag, "its tag"), _int(typ, "its typ")
+    if not 0 <= tag < 1 << 24:
+        raise ValueError(FAULTS[10])
+    if typ == 1 and (isinstance(value, Node) or not isinstance(value, (list, tuple))):
+        raise TypeError("its value is no list")
+    if typ == 1:
+        return tag, typ, value
+    if typ not in _CONTENTS:
+        raise ValueError(FAULTS[3])
+    content = _CONTENTS[typ](value)
+    if len(content) >= _NUMBERS:
+        raise ValueError(FAULTS[12])
+    return tag, typ, content
 
-    Raises BadItem for the first node, in document order, whose tag, type or value can't be encoded. Nesting takes no stack.
+
+def encode(root):
+    """Returns the message of nested nodes, as `decode` returns them, in canonical form: padding is zeros, and a Big Integer has the
+    fewest bytes, a multiple of eight, that hold it (9.1.1.4). So encode(decode(m)) == m for each message m in canonical form, and for
+    any message m it is the canonical message with the same values. (`write` keeps each Big Integer's bytes.)
+
+    A node whose typ is not 1 is encoded too, as an item that is no message. Raises BadItem for the first node, in document order, that
+    is no tuple of three, whose tag, type or value can't be encoded, or that contains itself. Nesting takes no stack.
     """
     found, lent, waiting = [], bytearray(8), [(0, root)]
+    around, opened = [], set()
     while waiting:
         depth, node = waiting.pop()
+        opened.difference_update(map(id, around[depth:]))
+        del around[depth:]
         try:
-            tag, typ, value = node
-            if not 0 <= tag < 1 << 24:
-                raise ValueError(FAULTS[10])
-            if typ != 1 and typ not in _CONTENTS:
-                raise ValueError(FAULTS[3])
-            if typ == 1:
-                waiting += [(depth + 1, below) for below in reversed(value)]
-            content = b"" if typ == 1 else _CONTENTS[typ](value)
-        except (AttributeError, OverflowError, TypeError, ValueError) as why:
-            raise BadItem(len(found), why, node[0] if isinstance(node, tuple) and node else None) from why
-        found.append(Item(len(lent) - 8, depth, tag, typ, len(content)))
-        lent += content
-    return write(found, bytes(lent))
+            tag, typ, value = _parts(node)
+            if typ == 1 and id(value) in opened:
+                raise ValueError("it contains itself")
+        except MemoryError:
+            raise
+        except Exception as why:  # an object of the caller's can raise anything
+            raise BadItem(len(found), str(why), _tag_of(node)) from why
+        if typ == 1:
+            around.append(value)
+            opened.add(id(value))
+            waiting += [(depth + 1, below) for below in reversed(value)]
+            value = b""
+        found.append(Item(len(lent) - 8, depth, tag, typ, len(value)))
+        lent += value
+    return write(found, lent)
+
+
+def _tag_of(node):
+    """Returns a node's tag for an error, or None if it has none."""
+    tag = next(tuple.__iter__(node), None) if isinstance(node, tuple) else None
+    return tag if type(tag) is int and 0 <= tag < 1 << 24 else None
 
 
 def check(message):
     """Returns the first fault, or None if the bytes are one whole message."""
-    fault = _Fault()
+    message, fault = _bytes(message), _Fault()
     status = _check(message, len(message), ctypes.byref(fault))
     if status not in (OK, MALFORMED):
-        _refuse(status)
+        raise _refusal(status)
     return Fault(fault.offset, fault.kind) if status == MALFORMED else None
 
 

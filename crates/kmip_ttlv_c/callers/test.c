@@ -1,17 +1,32 @@
-/* Tests of the library from C: worked messages, buffers that are one byte too small, failing allocations, hostile bytes. */
+/* Tests of the library from C: worked messages, buffers that are one byte too small, failing allocations, large and hostile
+ * bytes. They run over an allocator of their own; or, with LIBRARY_MEMORY, over the library's, and then what counts and fails
+ * are malloc, realloc and free below it (linked with -Wl,--wrap=malloc,--wrap=realloc,--wrap=free). */
 #include "kmip_ttlv.h"
 
 #include <stdio.h>
 #include <stdlib.h>
 #include <string.h>
 
-/* The test's own allocator: the call of this number fails, unless it is negative. */
-static long left = -1;
-
 void *kmip_ttlv_malloc(size_t size);
 void *kmip_ttlv_realloc(void *block, size_t size);
 void kmip_ttlv_free(void *block);
 
+#ifdef LIBRARY_MEMORY
+void *__real_malloc(size_t size);
+void *__real_realloc(void *block, size_t size);
+void __real_free(void *block);
+void *__wrap_malloc(size_t size);
+void *__wrap_realloc(void *block, size_t size);
+void __wrap_free(void *block);
+#define OWN(call) __wrap_##call
+#define BELOW(call) __real_##call
+#else
+#define OWN(call) kmip_ttlv_##call
+#define BELOW(call) call
+#endif
+
+/* The allocator's call of this number fails, unless it is negative; and how many blocks are in use. */
+static long left = -1;
 static long blocks = 0;
 
 static bool is_refused(void) {
@@ -25,21 +40,25 @@ static bool is_refused(void) {
     return false;
 }
 
-void *kmip_ttlv_malloc(size_t size) {
+void *OWN(malloc)(size_t size) {
     if (is_refused()) {
         return NULL;
     }
     blocks++;
-    return malloc(size);
+    return BELOW(malloc)(size);
 }
 
-void *kmip_ttlv_realloc(void *block, size_t size) {
-    return is_refused() ? NULL : realloc(block, size);
+void *OWN(realloc)(void *block, size_t size) {
+    if (is_refused()) {
+        return NULL;
+    }
+    blocks += block == NULL;
+    return BELOW(realloc)(block, size);
 }
 
-void kmip_ttlv_free(void *block) {
-    blocks--;
-    free(block);
+void OWN(free)(void *block) {
+    blocks -= block != NULL;
+    BELOW(free)(block);
 }
 
 static int failed = 0;
@@ -55,9 +74,12 @@ static void hold(bool holds, const char *what, int line) {
 
 /* The protocol version 1.0, in a structure of two integers. */
 static const uint8_t VERSION[40] = {
-    0x42, 0x00, 0x69, 0x01, 0, 0, 0, 0x20, 0x42, 0x00, 0x6A, 0x02, 0, 0, 0, 4, 0, 0, 0, 1, 0, 0, 0, 0,
-    0x42, 0x00, 0x6B, 0x02, 0,    0, 0, 4, 0,    0,    0,    0,    0, 0, 0, 0,
+    0x42, 0x00, 0x69, 0x01, 0,    0,    0,    0x20, 0x42, 0x00, 0x6A, 0x02, 0, 0, 0, 4, 0, 0, 0, 1,
+    0,    0,    0,    0,    0x42, 0x00, 0x6B, 0x02, 0,    0,    0,    4,    0, 0, 0, 0, 0, 0, 0, 0,
 };
+
+/* No limit on memory. */
+static const size_t ANY = SIZE_MAX;
 
 static const uint8_t PREFIX[] = "4200";
 static const uint8_t NAMES[] = "# two tags\n420069 Protocol Version\n\n42006A Major\n";
@@ -76,30 +98,35 @@ static const char LINES[] = "Tag: Protocol Version (0x420069), Type: Structure (
 enum { TO_DIAG, TO_TEXT, TO_STANDARD_TEXT, FROM_DIAG, GET_VERSION, CALLS };
 static const char *const TEXTS[CALLS] = {DIAGNOSTIC, TEXT, STANDARD_TEXT, LINES, KMIP_TTLV_VERSION};
 
-/* The status of a call whose table of names has no bad line: `*bad_line` has to be 0. */
-static kmip_ttlv_status without_bad_line(kmip_ttlv_status status, size_t bad_line) {
-    HOLD(bad_line == 0);
+/* The status of a call that also sets `*other`: the table of names has no bad line, a diagnostic has three items. */
+static kmip_ttlv_status with(kmip_ttlv_status status, size_t other, size_t wanted) {
+    HOLD(other == (status == KMIP_TTLV_OK || status == KMIP_TTLV_NO_ROOM ? wanted : 0));
     return status;
 }
 
-static kmip_ttlv_status call(int which, uint8_t *out, size_t room, size_t *length) {
+static kmip_ttlv_status call_within(int which, size_t limit, uint8_t *out, size_t room, size_t *length) {
     size_t other = 99;
     kmip_ttlv_status status;
     switch (which) {
     case TO_DIAG:
-        return kmip_ttlv_to_diag(VERSION, sizeof VERSION, PREFIX, 4, false, out, room, length, &other);
+        status = kmip_ttlv_to_diag(VERSION, sizeof VERSION, PREFIX, 4, false, out, room, length, &other);
+        return with(status, other, 3);
     case TO_TEXT:
-        status = kmip_ttlv_to_text(VERSION, sizeof VERSION, NAMES, sizeof NAMES - 1, false, out, room, length, &other);
-        return without_bad_line(status, other);
+        status = kmip_ttlv_to_text(VERSION, sizeof VERSION, NAMES, sizeof NAMES - 1, false, limit, out, room, length, &other);
+        return with(status, other, 0);
     case TO_STANDARD_TEXT:
-        return kmip_ttlv_to_standard_text(VERSION, sizeof VERSION, false, out, room, length);
+        return kmip_ttlv_to_standard_text(VERSION, sizeof VERSION, false, limit, out, room, length);
     case FROM_DIAG:
         status = kmip_ttlv_from_diag((const uint8_t *)DIAGNOSTIC, sizeof DIAGNOSTIC - 1, PREFIX, 4, NAMES, sizeof NAMES - 1,
-                                     out, room, length, &other);
-        return without_bad_line(status, other);
+                                     limit, out, room, length, &other);
+        return with(status, other, 0);
     default:
         return kmip_ttlv_version(out, room, length);
     }
+}
+
+static kmip_ttlv_status call(int which, uint8_t *out, size_t room, size_t *length) {
+    return call_within(which, ANY, out, room, length);
 }
 
 /* Each text in a buffer of its exact size, and none of it in one that is a byte too small. */
@@ -117,8 +144,59 @@ static void texts(void) {
     }
     size_t length, items = 99;
     uint8_t none[1];
-    HOLD(kmip_ttlv_to_diag(none, 0, none, 0, true, none, 0, &length, &items) == KMIP_TTLV_NO_ROOM);
+    HOLD(kmip_ttlv_to_diag(none, 0, none, 0, false, none, 0, &length, &items) == KMIP_TTLV_NO_ROOM);
     HOLD(length == 3 && items == 1);
+}
+
+static bool is_text(const uint8_t *out, size_t length, const char *text) {
+    return length == strlen(text) && memcmp(out, text, length) == 0;
+}
+
+/* Texts of no bytes, a prefix of seven digits, and two empty structures in a third, closed at once or left open. */
+static void rare_texts(void) {
+    static const uint8_t empty[24] = {0x42, 0, 0x78, 1, 0,    0, 0,    16, 0x42, 0, 0x79, 1,
+                                      0,    0, 0,    0, 0x42, 0, 0x69, 1,  0,    0, 0,    0};
+    static const char error[] = "ERROR: cannot read the item at byte 0";
+    static const char shut[] = "Tag: 0x420078, Type: Structure (0x01), Data:\n  Tag: 0x420079, Type: Structure (0x01), Data:\n"
+                               "  Tag: 0x420069, Type: Structure (0x01), Data:\n";
+    static const char left_open[] =
+        "Tag: 0x420078, Type: Structure (0x01), Data:\n  Tag: 0x420079, Type: Structure (0x01), Data:\n"
+        "WARNING: TTLV structure length is zero\n    Tag: 0x420069, Type: Structure (0x01), Data:\n"
+        "WARNING: TTLV structure length is zero\n";
+    uint8_t none[1] = {0}, out[512];
+    size_t length = 99, other = 99;
+    HOLD(kmip_ttlv_to_text(none, 0, none, 0, false, ANY, out, 512, &length, &other) == KMIP_TTLV_OK &&
+         is_text(out, length, error));
+    HOLD(kmip_ttlv_to_standard_text(none, 0, false, ANY, out, 512, &length) == KMIP_TTLV_OK && is_text(out, length, error));
+    HOLD(kmip_ttlv_from_diag(none, 0, none, 0, none, 0, ANY, out, 512, &length, &other) == KMIP_TTLV_OK && length == 0);
+    HOLD(kmip_ttlv_to_diag(VERSION, 40, (const uint8_t *)"4200690", 7, false, out, 512, &length, &other) == KMIP_TTLV_OK);
+    HOLD(is_text(out, length, "420069[42006Ai42006Bi]") && other == 3);
+    HOLD(kmip_ttlv_to_diag(empty, 24, PREFIX, 4, false, out, 512, &length, &other) == KMIP_TTLV_OK);
+    HOLD(is_text(out, length, "78[79[]69[]]") && other == 3);
+    HOLD(kmip_ttlv_to_diag(empty, 24, PREFIX, 4, true, out, 512, &length, &other) == KMIP_TTLV_OK);
+    HOLD(is_text(out, length, "78[79[69[]]]") && other == 3);
+    HOLD(kmip_ttlv_to_diag(empty + 16, 8, PREFIX, 4, false, out, 512, &length, &other) == KMIP_TTLV_OK &&
+         is_text(out, length, "69[]"));
+    HOLD(kmip_ttlv_to_diag(empty + 16, 8, PREFIX, 4, true, out, 512, &length, &other) == KMIP_TTLV_OK);
+    HOLD(is_text(out, length, "69[ERR") && other == 2);
+    HOLD(kmip_ttlv_to_text(empty, 24, none, 0, false, ANY, out, 512, &length, &other) == KMIP_TTLV_OK &&
+         is_text(out, length, shut));
+    HOLD(kmip_ttlv_to_text(empty, 24, none, 0, true, ANY, out, 512, &length, &other) == KMIP_TTLV_OK &&
+         is_text(out, length, left_open));
+    size_t standard = 0;
+    HOLD(kmip_ttlv_to_standard_text(empty, 24, true, ANY, out, 0, &length) == KMIP_TTLV_NO_ROOM);
+    HOLD(kmip_ttlv_to_standard_text(empty, 24, false, ANY, out, 0, &standard) == KMIP_TTLV_NO_ROOM);
+    HOLD(length == standard + 2 + 2 * strlen("WARNING: TTLV structure length is zero\n"));
+}
+
+/* With a limit the calls hold no more memory, and fail if they need more. */
+static void limits(void) {
+    uint8_t out[512];
+    for (int which = TO_TEXT; which <= FROM_DIAG; which++) {
+        size_t length = 99;
+        HOLD(call_within(which, 0, out, sizeof out, &length) == KMIP_TTLV_OUT_OF_MEMORY && length == 0);
+        HOLD(call_within(which, 65536, out, sizeof out, &length) == KMIP_TTLV_OK && is_text(out, length, TEXTS[which]));
+    }
 }
 
 /* A request header with a version in it: a structure in a structure, whose walk keeps the end of the outer one. */
@@ -156,18 +234,113 @@ static void memory(void) {
     HOLD(kmip_ttlv_items(NESTED, sizeof NESTED, items, 3, &count, &fault) == KMIP_TTLV_OK && count == 3);
 }
 
+/* Blocks are as large as asked for, and keep what is in them when they move: a sanitizer sees one that is shorter. */
+static void blocks_of_memory(void) {
+    for (size_t size = 1; size <= (size_t)1 << 22; size += size / 3 + 1) {
+        uint8_t *block = kmip_ttlv_malloc(size);
+        HOLD(block != NULL);
+        memset(block, 0x5A, size);
+        block = kmip_ttlv_realloc(block, 3 * size);
+        HOLD(block != NULL && block[0] == 0x5A && block[size - 1] == 0x5A);
+        memset(block, 0xA5, 3 * size);
+        block = kmip_ttlv_realloc(block, size);
+        HOLD(block != NULL && block[0] == 0xA5 && block[size - 1] == 0xA5);
+        kmip_ttlv_free(block);
+        HOLD(blocks == 0);
+    }
+}
+
+/* More than a million bytes: a structure, and in it the first number of the worked message again and again. */
+enum { COUNT = 100000, LARGE = 8 + 16 * COUNT, LARGE_TEXT = 70 * COUNT };
+
+static void put_structure(uint8_t *at, uint32_t length) {
+    const uint8_t header[8] = {
+        0x42, 0x00, 0x69, 0x01, (uint8_t)(length >> 24), (uint8_t)(length >> 16), (uint8_t)(length >> 8), (uint8_t)length};
+    memcpy(at, header, 8);
+}
+
+static void large_lists(const uint8_t *bytes, uint8_t *out) {
+    kmip_ttlv_item *items = malloc((COUNT + 1) * sizeof *items);
+    kmip_ttlv_fault fault;
+    kmip_ttlv_bad_item bad;
+    size_t length = 0, count = 0;
+    HOLD(kmip_ttlv_check(bytes, LARGE, &fault) == KMIP_TTLV_OK);
+    HOLD(kmip_ttlv_check(bytes, LARGE - 1, &fault) == KMIP_TTLV_MALFORMED && fault.offset == LARGE - 16);
+    HOLD(kmip_ttlv_items(bytes, LARGE, items, COUNT + 1, &count, &fault) == KMIP_TTLV_OK && count == COUNT + 1);
+    HOLD(items[COUNT].offset == LARGE - 16 && items[COUNT].depth == 1 && items[COUNT].tag == 0x42006A);
+    HOLD(kmip_ttlv_write(items, COUNT + 1, bytes, LARGE, out, LARGE, &length, &bad) == KMIP_TTLV_OK);
+    HOLD(length == LARGE && memcmp(out, bytes, LARGE) == 0);
+    free(items);
+}
+
+static void large_texts(const uint8_t *bytes, uint8_t *out, uint8_t *again) {
+    static const char first[] = "Tag: Protocol Version (0x420069), Type: Structure (0x01), Data:\n";
+    static const char next[] = "  Tag: Major (0x42006A), Type: Integer (0x02), Data: 0x000001 (1)\n";
+    static const char hidden[] = "  Tag: Major (0x42006A), Type: Integer (0x02), Data: <redacted>\n";
+    const size_t names = sizeof NAMES - 1, room = LARGE_TEXT;
+    size_t length = 0, other = 0, shown = 0;
+    HOLD(kmip_ttlv_to_diag(bytes, LARGE, PREFIX, 4, false, out, room, &length, &other) == KMIP_TTLV_OK);
+    HOLD(length == 4 + 3 * COUNT && other == COUNT + 1 && memcmp(out, "69[6Ai6Ai", 9) == 0 && out[length - 1] == ']');
+    HOLD(kmip_ttlv_from_diag(out, length, PREFIX, 4, NAMES, names, ANY, again, room, &shown, &other) == KMIP_TTLV_OK);
+    /* a space behind the root's `Data:`, and no last line feed */
+    HOLD(shown == strlen(first) + COUNT * strlen(hidden) && memcmp(again + shown - 60, hidden + strlen(hidden) - 61, 60) == 0);
+    HOLD(kmip_ttlv_to_text(bytes, LARGE, NAMES, names, false, ANY, out, room, &length, &other) == KMIP_TTLV_OK);
+    HOLD(length == strlen(first) + COUNT * strlen(next) && memcmp(out + length - 60, next + strlen(next) - 60, 60) == 0);
+    HOLD(kmip_ttlv_to_standard_text(bytes, LARGE, false, ANY, out, 0, &shown) == KMIP_TTLV_NO_ROOM);
+    HOLD(shown == length + COUNT * strlen("Protocol Version "));
+    HOLD(kmip_ttlv_to_text(bytes, LARGE, NAMES, names, false, LARGE, out, room, &length, &other) == KMIP_TTLV_OUT_OF_MEMORY);
+}
+
+/* As deep as so many bytes can be: a text of four hundred megabytes is an error at once, as no such limit was given. */
+static void deep_texts(uint8_t *bytes, uint8_t *out) {
+    const size_t deep = 16000;
+    for (size_t at = 0; at < 8 * deep; at += 8) {
+        put_structure(bytes + at, (uint32_t)(8 * deep - 8 - at));
+    }
+    kmip_ttlv_fault fault;
+    size_t length = 99, other = 99;
+    HOLD(kmip_ttlv_check(bytes, 8 * deep, &fault) == KMIP_TTLV_OK);
+    const size_t limit = 64 * 8 * deep;
+    HOLD(kmip_ttlv_to_standard_text(bytes, 8 * deep, false, limit, out, 0, &length) == KMIP_TTLV_OUT_OF_MEMORY && length == 0);
+    HOLD(kmip_ttlv_to_text(bytes, 8 * deep, NAMES, 0, false, limit, out, 0, &length, &other) == KMIP_TTLV_OUT_OF_MEMORY);
+    HOLD(kmip_ttlv_to_diag(bytes, 8 * deep, PREFIX, 4, false, out, LARGE_TEXT, &length, &other) == KMIP_TTLV_OK &&
+         length == 4 * deep);
+    HOLD(kmip_ttlv_from_diag(out, length, PREFIX, 4, NAMES, 0, limit, out + length, 0, &length, &other) ==
+         KMIP_TTLV_OUT_OF_MEMORY);
+}
+
+static void large(void) {
+    uint8_t *bytes = malloc(LARGE), *out = malloc(LARGE_TEXT), *again = malloc(LARGE_TEXT);
+    put_structure(bytes, LARGE - 8);
+    for (size_t at = 8; at < LARGE; at += 16) {
+        memcpy(bytes + at, VERSION + 8, 16);
+    }
+    large_lists(bytes, out);
+    large_texts(bytes, out, again);
+    deep_texts(bytes, out);
+    free(again);
+    free(out);
+    free(bytes);
+    HOLD(blocks == 0);
+}
+
 static void refusals(void) {
     static const uint8_t bad[] = {0xFF};
     size_t length = 99, items = 99, line = 99;
     uint8_t out[64];
     HOLD(kmip_ttlv_to_diag(VERSION, 40, bad, 1, false, out, 64, &length, &items) == KMIP_TTLV_NOT_UTF8);
     HOLD(length == 0 && items == 0);
-    HOLD(kmip_ttlv_to_text(VERSION, 40, bad, 1, false, out, 64, &length, &line) == KMIP_TTLV_NOT_UTF8 && line == 0);
+    HOLD(kmip_ttlv_to_text(VERSION, 40, bad, 1, false, ANY, out, 64, &length, &line) == KMIP_TTLV_NOT_UTF8 && line == 0);
     static const uint8_t names[] = "42006A Major\n\nMinor";
-    HOLD(kmip_ttlv_to_text(VERSION, 40, names, sizeof names - 1, false, out, 64, &length, &line) == KMIP_TTLV_BAD_NAMES);
+    HOLD(kmip_ttlv_to_text(VERSION, 40, names, sizeof names - 1, false, ANY, out, 64, &length, &line) == KMIP_TTLV_BAD_NAMES);
     HOLD(length == 0 && line == 3);
-    HOLD(kmip_ttlv_from_diag(bad, 1, bad, 0, bad, 0, out, 64, &length, &line) == KMIP_TTLV_NOT_UTF8 && line == 0);
-    HOLD(kmip_ttlv_from_diag(PREFIX, 4, PREFIX, 4, names, sizeof names - 1, out, 64, &length, &line) == KMIP_TTLV_BAD_NAMES);
+    for (int which = 0; which < 3; which++) {
+        kmip_ttlv_status status =
+            kmip_ttlv_from_diag(bad, which == 0, bad, which == 1, bad, which == 2, ANY, out, 64, &length, &line);
+        HOLD(status == KMIP_TTLV_NOT_UTF8 && line == 0 && length == 0);
+    }
+    HOLD(kmip_ttlv_from_diag(PREFIX, 4, PREFIX, 4, names, sizeof names - 1, ANY, out, 64, &length, &line) ==
+         KMIP_TTLV_BAD_NAMES);
     HOLD(length == 0 && line == 3);
 }
 
@@ -186,6 +359,11 @@ static void walks(void) {
     memset(items, 0x55, sizeof items);
     HOLD(kmip_ttlv_items(VERSION, 40, items, 2, &count, &fault) == KMIP_TTLV_NO_ROOM);
     HOLD(count == 3 && items[1].offset == 8 && items[2].tag == 0x55555555);
+    HOLD(kmip_ttlv_items(VERSION, 40, items, 1, &count, &fault) == KMIP_TTLV_NO_ROOM && count == 3 && items[1].offset == 8);
+    /* the message of one item, into a list of one */
+    static const uint8_t alone[8] = {0x42, 0x00, 0x69, 0x01, 0, 0, 0, 0};
+    HOLD(kmip_ttlv_items(alone, 8, items, 1, &count, &fault) == KMIP_TTLV_OK && count == 1 && items[0].length == 0);
+    HOLD(kmip_ttlv_items(alone, 8, items, 0, &count, &fault) == KMIP_TTLV_NO_ROOM && count == 1);
     uint8_t message[48];
     memcpy(message, VERSION, 40);
     message[31] = 5;
@@ -285,14 +463,15 @@ static void hostile(void) {
             kmip_ttlv_status wrote = kmip_ttlv_write(items, count, bytes, size, out, room, &written, &bad);
             HOLD(wrote == (written > room ? KMIP_TTLV_NO_ROOM : KMIP_TTLV_OK) && written <= size && out[room] == 0x77);
         }
-        kmip_ttlv_status status = kmip_ttlv_to_diag(bytes, size, PREFIX, 4, true, out, room, &length, &count);
+        kmip_ttlv_status status = kmip_ttlv_to_diag(bytes, size, PREFIX, 4, false, out, room, &length, &count);
         HOLD(status == (length > room ? KMIP_TTLV_NO_ROOM : KMIP_TTLV_OK) && count <= size / 8 + 1);
         if (status == KMIP_TTLV_OK) {
             uint8_t lines[4096];
             size_t shown = 0;
-            HOLD(kmip_ttlv_from_diag(out, length, PREFIX, 4, NAMES, 0, lines, sizeof lines, &shown, &line) == KMIP_TTLV_OK);
+            HOLD(kmip_ttlv_from_diag(out, length, PREFIX, 4, NAMES, 0, ANY, lines, sizeof lines, &shown, &line) ==
+                 KMIP_TTLV_OK);
         }
-        status = kmip_ttlv_to_text(bytes, size, NAMES, 0, false, out, room, &length, &line);
+        status = kmip_ttlv_to_text(bytes, size, NAMES, 0, true, ANY, out, room, &length, &line);
         HOLD(status == (length > room ? KMIP_TTLV_NO_ROOM : KMIP_TTLV_OK) && out[room] == 0x77);
         free(items);
         free(out);
@@ -302,7 +481,11 @@ static void hostile(void) {
 
 int main(void) {
     texts();
+    rare_texts();
+    limits();
     memory();
+    blocks_of_memory();
+    large();
     refusals();
     walks();
     writing();

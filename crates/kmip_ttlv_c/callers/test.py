@@ -3,9 +3,13 @@
     KMIP_TTLV_LIBRARY=PATH python3 test.py
 """
 import ctypes
+import decimal
+import enum
 import random
+import time
 import unittest
-from datetime import datetime, timezone
+from datetime import datetime, timedelta, timezone, tzinfo
+from unittest import mock
 
 import kmip_ttlv
 
@@ -16,14 +20,90 @@ DESTROY = bytes.fromhex(
     "0000002466633838333364652D373064322D346563652D623036332D66656465336133633539666500000000"
 )
 NAMES = "# two tags\n420069 Protocol Version\n42006A Major\n"
+# two empty structures in a third
+EMPTY = bytes.fromhex("420078010000001042007901000000004200690100000000")
+
+
+class Liar(bytes):
+    """Bytes that say they are longer."""
+
+    def __len__(self):
+        return 4096
+
+
+def structure(content):
+    return bytes.fromhex("42002001") + len(content).to_bytes(4, "big") + content
+
+
+def nested(depth, content=b""):
+    """Structures, each in the one before, and in the last of them this content."""
+    lengths = (len(content) + 8 * (depth - 1 - at) for at in range(depth))
+    return b"".join(bytes.fromhex("42002001") + length.to_bytes(4, "big") for length in lengths) + content
+
+
+def byte_string(content):
+    return bytes.fromhex("42002008") + len(content).to_bytes(4, "big") + content + bytes(-len(content) % 8)
 
 
 class Texts(unittest.TestCase):
     def test_diagnostics(self):
         self.assertEqual(kmip_ttlv.to_diag(VERSION, "4200"), "69[6Ai6Bi]")
         self.assertEqual(kmip_ttlv.to_diag(DESTROY, "4200"), "78[77[69[6Ai6Bi]0Di]0F[5Ce14:79[94t]]]")
-        self.assertEqual(kmip_ttlv.to_diag(bytes.fromhex("4200690100000000"), "4200", closed=True), "69[]")
+        self.assertEqual(kmip_ttlv.to_diag(bytes.fromhex("4200690100000000"), "4200"), "69[]")
         self.assertEqual(kmip_ttlv.to_diag(b"", "4200"), "ERR")
+        self.assertEqual(kmip_ttlv.to_diag(VERSION, "420069"), "[42006Ai42006Bi]")
+        self.assertEqual(kmip_ttlv.to_diag(VERSION, "4200690"), "420069[42006Ai42006Bi]")
+
+    def test_empty_structures(self):
+        """Closed by default; else each stays open, so that the second is in the first."""
+        self.assertEqual(kmip_ttlv.to_diag(EMPTY, "4200"), "78[79[]69[]]")
+        self.assertEqual(kmip_ttlv.to_diag(EMPTY, "4200", closed=True), "78[79[]69[]]")
+        self.assertEqual(kmip_ttlv.to_diag(EMPTY, "4200", closed=False), "78[79[69[]]]")
+        self.assertEqual(kmip_ttlv.to_diag(EMPTY[16:], "4200", closed=False), "69[ERR")
+        shut = ["Tag: {}0x420078{}, Type: Structure (0x01), Data:", "  Tag: {}0x420079{}, Type: Structure (0x01), Data:"]
+        shut.append("  Tag: {}0x420069{}, Type: Structure (0x01), Data:")
+        warning = "WARNING: TTLV structure length is zero"
+        left = [*shut[:2], warning, "  " + shut[2], warning]
+        words = [("Request Message (", ")"), ("Request Payload (", ")"), ("Protocol Version (", ")")]
+        for names, shown in ((None, words), (NAMES, [("", ""), ("", ""), words[2]]), ("", [("", "")] * 3)):
+            for closed, lines in ((True, shut), (False, left)):
+                named = iter(shown)
+                expected = "".join((line.format(*next(named)) if "Tag" in line else line) + "\n" for line in lines)
+                self.assertEqual(kmip_ttlv.to_text(EMPTY, names, closed), expected)
+                self.assertEqual(kmip_ttlv.to_text(EMPTY, names, closed=closed), expected)
+            self.assertEqual(kmip_ttlv.to_text(EMPTY, names), kmip_ttlv.to_text(EMPTY, names, True))
+
+    def test_limits(self):
+        """A text that would take the square of its message is an error, unless so much is asked for."""
+        deep, flat = nested(10_000), structure(byte_string(b"") * 10_000)
+        for names in (None, NAMES):
+            self.assertRaises(MemoryError, kmip_ttlv.to_text, deep, names)
+            self.assertEqual(kmip_ttlv.to_text(flat, names).count("\n"), 10_001)
+            self.assertRaises(MemoryError, kmip_ttlv.to_text, flat, names, limit=65_536)
+            self.assertRaises(MemoryError, kmip_ttlv.to_text, flat, names, limit=0)
+            self.assertRaises(TypeError, kmip_ttlv.to_text, flat, names, limit=1.5)
+            self.assertRaises(ValueError, kmip_ttlv.to_text, flat, names, limit=-1)
+        lines = kmip_ttlv.to_text(nested(2000), "", limit=2**70).split("\n")
+        self.assertEqual(lines[1999], "  " * 1999 + "Tag: 0x420020, Type: Structure (0x01), Data:")
+        self.assertRaises(MemoryError, kmip_ttlv.from_diag, "20[" * 10_000, "4200")
+        self.assertRaises(MemoryError, kmip_ttlv.from_diag, "20[" * 100, "4200", limit=8192)
+        self.assertEqual(kmip_ttlv.from_diag("20[" * 2000, "4200", limit=2**63).count("\n"), 1999)
+        self.assertEqual(kmip_ttlv.from_diag("20t" * 40_000, "4200").count("<redacted>"), 39_999)
+
+    def test_out_of_memory(self):
+        """Each call raises MemoryError if the library says that it is out of memory."""
+        calls = {
+            "to_diag": lambda: kmip_ttlv.to_diag(VERSION),
+            "to_text": lambda: kmip_ttlv.to_text(VERSION, NAMES),
+            "to_standard_text": lambda: kmip_ttlv.to_text(VERSION),
+            "from_diag": lambda: kmip_ttlv.from_diag("69[]"),
+            "items": lambda: kmip_ttlv.items(VERSION),
+            "check": lambda: kmip_ttlv.check(VERSION),
+        }
+        for name, call in calls.items():
+            with mock.patch.object(kmip_ttlv, "_" + name, lambda *_: kmip_ttlv.OUT_OF_MEMORY):
+                self.assertRaises(MemoryError, call)
+            call()
 
     def test_readable_text(self):
         lines = kmip_ttlv.to_text(DESTROY).split("\n")
@@ -40,7 +120,7 @@ class Texts(unittest.TestCase):
         self.assertEqual(text.split("\n")[1], "  Tag: Major (0x42006A), Type: Integer (0x02), Data: <redacted>")
 
     def test_version(self):
-        self.assertEqual(kmip_ttlv.version(), "0.1.0")
+        self.assertEqual(kmip_ttlv.version().removesuffix("-unproved"), "0.1.0")
 
 
 class Walks(unittest.TestCase):
@@ -60,6 +140,77 @@ class Walks(unittest.TestCase):
         with self.assertRaises(kmip_ttlv.Malformed) as refused:
             kmip_ttlv.items(VERSION[:12] + b"\0\0\0\5" + VERSION[16:])
         self.assertEqual((refused.exception.fault, len(refused.exception.items)), ((8, 5), 1))
+
+    def test_words_of_faults(self):
+        rows = (
+            (VERSION[:-1], 24, 1, "the bytes end within the root"),
+            (VERSION[8:24], 0, 2, "the root is no Structure"),
+            (b"\0" * 8, 0, 3, "unknown type"),
+            (structure(b"\0" * 4), 8, 4, "fewer than eight bytes are left of the structure around"),
+            (structure(bytes.fromhex("42002002000000050000000000000000")), 8, 5, "the length is none of a value of the type"),
+            (structure(b"\0" * 8)[:8] + VERSION[8:24], 8, 6, "the item goes past the end of the structure around"),
+            (structure(bytes.fromhex("42002006000000080000000000000002")), 8, 7, "the content is no value of the type"),
+            (VERSION + VERSION, 40, 8, "further bytes follow the root"),
+        )
+        for message, offset, kind, words in rows:
+            self.assertEqual(kmip_ttlv.check(message), (offset, kind))
+            for call in (kmip_ttlv.items, kmip_ttlv.decode):
+                with self.assertRaises(kmip_ttlv.Malformed) as refused:
+                    call(message)
+                self.assertEqual(str(refused.exception), f"at byte {offset}: {words}")
+        more = ("no structure before it contains it", "its tag is no number below 2^24", "its value goes past the end of the bytes")
+        more += ("with it a structure takes 2^32 bytes or more",)
+        self.assertEqual(kmip_ttlv.FAULTS, ("whole", *(words for _, _, _, words in rows), *more))
+
+    def test_other_buffers(self):
+        """What has a buffer is read by it, whatever it says of its length."""
+        name = kmip_ttlv.Node(0x420020, 1, [kmip_ttlv.Node(0x420020, 8, b"12345")])
+        for message in (VERSION, DESTROY, EMPTY[16:], VERSION[:-1], VERSION + b"\0", structure(byte_string(b"12345"))):
+            twice = bytes(byte for byte in message for _ in range(2))
+            for same in (Liar(message), bytearray(message), memoryview(message), memoryview(twice)[::2]):
+                for call in (kmip_ttlv.to_diag, kmip_ttlv.to_text, kmip_ttlv.check, lambda it: kmip_ttlv.to_text(it, NAMES)):
+                    self.assertEqual(call(same), call(message))
+                if kmip_ttlv.check(message) is None:
+                    self.assertEqual(kmip_ttlv.items(same), kmip_ttlv.items(message))
+                    self.assertEqual(kmip_ttlv.decode(same), kmip_ttlv.decode(message))
+                    self.assertEqual(kmip_ttlv.write(kmip_ttlv.items(message), same), message)
+        for value in (Liar(b"12345"), bytearray(b"12345"), memoryview(b"12345")):
+            self.assertEqual(kmip_ttlv.encode(kmip_ttlv.Node(0x420020, 1, [kmip_ttlv.Node(0x420020, 8, value)])), kmip_ttlv.encode(name))
+        far = [kmip_ttlv.Item(0, 0, 0x420020, 8, 4096)]
+        self.assertRaises(kmip_ttlv.BadItem, kmip_ttlv.write, far, Liar(bytes(24)))
+        for call in (kmip_ttlv.to_diag, kmip_ttlv.to_text, kmip_ttlv.items, kmip_ttlv.decode, kmip_ttlv.check):
+            for wrong in ("420069", None, 40, [VERSION]):
+                self.assertRaises(TypeError, call, wrong)
+        self.assertRaises(TypeError, kmip_ttlv.to_diag, VERSION, b"4200")
+        self.assertRaises(TypeError, kmip_ttlv.to_text, VERSION, b"420069 Version")
+        self.assertRaises(TypeError, kmip_ttlv.from_diag, b"69[]")
+        for call in (lambda: kmip_ttlv.to_diag(VERSION, "\ud800"), lambda: kmip_ttlv.to_text(VERSION, "\ud800"), lambda: kmip_ttlv.from_diag("\ud800")):
+            self.assertRaises(UnicodeEncodeError, call)
+
+    def test_large_messages(self):
+        count = 120_000
+        message = structure(byte_string(b"12345678") * count)
+        self.assertEqual(len(message), 8 + 16 * count)
+        self.assertIsNone(kmip_ttlv.check(message))
+        found = kmip_ttlv.items(message)
+        self.assertEqual((len(found), found[-1]), (count + 1, (8 + 16 * (count - 1), 1, 0x420020, 8, 8)))
+        self.assertEqual(kmip_ttlv.write(found, message), message)
+        self.assertEqual(kmip_ttlv.encode(kmip_ttlv.decode(message)), message)
+        self.assertEqual(kmip_ttlv.to_diag(message, "420020"), "[" + "o" * count + "]")
+        self.assertEqual(kmip_ttlv.to_text(message).count("Data: 3132333435363738\n"), count)
+
+    def test_growth(self):
+        """A message costs no more for being deep: as many items and bytes, side by side and each in the one before."""
+
+        def seconds(message):
+            begun = time.process_time()
+            node = kmip_ttlv.decode(message)
+            self.assertEqual(kmip_ttlv.encode(node), message)
+            return time.process_time() - begun
+
+        leaf, depth = byte_string(bytes(1_000_000)), 50_000
+        flat = min(seconds(structure(nested(1) * depth + leaf)) for _ in range(2))
+        self.assertLess(seconds(nested(depth, leaf)), 5 * flat + 0.5)
 
     def test_values(self):
         major, minor = kmip_ttlv.Node(0x42006A, 2, 1), kmip_ttlv.Node(0x42006B, 2, 0)
@@ -98,12 +249,59 @@ class Walks(unittest.TestCase):
 
     def test_deep_values(self):
         depth = 20000
-        message = b"".join(bytes.fromhex("42002001") + (8 * (depth - 1 - at)).to_bytes(4, "big") for at in range(depth))
+        message = nested(depth)
         node, count = kmip_ttlv.decode(message), 1
         self.assertEqual(kmip_ttlv.encode(node), message)
+        self.assertTrue(node == kmip_ttlv.decode(message) and not node != kmip_ttlv.decode(message))
+        self.assertTrue(node != kmip_ttlv.decode(nested(depth - 1)) and not node == kmip_ttlv.decode(nested(depth - 1)))
+        shown = "Node(tag=4325408, typ=1, value=["
+        self.assertEqual(repr(node), shown * depth + "])" * depth)
         while node.value:
             (node,), count = node.value, count + 1
         self.assertEqual(count, depth)
+
+    def test_nodes(self):
+        """Comparing, printing and hashing are those of tuples, but take no stack."""
+        node = kmip_ttlv.Node
+        leaf, other = node(0x420020, 2, 1), node(0x420020, 2, 2)
+        self.assertEqual(repr(node(1, 1, [leaf, node(2, 1, []), leaf])), f"Node(tag=1, typ=1, value=[{leaf!r}, Node(tag=2, typ=1, value=[]), {leaf!r}])")
+        self.assertEqual(repr(leaf), "Node(tag=4325408, typ=2, value=1)")
+        self.assertEqual(repr(node("a", b"b", None)), "Node(tag='a', typ=b'b', value=None)")
+        self.assertEqual(repr(node(1, 1, ["a", (1,)])), "Node(tag=1, typ=1, value=['a', (1,)])")
+        self.assertTrue(leaf == (0x420020, 2, 1) and (0x420020, 2, 1) == leaf and leaf != other and leaf != (0x420020, 2))
+        self.assertTrue(leaf != [0x420020, 2, 1] and leaf != 5 and node(1, 1, [leaf]) != node(1, 1, [other]))
+        self.assertTrue(node(1, 1, [leaf]) != node(1, 1, (leaf,)) and node(1, 1, [leaf, leaf]) != node(1, 1, [leaf]))
+        self.assertEqual(len({leaf, node(0x420020, 2, 1), other}), 2)
+        one, two = node(1, 1, []), node(1, 1, [])
+        one.value.append(one)
+        two.value.append(two)
+        self.assertTrue(one == two and not one != two and one != node(1, 1, [leaf]))
+        self.assertEqual(repr(one), "Node(tag=1, typ=1, value=[Node(tag=1, typ=1, value=[...])])")
+
+    def test_big_integers(self):
+        """What is decoded is encoded in the fewest bytes, a multiple of eight, that hold it, whatever bytes it came with."""
+
+        def fewest(value):
+            for size in range(8, 1000, 8):
+                try:
+                    return value.to_bytes(size, "big", signed=True)
+                except OverflowError:
+                    pass
+
+        ends = [sign << bits for bits in range(1, 400) for sign in (1, -1)]
+        for value in sorted({end + more for end in ends for more in (-1, 0, 1)}):
+            content = fewest(value)
+            leaf = bytes.fromhex("42002004") + len(content).to_bytes(4, "big") + content
+            root = kmip_ttlv.Node(0x420020, 1, [kmip_ttlv.Node(0x420020, 4, value)])
+            self.assertEqual(kmip_ttlv.encode(root), structure(leaf))
+            self.assertEqual(kmip_ttlv.decode(structure(leaf)), root)
+            long = (b"\xff" if value < 0 else b"\0") * 16 + content
+            long = structure(bytes.fromhex("42002004") + len(long).to_bytes(4, "big") + long)
+            self.assertEqual(kmip_ttlv.encode(kmip_ttlv.decode(long)), structure(leaf))
+            self.assertEqual(kmip_ttlv.write(kmip_ttlv.items(long), long), long)
+        least = bytes.fromhex("420078010000001042002E04000000088000000000000000")
+        self.assertEqual(kmip_ttlv.decode(least).value[0].value, -(2**63))
+        self.assertEqual(kmip_ttlv.encode(kmip_ttlv.decode(least)), least)
 
     def test_encoding(self):
         node = kmip_ttlv.Node
@@ -125,18 +323,45 @@ class Walks(unittest.TestCase):
         self.assertEqual(kmip_ttlv.write(kmip_ttlv.items(dirty), dirty), VERSION)
         self.assertEqual(kmip_ttlv.write([], b""), b"")
 
+    def refused(self, call, *words):
+        """The BadItem that a call raises."""
+        with self.assertRaises(kmip_ttlv.BadItem) as refused:
+            call(*words)
+        return refused.exception
+
     def test_bad_items(self):
         node, good = kmip_ttlv.Node, kmip_ttlv.Node(0x420020, 2, 1)
         bad = [(2**24, 2, 1), (-1, 2, 1), (0x420020, 11, 1), (0x420020, 0, 1), (0x420020, 2, 2**31), (0x420020, 2, "1")]
         bad += [(0x420020, 3, 2**63), (0x420020, 4, 1.5), (0x420020, 5, -1), (0x420020, 6, 1), (0x420020, 7, b"a")]
         bad += [(0x420020, 7, "\ud800"), (0x420020, 8, "a"), (0x420020, 8, 3), (0x420020, 9, datetime(2008, 3, 14)), (0x420020, 10, 2**32)]
         bad += [(0x420020, 9, datetime(2008, 3, 14, 0, 0, 0, 1, tzinfo=timezone.utc)), (0x420020, 1, 1), ("a", 2, 1), (0x420020, 2), None]
+        # numbers that are no int, and texts and structures that are none
+        bad += [(wrong, 2, 1) for wrong in (1.5, 2.0, True, "1", None, decimal.Decimal(1))]
+        bad += [(0x420020, wrong, 1) for wrong in (1.0, 2.0, True, "2", None)]
+        bad += [(0x420020, typ, wrong) for typ in (2, 3, 4, 5, 9, 10) for wrong in (1.0, 2.5, True, False, None, "1", b"1", [1])]
+        bad += [(0x420020, 7, wrong) for wrong in (1, None, ["a"], "a\udfffb")] + [(0x420020, 8, wrong) for wrong in (None, 1.5, [1])]
+        bad += [(0x420020, 1, wrong) for wrong in (None, "ab", b"", {}, good, iter([]))] + [(0x420020, 6, wrong) for wrong in (0, 1.0, None)]
+        bad += [(0x420020, 9, datetime(2008, 3, 14, tzinfo=tzinfo())), (10**5000, 2, 1), (0x420020, 10**5000, 1), (0x420020, 3, 10**5000)]
+        bad += [(), (0x420020,), (0x420020, 2, 1, 1), "abc", 5, object()]
         for it in bad:
-            root = node(0x420020, 1, [good, node(0x420020, 1, [good]), node(*it) if it and len(it) == 3 else it, good])
+            root = node(0x420020, 1, [good, node(0x420020, 1, [good]), node(*it) if isinstance(it, tuple) and len(it) == 3 else it, good])
             with self.assertRaises(kmip_ttlv.BadItem) as refused:
                 kmip_ttlv.encode(root)
             self.assertEqual(refused.exception.index, 4, it)
             self.assertIn("item 4", str(refused.exception))
+        self.assertEqual(str(self.refused(kmip_ttlv.encode, node(0x420020, 2, 1.0))), "item 0 (tag 0x420020): its value is no int")
+        self.assertEqual(self.refused(kmip_ttlv.encode, (1, 2)).why, "it is no Node, which has a tag, a typ and a value")
+        around = node(0x420020, 1, [good])
+        around.value.append(node(0x420020, 1, [around]))
+        self.assertEqual((self.refused(kmip_ttlv.encode, around).index, self.refused(kmip_ttlv.encode, around).why), (3, "it contains itself"))
+        # a node in several places is no cycle, and a plain tuple or an enum does for a node or a number
+        twice = node(0x420020, 1, [node(0x420020, 1, [good])] * 2)
+        self.assertEqual(kmip_ttlv.decode(kmip_ttlv.encode(twice)), twice)
+        self.assertEqual(kmip_ttlv.encode((0x420020, 1, ((0x420020, 2, 1),))), kmip_ttlv.encode(node(0x420020, 1, [good])))
+        tags = enum.IntEnum("tags", {"TAG": 0x420020})
+        self.assertEqual(kmip_ttlv.encode(node(tags.TAG, 1, [good])), kmip_ttlv.encode(node(0x420020, 1, [good])))
+        west = datetime(2008, 3, 14, 3, 56, 40, tzinfo=timezone(timedelta(hours=-8)))
+        self.assertEqual(kmip_ttlv.encode(node(0x420020, 9, west))[8:].hex(), "0000000047da67f8")
         item, lent = kmip_ttlv.Item, bytes(24)
         root = item(0, 0, 0x420020, 1, 0)
         rows = (
@@ -158,7 +383,16 @@ class Walks(unittest.TestCase):
             with self.assertRaises(kmip_ttlv.BadItem) as refused:
                 kmip_ttlv.write([root, item(0, 1, 0x420020, typ, length)], bytes(8) + content)
             self.assertEqual((refused.exception.index, refused.exception.why), (1, kmip_ttlv.FAULTS[7]))
-        self.assertRaises(kmip_ttlv.BadItem, kmip_ttlv.write, [item(0, 0, 2**32 + 1, 2, 4)], lent)
+        # each number of an item: none, negative, or too large for its field
+        good = (0, 1, 0x420020, 2, 4)
+        self.assertEqual(kmip_ttlv.write([root, good], lent).hex(), "420020010000001042002002000000040000000000000000")
+        for field, limit in enumerate((2**64, 2**64, 2**32, 2**32, 2**32)):
+            for wrong in (-1, limit, limit + good[field], 1.0, 0.5, True, "1", None):
+                bad = [*good[:field], wrong, *good[field + 1 :]]
+                for one in (item(*bad), tuple(bad), bad):
+                    self.assertEqual(self.refused(kmip_ttlv.write, [root, one], lent).index, 1, bad)
+        for wrong in (good[:4], (*good, 0), (0, 0, 1), (), None, 5, "abcde", iter(good)):
+            self.assertEqual(self.refused(kmip_ttlv.write, [root, wrong], lent).why, "it is no Item, which has five numbers")
         # sixteen thousand times the same quarter of a megabyte: the item with which the root passes four bytes
         large = [root] + [item(0, 1, 0x420020, 8, 2**18 - 8)] * (2**14 + 1)
         with self.assertRaises(kmip_ttlv.BadItem) as refused:
@@ -175,8 +409,8 @@ class Walks(unittest.TestCase):
         for names, room, status, line in rows:
             lent = (names.encode(), len(names))
             for call in (
-                lambda *out: kmip_ttlv._to_text(VERSION, len(VERSION), *lent, False, *out),
-                lambda *out: kmip_ttlv._from_diag(b"69[]", 4, b"4200", 4, *lent, *out),
+                lambda *out: kmip_ttlv._to_text(VERSION, len(VERSION), *lent, False, 2**20, *out),
+                lambda *out: kmip_ttlv._from_diag(b"69[]", 4, b"4200", 4, *lent, 2**20, *out),
             ):
                 out, length, told = ctypes.create_string_buffer(1024), ctypes.c_size_t(9), ctypes.c_size_t(9)
                 self.assertEqual(call(out, room, ctypes.byref(length), ctypes.byref(told)), status)
@@ -190,13 +424,17 @@ class Walks(unittest.TestCase):
                 message[chance.randrange(len(message))] ^= 1 << chance.randrange(8)
             message = bytes(message[: chance.randrange(len(message) + 1)])
             fault = kmip_ttlv.check(message)
-            diagnostic = kmip_ttlv.to_diag(message, closed=True)
+            diagnostic = kmip_ttlv.to_diag(message)
             if fault is None:
                 self.assertEqual(len(kmip_ttlv.items(message)), kmip_ttlv.from_diag(diagnostic).count("Tag: "))
                 written = kmip_ttlv.write(kmip_ttlv.items(message), message)
                 self.assertEqual(kmip_ttlv.items(written), kmip_ttlv.items(message))
+                # of these only a Big Integer can be written in other bytes, namely fewer
+                again = kmip_ttlv.encode(kmip_ttlv.decode(message))
+                self.assertEqual(kmip_ttlv.decode(again), kmip_ttlv.decode(message))
+                self.assertEqual(kmip_ttlv.encode(kmip_ttlv.decode(again)), again)
                 if all(it.typ != 4 for it in kmip_ttlv.items(message)):
-                    self.assertEqual(kmip_ttlv.encode(kmip_ttlv.decode(message)), written)
+                    self.assertEqual(again, written)
             else:
                 self.assertRaises(kmip_ttlv.Malformed, kmip_ttlv.items, message)
                 self.assertLessEqual(fault.offset, len(message))

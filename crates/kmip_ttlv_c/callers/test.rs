@@ -35,14 +35,14 @@ const MALFORMED: u32 = 4;
 const BAD_NAMES: u32 = 5;
 
 extern "C" {
-    fn kmip_ttlv_to_diag(bytes: *const c_uchar, bytes_len: usize, prefix: *const c_uchar, prefix_len: usize, closed: bool,
-        out: *mut c_uchar, room: usize, length: *mut usize, items: *mut usize) -> u32;
-    fn kmip_ttlv_to_standard_text(bytes: *const c_uchar, bytes_len: usize, closed: bool, out: *mut c_uchar, room: usize,
-        length: *mut usize) -> u32;
-    fn kmip_ttlv_to_text(bytes: *const c_uchar, bytes_len: usize, names: *const c_uchar, names_len: usize, closed: bool,
-        out: *mut c_uchar, room: usize, length: *mut usize, bad_line: *mut usize) -> u32;
+    fn kmip_ttlv_to_diag(bytes: *const c_uchar, bytes_len: usize, prefix: *const c_uchar, prefix_len: usize,
+        open_empty: bool, out: *mut c_uchar, room: usize, length: *mut usize, items: *mut usize) -> u32;
+    fn kmip_ttlv_to_standard_text(bytes: *const c_uchar, bytes_len: usize, open_empty: bool, limit: usize,
+        out: *mut c_uchar, room: usize, length: *mut usize) -> u32;
+    fn kmip_ttlv_to_text(bytes: *const c_uchar, bytes_len: usize, names: *const c_uchar, names_len: usize, open_empty: bool,
+        limit: usize, out: *mut c_uchar, room: usize, length: *mut usize, bad_line: *mut usize) -> u32;
     fn kmip_ttlv_from_diag(diagnostic: *const c_uchar, diagnostic_len: usize, prefix: *const c_uchar, prefix_len: usize,
-        names: *const c_uchar, names_len: usize, out: *mut c_uchar, room: usize, length: *mut usize,
+        names: *const c_uchar, names_len: usize, limit: usize, out: *mut c_uchar, room: usize, length: *mut usize,
         bad_line: *mut usize) -> u32;
     fn kmip_ttlv_items(bytes: *const c_uchar, bytes_len: usize, items: *mut Item, room: usize, count: *mut usize,
         fault: *mut Fault) -> u32;
@@ -65,19 +65,26 @@ fn text(mut call: impl FnMut(&mut [u8], &mut usize) -> u32) -> Result<String, u3
     String::from_utf8(out).map_err(|_| OK)
 }
 
-/// The redacted diagnostic of any bytes.
-pub fn to_diag(bytes: &[u8], prefix: &str, closed: bool) -> Result<String, u32> {
-    let mut items = 0;
-    text(|out, length| unsafe {
-        kmip_ttlv_to_diag(bytes.as_ptr(), bytes.len(), prefix.as_ptr(), prefix.len(), closed, out.as_mut_ptr(), out.len(),
-            length, &mut items)
-    })
+/// The redacted diagnostic of any bytes, and how many items it tried to read.
+pub fn to_diag(bytes: &[u8], prefix: &str, open_empty: bool) -> (Result<String, u32>, usize) {
+    let mut items = usize::MAX;
+    let text = text(|out, length| unsafe {
+        kmip_ttlv_to_diag(bytes.as_ptr(), bytes.len(), prefix.as_ptr(), prefix.len(), open_empty, out.as_mut_ptr(),
+            out.len(), length, &mut items)
+    });
+    (text, items)
+}
+
+/// How much memory a text of so many bytes may take.
+fn limit_of(len: usize) -> usize {
+    512 * len + 1_048_576
 }
 
 /// Any bytes as readable text, with the names of KMIP's specifications.
 pub fn to_text(bytes: &[u8]) -> Result<String, u32> {
     text(|out, length| unsafe {
-        kmip_ttlv_to_standard_text(bytes.as_ptr(), bytes.len(), false, out.as_mut_ptr(), out.len(), length)
+        kmip_ttlv_to_standard_text(bytes.as_ptr(), bytes.len(), false, limit_of(bytes.len()), out.as_mut_ptr(), out.len(),
+            length)
     })
 }
 
@@ -85,8 +92,8 @@ pub fn to_text(bytes: &[u8]) -> Result<String, u32> {
 pub fn to_text_named(bytes: &[u8], names: &str) -> (Result<String, u32>, usize) {
     let mut line = usize::MAX;
     let text = text(|out, length| unsafe {
-        kmip_ttlv_to_text(bytes.as_ptr(), bytes.len(), names.as_ptr(), names.len(), false, out.as_mut_ptr(), out.len(),
-            length, &mut line)
+        kmip_ttlv_to_text(bytes.as_ptr(), bytes.len(), names.as_ptr(), names.len(), false, limit_of(bytes.len()),
+            out.as_mut_ptr(), out.len(), length, &mut line)
     });
     (text, line)
 }
@@ -96,7 +103,7 @@ pub fn from_diag(diagnostic: &str, prefix: &str, names: &str) -> (Result<String,
     let mut line = usize::MAX;
     let text = text(|out, length| unsafe {
         kmip_ttlv_from_diag(diagnostic.as_ptr(), diagnostic.len(), prefix.as_ptr(), prefix.len(), names.as_ptr(),
-            names.len(), out.as_mut_ptr(), out.len(), length, &mut line)
+            names.len(), limit_of(diagnostic.len()), out.as_mut_ptr(), out.len(), length, &mut line)
     });
     (text, line)
 }
@@ -140,7 +147,9 @@ pub fn write(items: &[Item], bytes: &[u8]) -> Result<Vec<u8>, BadItem> {
 fn main() {
     let digits = "420069010000002042006A0200000004000000010000000042006B02000000040000000000000000";
     let message: Vec<u8> = (0..digits.len()).step_by(2).map(|at| u8::from_str_radix(&digits[at..at + 2], 16).unwrap()).collect();
-    assert_eq!(to_diag(&message, "4200", false).as_deref(), Ok("69[6Ai6Bi]"));
+    assert_eq!(to_diag(&message, "4200", false), (Ok("69[6Ai6Bi]".to_owned()), 3));
+    assert_eq!(to_diag(&[0x42, 0, 0x69, 1, 0, 0, 0, 0], "4200", false), (Ok("69[]".to_owned()), 1));
+    assert_eq!(to_diag(&[0x42, 0, 0x69, 1, 0, 0, 0, 0], "4200", true), (Ok("69[ERR".to_owned()), 2));
     assert!(to_text(&message).unwrap().contains("Tag: Protocol Version Major (0x42006A), Type: Integer (0x02), Data: 0x000001 (1)\n"));
     let (lines, line) = to_text_named(&message, "420069 Version");
     assert!(lines.unwrap().starts_with("Tag: Version (0x420069), Type: Structure (0x01), Data:\n"));
@@ -160,7 +169,7 @@ fn main() {
     assert_eq!(write(&deep, &message), Err(BadItem { index: 1, kind: 9 }));
     assert_eq!(check(&message), None);
     assert_eq!(check(&message[..39]), Some(Fault { offset: 24, kind: 1 }));
-    assert_eq!(to_diag(&[], "", true).as_deref(), Ok("ERR"));
+    assert_eq!(to_diag(&[], "", false), (Ok("ERR".to_owned()), 1));
     let mut seed = 20251123u64;
     for _ in 0..10_000 {
         let mut bytes = message.clone();
@@ -171,7 +180,7 @@ fn main() {
             bytes[at] ^= 1 << (seed >> 61);
         }
         assert_eq!(items(&bytes).is_err(), check(&bytes).is_some());
-        to_diag(&bytes, "4200", true).unwrap();
+        to_diag(&bytes, "4200", false).0.unwrap();
         to_text(&bytes).unwrap();
     }
     println!("Rust: all held");

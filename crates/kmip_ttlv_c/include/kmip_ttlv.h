@@ -13,14 +13,22 @@
  * every error `out` is unchanged.
  *
  * Texts: `*length` of a diagnostic is at most a few times the length of the bytes. The readable texts indent each line by
- * two spaces for each structure around it, so for deeply nested bytes they grow with the square of the depth: limit the
- * length or the depth (`kmip_ttlv_items` returns it) of untrusted bytes before printing them.
+ * two spaces for each structure around it, so for deeply nested bytes they grow with the square of the depth. `limit` is how
+ * many bytes of memory such a call may hold at a time, for its text and its table of names; if it needs more, it returns
+ * OUT_OF_MEMORY. While a text grows it takes up to three times its length, and KMIP's names take 64 KiB: for untrusted bytes
+ * pass, for example, 64 * bytes_len + 1048576, and SIZE_MAX for no limit. A call that reaches its limit ends there.
  *
- * The printers take any bytes. They return OK for malformed ones too, with a text that shows where it stops: a diagnostic
- * ends with "ERR" and a readable text with a line "ERROR: .." after an item that can't be read, and both end with the line
- * "ERROR: TTLV structure content exceeds the structure length." if content goes past the end of its structure. They
- * follow headers as far as these can be read: in malformed bytes, key bytes may sit where a header is expected, and are
- * then shown as tags. `kmip_ttlv_check` checks whether bytes are well-formed.
+ * `open_empty` is whether an empty structure stays open until the structure around it ends, as in the texts of the Rust crate
+ * kmip-ttlv; pass false unless you compare with these. If true, what follows an empty structure is shown as if it were in it,
+ * and items that go past an end are not reported any more; a message that is an empty structure has a diagnostic that ends
+ * with "ERR"; and n empty structures side by side have a readable text of n * n bytes.
+ *
+ * The printers take any bytes, and return OK for those that are not one whole message too. They follow headers as far as these
+ * can be read: in malformed bytes, key bytes may sit where a header is expected, and are then shown as tags. At an item that
+ * can't be read a diagnostic ends with "ERR" and a readable text with a line "ERROR: .."; after an item that goes past the end
+ * of its structure both end with "ERROR: TTLV structure content exceeds the structure length.". What follows a first structure
+ * is not shown, and no text says that it is there. So call `kmip_ttlv_check` first, which says whether bytes are one whole
+ * message.
  *
  * Memory comes from malloc, realloc and free. A program that links the static library can replace them by defining
  * kmip_ttlv_malloc, kmip_ttlv_realloc and kmip_ttlv_free, all three of them, with the same meaning. If the program calls
@@ -125,17 +133,15 @@ typedef struct {
 /* Writes the redacted diagnostic of any bytes. For a well-formed message it shows each item's tag and type, the values of
  * enumerations, and no other value; in malformed bytes, key bytes may sit where a tag is expected, and are then shown.
  *
- * `prefix` holds hexadecimal digits, such as "4200", that are omitted from tags that begin with them. `closed` is whether an
- * empty structure is closed at once; if not, it stays open until the structure around it ends. `*items` is how many items
- * the call tried to read, at most bytes_len / 8 + 1; it is set with OK and NO_ROOM, and 0 on any other error.
+ * `prefix` holds hexadecimal digits, such as "4200", that are omitted from tags that begin with them. `*items` is how many
+ * items the call tried to read, at most bytes_len / 8 + 1; it is set with OK and NO_ROOM, and 0 on any other error.
  *
  * NOT_UTF8: the prefix. NO_ROOM: `out`. OUT_OF_MEMORY. */
 kmip_ttlv_status kmip_ttlv_to_diag(const uint8_t *bytes, size_t bytes_len, const uint8_t *prefix, size_t prefix_len,
-                                   bool closed, uint8_t *out, size_t room, size_t *length, size_t *items);
+                                   bool open_empty, uint8_t *out, size_t room, size_t *length, size_t *items);
 
 /* Writes any bytes as readable text, a line for each item, with every value. Texts are copied as they are in the message,
- * control characters too: escape them before you print them. To limit the length of the text, define kmip_ttlv_malloc and
- * kmip_ttlv_realloc.
+ * control characters too: escape them before you print them.
  *
  * `names` is a table of names of tags: a line for each, with the tag's hexadecimal digits, a space and its name. Empty
  * lines and lines that begin with '#' are ignored; of two lines for one tag the later wins. An empty table has no names.
@@ -145,23 +151,25 @@ kmip_ttlv_status kmip_ttlv_to_diag(const uint8_t *bytes, size_t bytes_len, const
  * NOT_UTF8: the table. BAD_NAMES: a line of the table has another form; `*bad_line` is its number, from 1.
  * NO_ROOM: `out`. OUT_OF_MEMORY. */
 kmip_ttlv_status kmip_ttlv_to_text(const uint8_t *bytes, size_t bytes_len, const uint8_t *names, size_t names_len,
-                                   bool closed, uint8_t *out, size_t room, size_t *length, size_t *bad_line);
+                                   bool open_empty, size_t limit, uint8_t *out, size_t room, size_t *length,
+                                   size_t *bad_line);
 
 /* The same with the tag names of the KMIP specifications.
  *
  * NO_ROOM: `out`. OUT_OF_MEMORY. */
-kmip_ttlv_status kmip_ttlv_to_standard_text(const uint8_t *bytes, size_t bytes_len, bool closed, uint8_t *out,
-                                            size_t room, size_t *length);
+kmip_ttlv_status kmip_ttlv_to_standard_text(const uint8_t *bytes, size_t bytes_len, bool open_empty, size_t limit,
+                                            uint8_t *out, size_t room, size_t *length);
 
 /* Reads a diagnostic under a prefix back as lines: the tag and type of each item, the values of enumerations, and
  * "<redacted>" in place of any other value. Reading stops where the text is no diagnostic; the lines up to there are written.
  *
- * `names` and `bad_line` are as in kmip_ttlv_to_text.
+ * `names`, `limit` and `bad_line` are as in kmip_ttlv_to_text. Each byte of a diagnostic can be an item, whose line has 60 bytes
+ * and a name: pass a `limit` of, for example, 512 * diagnostic_len + 1048576.
  *
  * NOT_UTF8: the diagnostic, the prefix or the table. BAD_NAMES. NO_ROOM: `out`. OUT_OF_MEMORY. */
 kmip_ttlv_status kmip_ttlv_from_diag(const uint8_t *diagnostic, size_t diagnostic_len, const uint8_t *prefix,
-                                     size_t prefix_len, const uint8_t *names, size_t names_len, uint8_t *out, size_t room,
-                                     size_t *length, size_t *bad_line);
+                                     size_t prefix_len, const uint8_t *names, size_t names_len, size_t limit,
+                                     uint8_t *out, size_t room, size_t *length, size_t *bad_line);
 
 /* Lists the items of a message in document order, each before those in it, up to the first fault.
  *

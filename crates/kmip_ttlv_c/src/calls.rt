@@ -1,6 +1,6 @@
 //! The calls that return a text.
 
-ghost use Rattle.std.specs.Prelude.{◌≡◌, IfOk, IfErr, OnOk, string_bytes};
+ghost use Rattle.std.specs.Prelude.{◌≡◌, not, IfOk, IfErr, OnOk, string_bytes};
 ghost use Rattle.kmip_ttlv_util.specs.TagNames.{name_in};
 ghost use Rattle.kmip_ttlv_names.specs.NameTables.{names_of};
 ghost use Rattle.kmip_ttlv_c.specs.Buffers.{AnswersText};
@@ -9,9 +9,10 @@ ghost use Rattle.kmip_ttlv_c.specs.Calls.{StandardFails, IsReadLines, ReadingFai
 
 use crate::buffer::offer;
 use crate::status::{BAD_NAMES, NOT_UTF8, OUT_OF_MEMORY};
+use kmip_ttlv_memory::BoundedAllocator;
 use kmip_ttlv_names::{STANDARD_TAGS, TableError, standard_names, tag_names};
 use kmip_ttlv_util::{LentTagMap, PrettyPrinter, read_back_named, text_named};
-use std::alloc::{AllocError, Global};
+use std::alloc::{AllocError, Allocator, Global};
 use std::str;
 
 /// The library's version.
@@ -38,19 +39,19 @@ pub extern "C" fn kmip_ttlv_to_diag(
     alloc: Global,
     bytes: &[u8],
     prefix: &[u8],
-    closed: bool,
+    open_empty: bool,
     out: &mut [u8],
     length: &mut usize,
     items: &mut usize,
 ) -> u32
-    ensures { AnswersText (IsDiagnostic prefix.now closed bytes.now items.new) (PrefixFails prefix.now items.new) result length.new out.old out.new }
+    ensures { AnswersText (IsDiagnostic prefix.now (not open_empty) bytes.now items.new) (PrefixFails prefix.now items.new) result length.new out.old out.new }
 {
     *length = 0;
     *items = 0;
     let Ok(prefix) = str::from_utf8(prefix) else {
         return NOT_UTF8;
     };
-    let Ok((text, count)) = diagnostic(alloc, prefix, closed, bytes) else {
+    let Ok((text, count)) = diagnostic(alloc, prefix, !open_empty, bytes) else {
         return OUT_OF_MEMORY;
     };
     *items = count;
@@ -59,7 +60,11 @@ pub extern "C" fn kmip_ttlv_to_diag(
 
 /// The names in a table, or the status if there are none; sets the number of a line that can't be
 /// parsed, or 0.
-fn names_in<'t>(alloc: Global, table: &'t [u8], bad_line: &mut usize) -> Result<LentTagMap<'t>, u32>
+fn names_in<'t, A: Allocator + Copy>(
+    alloc: A,
+    table: &'t [u8],
+    bad_line: &mut usize,
+) -> Result<LentTagMap<'t, A>, u32>
     ensures names { IfOk result (λ names. name_in names ≡ names_of table.now) }
     ensures good { OnOk result (IsTable table.now) }
     ensures line { OnOk result (bad_line.new ≡ 0) }
@@ -85,19 +90,21 @@ pub extern "C" fn kmip_ttlv_to_text(
     alloc: Global,
     bytes: &[u8],
     names: &[u8],
-    closed: bool,
+    open_empty: bool,
+    limit: usize,
     out: &mut [u8],
     length: &mut usize,
     bad_line: &mut usize,
 ) -> u32
-    ensures { AnswersText (IsNamedText names.now closed bytes.now bad_line.new) (NamesFail names.now bad_line.new) result length.new out.old out.new }
+    ensures { AnswersText (IsNamedText names.now (not open_empty) bytes.now bad_line.new) (NamesFail names.now bad_line.new) result length.new out.old out.new }
 {
     *length = 0;
-    let names = match names_in(alloc, names, bad_line) {
+    let memory = BoundedAllocator::new(alloc, limit);
+    let names = match names_in(&memory, names, bad_line) {
         Ok(names) => names,
         Err(status) => return status,
     };
-    let Ok(text) = text_named(alloc, &names, closed, bytes) else {
+    let Ok(text) = text_named(&memory, &names, !open_empty, bytes) else {
         return OUT_OF_MEMORY;
     };
     offer(text.as_bytes(), out, length)
@@ -108,17 +115,19 @@ pub extern "C" fn kmip_ttlv_to_text(
 pub extern "C" fn kmip_ttlv_to_standard_text(
     alloc: Global,
     bytes: &[u8],
-    closed: bool,
+    open_empty: bool,
+    limit: usize,
     out: &mut [u8],
     length: &mut usize,
 ) -> u32
-    ensures { AnswersText (IsReadable (names_of STANDARD_TAGS.now) closed bytes.now) StandardFails result length.new out.old out.new }
+    ensures { AnswersText (IsReadable (names_of STANDARD_TAGS.now) (not open_empty) bytes.now) StandardFails result length.new out.old out.new }
 {
     *length = 0;
-    let Ok(names) = standard_names(alloc) else {
+    let memory = BoundedAllocator::new(alloc, limit);
+    let Ok(names) = standard_names(&memory) else {
         return OUT_OF_MEMORY;
     };
-    let Ok(text) = text_named(alloc, &names, closed, bytes) else {
+    let Ok(text) = text_named(&memory, &names, !open_empty, bytes) else {
         return OUT_OF_MEMORY;
     };
     offer(text.as_bytes(), out, length)
@@ -131,6 +140,7 @@ pub extern "C" fn kmip_ttlv_from_diag(
     diagnostic: &[u8],
     prefix: &[u8],
     names: &[u8],
+    limit: usize,
     out: &mut [u8],
     length: &mut usize,
     bad_line: &mut usize,
@@ -145,11 +155,12 @@ pub extern "C" fn kmip_ttlv_from_diag(
     let Ok(prefix) = str::from_utf8(prefix) else {
         return NOT_UTF8;
     };
-    let names = match names_in(alloc, names, bad_line) {
+    let memory = BoundedAllocator::new(alloc, limit);
+    let names = match names_in(&memory, names, bad_line) {
         Ok(names) => names,
         Err(status) => return status,
     };
-    let Ok(text) = read_back_named(alloc, prefix, &names, diagnostic) else {
+    let Ok(text) = read_back_named(&memory, prefix, &names, diagnostic) else {
         return OUT_OF_MEMORY;
     };
     offer(text.as_bytes(), out, length)
