@@ -30,6 +30,8 @@ struct Limits {
     before: Cell<u64>,
     // Whether a request failed.
     has_failed: Cell<bool>,
+    // How many bytes the requests within the limits have asked for.
+    asked: Cell<usize>,
 }
 
 impl<B: Allocator> BoundedAllocator<B> {
@@ -73,6 +75,7 @@ impl<B: Allocator> BoundedAllocator<B> {
             largest,
             before: Cell::new(before),
             has_failed: Cell::new(false),
+            asked: Cell::new(0),
         };
         BoundedAllocator { inner, limits }
     }
@@ -85,6 +88,19 @@ impl<B: Allocator> BoundedAllocator<B> {
     /// How many bytes of the budget are left.
     pub fn left(&self) -> usize {
         self.limits.left.get()
+    }
+
+    /// How many bytes were asked for so far, whether or not they were freed. A vector that grows asks for its
+    /// whole new block.
+    ///
+    /// ```
+    /// let memory = BoundedAllocator::in_blocks(rt.alloc(), 8);
+    /// drop(String::from_str(&memory, "Key")?);
+    /// drop(String::from_str(&memory, "Keys")?);
+    /// assert!(rt; memory.asked() == 7);
+    /// ```
+    pub fn asked(&self) -> usize {
+        self.limits.asked.get()
     }
 }
 
@@ -104,6 +120,7 @@ impl Drop for Limits {
             largest: _,
             before: _,
             has_failed: _,
+            asked: _,
         } = self;
     }
 }
@@ -118,6 +135,7 @@ fn is_beyond(limits: &Limits, size: usize) -> bool {
         return true;
     }
     limits.left.set(left - size);
+    limits.asked.set(limits.asked.get().saturating_add(size));
     false
 }
 

@@ -3,22 +3,20 @@
 //! also printed as a multiple of a walk over the headers and of a copy of the same bytes, so that it means
 //! something on any machine.
 //!
-//! It uses the public calls, `inputs`, `shapes` and `times`; `skimmed` is a type that keeps nothing.
+//! It uses the public calls, the inputs and shapes of `sample_shapes`, and `times`; `skimmed` is a type that keeps nothing.
 #![tactic(auto)]
 
-mod inputs;
-mod shapes;
 mod skimmed;
 mod times;
 
-use crate::inputs::{
-    CHOICE, EMPTY, NUMBER, OTHER_NUMBER, TEXT, asked, long, nested, repeated, tuples,
-};
-use crate::shapes::{Asked, Empties, Fields, Long, Numbers, Texts, Tuples};
 use crate::times::{bare_times, checking, printing, reading, reading_back, show, taking, telling};
 use kmip_ttlv::PrettyPrinter;
 use kmip_ttlv_memory::BoundedAllocator;
+use sample_shapes::inputs::{
+    CHOICE, EMPTY, NUMBER, OTHER_NUMBER, TEXT, asked, long, nested, repeated, tuples,
+};
 use sample_shapes::parts::Part;
+use sample_shapes::shapes::{Asked, Empties, Fields, Long, Numbers, Texts, Tuples};
 use std::time::Clock;
 use std::{env, io};
 
@@ -93,8 +91,8 @@ fn read_each<R: Clock + Eprint + AllocGlobal>(rt: &R, size: u32) -> io::Result<(
     read::<Numbers, R>(rt, "integers", repeated(alloc, size / 16, &NUMBER)?)?;
     take::<Numbers, R>(rt, "integers", repeated(alloc, size / 16, &NUMBER)?)?;
     read::<Empties, R>(rt, "empty structures", repeated(alloc, size / 8, &EMPTY)?)?;
-    read::<Long, R>(rt, "one long value", long(alloc, size)?)?;
-    take::<Long, R>(rt, "one long value", long(alloc, size)?)?;
+    read::<Long, R>(rt, "one long value", long(alloc, 8, size)?)?;
+    take::<Long, R>(rt, "one long value", long(alloc, 8, size)?)?;
     read::<Texts, R>(
         rt,
         "stored texts of one tag",
@@ -129,7 +127,7 @@ fn print_each<R: Clock + Eprint + AllocGlobal>(rt: &R, size: u32) -> io::Result<
         repeated(alloc, size / 8, &EMPTY)?,
         true,
     )?;
-    print(rt, "one long value", long(alloc, size)?, false)
+    print(rt, "one long value", long(alloc, 8, size)?, false)
 }
 
 // Diagnostics that are read back.

@@ -94,3 +94,15 @@ fn a_budget_is_of_all_blocks(rt: HostRuntime) -> Result<(), Fail> {
     assert!(rt; budget_holds(rt.alloc()) == Some(true));
     Ok(())
 }
+
+// Whether what is asked for is counted, also after it was freed, and what fails isn't.
+fn asked_is_a_sum(alloc: Global) -> bool {
+    let memory = BoundedAllocator::in_blocks(alloc, 10);
+    let is_first = !fails(&memory, 6) && memory.asked() == 6;
+    is_first && fails(&memory, 11) && !fails(&memory, 7) && memory.asked() == 13
+}
+
+#[test]
+fn what_is_asked_for_is_counted(rt: HostRuntime) {
+    assert!(rt; asked_is_a_sum(rt.alloc()));
+}

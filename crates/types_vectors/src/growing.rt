@@ -208,17 +208,20 @@ fn calls_grow(rt: HostRuntime) -> Result<(), Fail> {
 // The calls that read a string.
 const STRINGS: [Call; 3] = [Call::ReadText, Call::ReadBytes, Call::ReadNumber];
 
-// Whether a length of FFFFFFFF before three bytes gives an IoError of kind UnexpectedEof.
-fn is_early_end<T: SerializableTtlvType>(alloc: T::Alloc) -> bool {
-    let mut source: &[u8] = b"\xFF\xFF\xFF\xFFabc";
+// A length of FFFFFFFF before three bytes.
+const CUT: &[u8] = b"\xFF\xFF\xFF\xFFabc";
+
+// Whether a leaf that is cut gives an IoError of kind UnexpectedEof.
+fn is_early_end<T: SerializableTtlvType>(alloc: T::Alloc, leaf: &[u8]) -> bool {
+    let mut source = leaf;
     is_failure(&T::read(alloc, &mut source), io::ErrorKind::UnexpectedEof)
 }
 
-fn ends_early<A: Allocator>(alloc: A, call: Call) -> bool {
+fn ends_early<A: Allocator>(alloc: A, call: Call, leaf: &[u8]) -> bool {
     match call {
-        Call::ReadText => is_early_end::<TtlvTextString<A>>(alloc),
-        Call::ReadBytes => is_early_end::<TtlvByteString<A>>(alloc),
-        Call::ReadNumber => is_early_end::<TtlvBigInteger<A>>(alloc),
+        Call::ReadText => is_early_end::<TtlvTextString<A>>(alloc, leaf),
+        Call::ReadBytes => is_early_end::<TtlvByteString<A>>(alloc, leaf),
+        Call::ReadNumber => is_early_end::<TtlvBigInteger<A>>(alloc, leaf),
         _ => false,
     }
 }
@@ -226,13 +229,35 @@ fn ends_early<A: Allocator>(alloc: A, call: Call) -> bool {
 // Whether such a length takes no more than one growth.
 fn takes_one_piece(heap: Global, call: Call) -> bool {
     let memory = BoundedAllocator::failing_after(heap, 1);
-    ends_early(&memory, call) && !memory.has_failed()
+    ends_early(&memory, call, CUT) && !memory.has_failed()
 }
 
 #[test]
 fn a_length_without_its_bytes_takes_one_piece(rt: HostRuntime) -> Result<(), Fail> {
     for call in STRINGS {
         assert!(rt; takes_one_piece(rt.alloc(), call), "{call:?}");
+    }
+    Ok(())
+}
+
+// Whether a length of FFFFFFFF takes blocks of at most 65,536 bytes beyond twice those that came.
+fn takes_what_came(heap: Global, call: Call, came: usize) -> Result<bool, AllocError> {
+    let mut leaf = Vec::from_slice(heap, &[0xFF; 4])?;
+    leaf.resize(came.saturating_add(4), b'a')?;
+    let most = came.saturating_mul(2).saturating_add(65_536);
+    let memory = BoundedAllocator::in_blocks(heap, most);
+    Ok(ends_early(&memory, call, leaf.as_slice()))
+}
+
+#[test]
+fn a_length_takes_what_came(rt: HostRuntime) -> Result<(), Fail> {
+    for call in STRINGS {
+        for came in [0, 3, 65_536, 200_000, 1_000_000] {
+            assert!(rt;
+                takes_what_came(rt.alloc(), call, came)?,
+                "{call:?}: {came}"
+            );
+        }
     }
     Ok(())
 }
@@ -255,7 +280,7 @@ fn is_out_of_memory<A: Allocator>(alloc: A, call: Call, leaf: &[u8]) -> bool {
 // Whether a block of 65,536 bytes is enough for such a length, and not for this leaf.
 fn takes_pieces(heap: Global, call: Call, leaf: &[u8]) -> bool {
     let memory = BoundedAllocator::in_blocks(heap, 65_536);
-    ends_early(&memory, call) && is_out_of_memory(&memory, call, leaf)
+    ends_early(&memory, call, CUT) && is_out_of_memory(&memory, call, leaf)
 }
 
 #[test]

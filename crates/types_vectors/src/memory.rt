@@ -3,8 +3,9 @@
 use crate::samples::{
     PRIMITIVES, SAMPLES, Sample, Value, is_failure, is_integer, is_tag, is_type, is_value,
 };
+use kmip_ttlv_memory::BoundedAllocator;
 use kmip_ttlv_types::laws::reread;
-use kmip_ttlv_types::stream::{MemoryCursor, MemorySink, MemorySource};
+use kmip_ttlv_types::stream::{MemoryCursor, MemorySink, MemorySource, Sink};
 use kmip_ttlv_types::{Error, SerializableTtlvType, TtlvInteger, TtlvTag, TtlvType};
 use std::alloc::Global;
 use std::io::{Cursor, ErrorKind};
@@ -27,6 +28,19 @@ fn memory_with_room(rt: HostRuntime) -> Result<(), Fail> {
     assert!(rt; is_integer(&mut source, 8));
     assert!(rt; is_failure(&TtlvTag::read(&mut source), ErrorKind::UnexpectedEof));
     Ok(())
+}
+
+// Whether a vector that can't grow is an error of kind OutOfMemory.
+fn is_without_memory(heap: Global) -> bool {
+    let memory = BoundedAllocator::in_blocks(heap, 15);
+    let mut sink = MemorySink(Vec::new(&memory));
+    sink.send(&[7; 15]).is_ok()
+        && matches!(sink.send(&[7]), Err(error) if error.kind() == ErrorKind::OutOfMemory)
+}
+
+#[test]
+fn memory_without_room(rt: HostRuntime) {
+    assert!(rt; is_without_memory(rt.alloc()));
 }
 
 // Whether the value is written into a vector and read from there.

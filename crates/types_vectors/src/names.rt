@@ -129,12 +129,30 @@ fn shows<D: Debug + Drop>(heap: Global, shown: D, text: &str) -> bool {
     is_text(&format!(in heap; "{shown:?}"), text)
 }
 
+// A tag, and its texts by Display, Debug and UpperHex.
+const TAGS: [([u8; 3], &str, &str, &str); 6] = [
+    ([0, 0, 0], "0x000000", "0x0", "0"),
+    ([0, 0, 0x12], "0x000012", "0x12", "12"),
+    ([0x0F, 0xFF, 0xFF], "0x0FFFFF", "0xFFFFF", "FFFFF"),
+    ([0x42, 0x00, 0x20], "0x420020", "0x420020", "420020"),
+    ([0xF0, 0, 0x01], "0xF00001", "0xF00001", "F00001"),
+    ([0xFF, 0xFF, 0xFF], "0xFFFFFF", "0xFFFFFF", "FFFFFF"),
+];
+
+fn tag_is_shown(heap: Global, row: ([u8; 3], &str, &str, &str)) -> bool {
+    let (bytes, text, debug, digits) = row;
+    let tag = TtlvTag::from(bytes);
+    prints(heap, tag, text)
+        && shows(heap, tag, debug)
+        && is_text(&format!(in heap; "{tag:X}"), digits)
+}
+
 #[test]
 fn texts_of_tags(rt: HostRuntime) -> Result<(), Fail> {
+    for row in TAGS {
+        assert!(rt; tag_is_shown(rt.alloc(), row), "{row:?}");
+    }
     let tag = TtlvTag::from([0, 0, 0x12]);
-    assert!(rt; prints(rt.alloc(), tag, "0x000012"));
-    assert!(rt; shows(rt.alloc(), tag, "0x12"));
-    assert!(rt; is_text(&format!(in rt.alloc(); "{tag:X}"), "12"));
     assert!(rt; is_text(&format!(in rt.alloc(); "{tag:06X}"), "000012"));
     assert!(rt; is_text(&format!(in rt.alloc(); "{tag:8X}"), "      12"));
     Ok(())

@@ -3,6 +3,7 @@
 
 use crate::faulty::{InterruptedReader, InterruptedWriter, SlowReader, SlowWriter};
 use crate::samples::{SAMPLES, Sample, is_failure, is_length, is_tag, is_type, is_value};
+use kmip_ttlv_memory::BoundedAllocator;
 use kmip_ttlv_types::{SerializableTtlvType, TtlvByteString, TtlvLength, TtlvType};
 use std::alloc::Global;
 use std::io::ErrorKind;
@@ -38,6 +39,8 @@ fn readers_that_fail_once(rt: HostRuntime) -> Result<(), Fail> {
         ErrorKind::Interrupted,
         ErrorKind::BrokenPipe,
         ErrorKind::TimedOut,
+        ErrorKind::WouldBlock,
+        ErrorKind::OutOfMemory,
         ErrorKind::UnexpectedEof,
     ] {
         for sample in SAMPLES {
@@ -99,7 +102,7 @@ fn is_read_at_length(heap: Global, sample: Sample, interruptions: u64) -> bool {
 fn readers_that_are_interrupted_often(rt: HostRuntime) -> Result<(), Fail> {
     for sample in SAMPLES {
         assert!(rt;
-            is_read_at_length(rt.alloc(), sample, 1_000),
+            is_read_at_length(rt.alloc(), sample, 5_000),
             "{:?}",
             sample.kind
         );
@@ -146,6 +149,8 @@ fn writers_that_fail_once(rt: HostRuntime) -> Result<(), Fail> {
         ErrorKind::Interrupted,
         ErrorKind::BrokenPipe,
         ErrorKind::TimedOut,
+        ErrorKind::WouldBlock,
+        ErrorKind::OutOfMemory,
         ErrorKind::WriteZero,
     ] {
         for sample in SAMPLES {
@@ -203,7 +208,7 @@ fn is_written_at_length(heap: Global, sample: Sample, interruptions: u64) -> boo
 fn writers_that_are_interrupted_often(rt: HostRuntime) -> Result<(), Fail> {
     for sample in SAMPLES {
         assert!(rt;
-            is_written_at_length(rt.alloc(), sample, 1_000),
+            is_written_at_length(rt.alloc(), sample, 5_000),
             "{:?}",
             sample.kind
         );
@@ -211,21 +216,37 @@ fn writers_that_are_interrupted_often(rt: HostRuntime) -> Result<(), Fail> {
     Ok(())
 }
 
-// The length of content of 150,000 bytes, and that content.
-fn long_leaf(heap: Global) -> Option<Vec<u8>> {
+// A length, and content of this many bytes, a multiple of eight.
+fn long_leaf(heap: Global, count: u32) -> Option<Vec<u8>> {
     let mut bytes = Vec::new(heap);
-    TtlvLength::new(150_000).write(&mut bytes).ok()?;
-    bytes.resize(150_004, b'a').ok()?;
+    TtlvLength::new(count).write(&mut bytes).ok()?;
+    bytes.resize((count as usize).saturating_add(4), b'a').ok()?;
     Some(bytes)
 }
 
-// Whether the leaf is read as its content.
+// Whether the leaf is read as its content, and asks for at most three times its bytes in all.
 fn is_read_whole(heap: Global, leaf: &[u8]) -> bool {
+    let memory = BoundedAllocator::in_blocks(heap, usize::MAX);
     let mut rest = leaf;
-    match (&TtlvByteString::read(heap, &mut rest), leaf.get(4..)) {
+    let is_read = match (&TtlvByteString::read(&memory, &mut rest), leaf.get(4..)) {
         (Ok(read), Some(content)) => read.as_slice() == content,
         _ => false,
-    }
+    };
+    is_read && memory.asked() <= leaf.len().saturating_mul(3)
+}
+
+// Whether the leaf's content is written as the leaf, after its type.
+fn is_written_whole(heap: Global, leaf: &[u8]) -> bool {
+    let Ok(content) = Vec::from_slice(heap, leaf.get(4..).unwrap_or(&[])) else {
+        return false;
+    };
+    let mut writer = slow_writer(
+        heap,
+        leaf.len().saturating_add(1),
+        u64::MAX,
+        ErrorKind::Other,
+    );
+    TtlvByteString(content).write(&mut writer).is_ok() && writer.taken.get(1..) == Some(leaf)
 }
 
 // Whether the leaf ends before its content does.
@@ -237,11 +258,15 @@ fn is_cut_leaf(heap: Global, leaf: &[u8]) -> bool {
     )
 }
 
-// Three pieces of a long text are read whole, and a missing byte is noticed.
+// Content of several pieces is read and written whole, and a missing byte is noticed.
 #[test]
-fn a_text_of_several_pieces(rt: HostRuntime) -> Result<(), Fail> {
-    let leaf = long_leaf(rt.alloc()).ok_or("no memory")?;
-    assert!(rt; is_read_whole(rt.alloc(), leaf.as_slice()));
-    assert!(rt; is_cut_leaf(rt.alloc(), leaf.get(..150_003).unwrap_or(&[])));
+fn content_of_several_pieces(rt: HostRuntime) -> Result<(), Fail> {
+    for count in [150_000u32, 3_100_000] {
+        let leaf = long_leaf(rt.alloc(), count).ok_or("no memory")?;
+        let cut = leaf.get(..leaf.len().saturating_sub(1)).unwrap_or(&[]);
+        assert!(rt; is_read_whole(rt.alloc(), &leaf), "{count}");
+        assert!(rt; is_written_whole(rt.alloc(), &leaf), "{count}");
+        assert!(rt; is_cut_leaf(rt.alloc(), cut), "{count}");
+    }
     Ok(())
 }

@@ -192,12 +192,23 @@ fn integer_is_cloned(number: TtlvInteger) -> bool {
     matches!(number.clone(), Ok(copy) if copy == number)
 }
 
+// Whether clones of strings of this many bytes are the same.
+fn strings_are_cloned(heap: Global, len: usize) -> Option<bool> {
+    let mut bytes = Vec::new(heap);
+    bytes.resize(len, b'a').ok()?;
+    let text = str::from_utf8(&bytes).ok()?;
+    Some(
+        is_same(number_is_cloned(heap, &bytes))
+            && is_same(text_is_cloned(heap, text))
+            && is_same(bytes_are_cloned(heap, &bytes)),
+    )
+}
+
 #[test]
 fn clones_are_the_same(rt: HostRuntime) -> Result<(), Fail> {
-    let alloc = rt.alloc();
-    assert!(rt; is_same(number_is_cloned(alloc, b"\x80")));
-    assert!(rt; is_same(text_is_cloned(alloc, "a")));
-    assert!(rt; is_same(bytes_are_cloned(alloc, b"\x01")));
+    for len in (0..=40usize).chain([70_001, 4_000_000]) {
+        assert!(rt; strings_are_cloned(rt.alloc(), len) == Some(true), "{len}");
+    }
     assert!(rt; integer_is_cloned(TtlvInteger(5)));
     Ok(())
 }

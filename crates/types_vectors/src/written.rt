@@ -4,7 +4,7 @@ use kmip_ttlv_items::{FoundItem, walk_items};
 use kmip_ttlv_memory::BoundedAllocator;
 use kmip_ttlv_types::{TtlvTag, TtlvType};
 use kmip_ttlv_write::{BadItem, BadKind, GiveItem, GivenItem, WriteError, write_into, write_items};
-use std::alloc::{Allocator, Global};
+use std::alloc::{AllocError, Global};
 
 // The protocol version 1.0, a structure of two integers, from the standard's worked messages; and the same with padding that
 // is not zero.
@@ -183,4 +183,31 @@ fn is_nested(alloc: Global) -> bool {
 #[test]
 fn structures_nest(rt: HostRuntime) {
     assert!(rt; is_nested(rt.alloc()));
+}
+
+// Whether a structure of so many integers of 1 is written, and asks for no more memory than its bytes.
+fn is_flat(alloc: Global, count: u32) -> Result<bool, AllocError> {
+    let mut items = Vec::from_slice(alloc, &[item(0, 0, 0x42_0069, 1, 0)])?;
+    items.resize(
+        (count as usize).saturating_add(1),
+        item(16, 1, 0x42_006A, 2, 4),
+    )?;
+    let memory = BoundedAllocator::in_blocks(alloc, usize::MAX);
+    let Ok(out) = write_items(&memory, &items, &VALUES) else {
+        return Ok(false);
+    };
+    let length = count.saturating_mul(16);
+    let mut wanted = Vec::from_array(alloc, [0x42, 0, 0x69, 1])?;
+    wanted.extend_from_slice(&length.to_be_bytes())?;
+    for _ in 0..count {
+        wanted.extend_from_slice(b"\x42\0\x6A\x02\0\0\0\x04\0\0\0\x01\0\0\0\0")?;
+    }
+    Ok(out.as_slice() == wanted.as_slice() && memory.asked() <= wanted.len())
+}
+
+#[test]
+fn any_number_of_items(rt: HostRuntime) {
+    for count in (0..=40u32).chain([5_000]) {
+        assert!(rt; is_flat(rt.alloc(), count) == Ok(true), "{count}");
+    }
 }

@@ -1,4 +1,4 @@
-//! The inputs that are measured: such as a sender is free to choose.
+//! Messages of any size, such as a sender is free to choose.
 
 use std::alloc::{AllocError, Global};
 
@@ -40,16 +40,19 @@ pub fn repeated(alloc: Global, count: u32, item: &[u8]) -> Result<Vec<u8>, Alloc
     structure(alloc, items.as_slice())
 }
 
-/// A structure with one byte string of this length, a multiple of eight.
-pub fn long(alloc: Global, length: u32) -> Result<Vec<u8>, AllocError> {
-    let mut item = Vec::from_slice(alloc, &header(0xBB, 8, length))?;
+/// A structure with one item BBBBBB of this type's code and length, each byte of it 61.
+pub fn long(alloc: Global, code: u8, length: u32) -> Result<Vec<u8>, AllocError> {
+    let mut item = Vec::from_slice(alloc, &header(0xBB, code, length))?;
     for _ in 0..length {
         item.push(0x61)?;
+    }
+    for _ in 0..(8 - length % 8) % 8 {
+        item.push(0)?;
     }
     structure(alloc, item.as_slice())
 }
 
-/// This many structures, each within the one before.
+/// This many structures BBBBBB, each within the one before.
 pub fn nested(alloc: Global, count: u32) -> Result<Vec<u8>, AllocError> {
     let mut message = Vec::new(alloc);
     for i in 0..count {

@@ -1,10 +1,9 @@
-//! The shapes that the inputs are decoded by, built from the types of `sample_shapes` that stand for
-//! shapes.
+//! The shapes that the messages of `inputs` are decoded by.
 
-use sample_shapes::names::{
+use crate::names::{
     IfAtLeastOne, IfInteger, IfOtherAtLeastWord, IfStructure, IfText, TagA, TagB, TagC,
 };
-use sample_shapes::parts::{
+use crate::parts::{
     Choice, Content, Maybe, NoFields, NoParts, Number, Octets, OneField, OneVariant, Parts,
     Repeated, Sequence, Structure, Text, Tuple, TwoFields, TwoVariants,
 };
