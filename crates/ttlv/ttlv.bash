@@ -12,9 +12,9 @@ _ttlv() {
     case $command in
     '') options='show diag undiag check hex json from-json --help --version' ;;
     show) options='--redact --secrets --raw --offsets --width --tag --color --names --input --help' ;;
-    diag) options='--prefix --closed --input --help' ;;
+    diag) options='--prefix --closed --unclosed --input --help' ;;
     undiag) options='--prefix --names --help' ;;
-    check) options='--kmip --input --help' ;;
+    check) options='--kmip --allow-empty --input --help' ;;
     hex) options='--input --help' ;;
     json) options='--redact --secrets --input --help' ;;
     from-json) options='--raw --help' ;;

@@ -42,7 +42,13 @@ const GROWN: [(Task<'static>, &str); 6] = [
         },
         VERSION_JSON,
     ),
-    (Task::Check { kmip: false }, ""),
+    (
+        Task::Check {
+            kmip: false,
+            empty: false,
+        },
+        "",
+    ),
 ];
 
 // The outcome of a run, or of all runs of a row.

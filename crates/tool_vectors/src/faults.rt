@@ -254,7 +254,13 @@ fn undecoded_input(rt: HostRuntime) {
 
 // A cut message with each other task: what is printed of it.
 const CUT: [(Task<'static>, &str); 4] = [
-    (Task::Check { kmip: false }, ""),
+    (
+        Task::Check {
+            kmip: false,
+            empty: false,
+        },
+        "",
+    ),
     (Task::Hexadecimal, "42006901\n"),
     (
         Task::Diagnose {
@@ -289,6 +295,39 @@ fn each_task(rt: HostRuntime) {
     }
 }
 
+// Inputs without a message: nothing, white space, armour without digits, and packets that are no dump.
+const EMPTY: [(Encoding, &str); 7] = [
+    (Encoding::Detected, ""),
+    (Encoding::Raw, ""),
+    (Encoding::Detected, " \r\n\t\n"),
+    (Encoding::Hexadecimal, "\u{feff}\n"),
+    (Encoding::Base64, ""),
+    (Encoding::Armoured, "-----BEGIN-----\n-----END-----\n"),
+    (
+        Encoding::Packets,
+        "22:13:20.000005 IP 10.0.0.1 > 10.0.0.2\n",
+    ),
+];
+
+fn lacks_messages(alloc: Global, row: (Encoding, &str)) -> bool {
+    let (encoding, input) = row;
+    let task = Task::Check {
+        kmip: false,
+        empty: false,
+    };
+    match run_with(alloc, alloc, task, encoding, input.as_bytes()) {
+        Ok(outcome) => outcome.is(1, "", "capture: no message\n"),
+        Err(AllocError) => false,
+    }
+}
+
+#[test]
+fn inputs_without_a_message(rt: HostRuntime) {
+    for row in EMPTY {
+        assert!(rt; lacks_messages(rt.alloc(), row), "{row:?}");
+    }
+}
+
 // An input that is checked to be KMIP messages, the status, and the error line.
 const KMIP: [(&str, u8, &str); 5] = [
     (CREATE_RESPONSE, 0, ""),
@@ -314,7 +353,10 @@ const KMIP: [(&str, u8, &str); 5] = [
 
 fn is_judged(alloc: Global, row: (&str, u8, &str)) -> bool {
     let (input, status, line) = row;
-    let task = Task::Check { kmip: true };
+    let task = Task::Check {
+        kmip: true,
+        empty: false,
+    };
     match run_with(alloc, alloc, task, Encoding::Detected, input.as_bytes()) {
         Ok(outcome) => outcome.is(status, "", line),
         Err(AllocError) => false,

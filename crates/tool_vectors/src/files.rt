@@ -1,6 +1,7 @@
 //! Runs over several inputs: their order, the greatest status, and one error line for each bad file.
 
 use crate::runs::{Outcome, VERSION, of};
+use kmip_ttlv_memory::BoundedAllocator;
 use kmip_ttlv_names::{
     STANDARD_TAGS, TableError, own_names, standard_masks, standard_secrets, standard_values,
 };
@@ -10,7 +11,7 @@ use std::io::{ErrorKind, Read};
 use ttlv_run::files::{Opener, run_files};
 use ttlv_run::progress::Progress;
 use ttlv_run::table::own_table;
-use ttlv_run::{Asked, Encoding, Look, Names, Task, Values};
+use ttlv_run::{Asked, Encoding, Look, Memory, Names, Task, Values};
 
 // An input in memory, which may fail in place of its end.
 #[derive(Drop)]
@@ -27,6 +28,10 @@ impl Read for Held {
         self.bytes.read(buf)
     }
 }
+
+// Seventeen structures, one in the other.
+const DEEP: &str =
+    "42006901000000804200690100000078420069010000007042006901000000684200690100000060420069010000005842006901000000504200690100000048420069010000004042006901000000384200690100000030420069010000002842006901000000204200690100000018420069010000001042006901000000084200690100000000";
 
 // Inputs by name; any other name can't be opened.
 #[derive(Drop)]
@@ -45,6 +50,9 @@ impl Opener for Folder {
             "empty" => (b"".as_slice(), false),
             "text" => (b"hello".as_slice(), false),
             "failing" => (b"42".as_slice(), true),
+            "cut\n\u{1b}[31m\u{202e}" => (b"420069010000000042006901".as_slice(), false),
+            "deep" => (DEEP.as_bytes(), false),
+            "text\t\u{200b}" => (b"hello".as_slice(), false),
             _ => return None,
         };
         Some(Held { bytes, fails })
@@ -55,7 +63,7 @@ impl Opener for Folder {
 type Row = (&'static [&'static str], u8, &'static str, &'static str);
 
 // The hexadecimal lines of the version, of the two messages, and of the one before the cut.
-const ROWS: [Row; 10] = [
+const ROWS: [Row; 13] = [
     (
         &["whole"],
         0,
@@ -115,10 +123,37 @@ const ROWS: [Row; 10] = [
         "4200690100000000\n42006901\n",
         "cut: byte 8: Protocol Version (0x420069): the input ends within the message\nnone: it can't be opened\n",
     ),
+    // A name stays in its line, and sends a terminal nothing.
+    (
+        &["a\nb\u{1b}[31m\\"],
+        2,
+        "",
+        "a\\nb\\u{1b}[31m\\\\: it can't be opened\n",
+    ),
+    (
+        &["cut\n\u{1b}[31m\u{202e}"],
+        1,
+        "4200690100000000\n42006901\n",
+        "cut\\n\\u{1b}[31m\\u{202e}: byte 8: Protocol Version (0x420069): the input ends within the message\n",
+    ),
+    (
+        &["text\t\u{200b}"],
+        2,
+        "",
+        "text\\t\\u{200b}: taken as base64: byte 5: digits are missing at the end, or too many are there (--input)\n",
+    ),
 ];
 
 const HEXADECIMAL: Asked<'static> = Asked::Print {
     task: Task::Hexadecimal,
+    encoding: Encoding::Detected,
+};
+
+const CHECK: Asked<'static> = Asked::Print {
+    task: Task::Check {
+        kmip: false,
+        empty: false,
+    },
     encoding: Encoding::Detected,
 };
 
@@ -186,7 +221,7 @@ impl io::Write for Full {
     }
 }
 
-// After a file with status 3 no other is read.
+// Behind an output that fails no other file is read.
 fn stops_at_three(alloc: Global) -> Result<bool, TableError> {
     let own = own_names(alloc, STANDARD_TAGS)?;
     let values = standard_values(alloc)?;
@@ -217,6 +252,46 @@ fn stops_at_three(alloc: Global) -> Result<bool, TableError> {
 #[test]
 fn an_output_that_fails_ends_it(rt: HostRuntime) {
     assert!(rt; matches!(stops_at_three(rt.alloc()), Ok(true)));
+}
+
+// A file that is nested too deep for the memory there is has its line, and those behind it are read.
+fn goes_on_behind_no_memory(alloc: Global) -> Result<bool, TableError> {
+    let wide = BoundedAllocator::in_blocks(alloc, 1_048_576);
+    let narrow = BoundedAllocator::in_blocks(alloc, 64);
+    let own = own_names(&wide, STANDARD_TAGS)?;
+    let values = standard_values(&wide)?;
+    let masks = standard_masks(&wide)?;
+    let secrets = standard_secrets(&wide)?;
+    let names = Names {
+        tags: own.tags,
+        values,
+        masks,
+        own: own.values,
+        secrets,
+    };
+    let memory = Memory {
+        input: alloc,
+        rest: &narrow,
+    };
+    let files = ["deep", "two", "deep", "none"];
+    let mut output = Vec::new(alloc);
+    let mut errors = Vec::new(alloc);
+    let status = run_files(
+        memory,
+        CHECK,
+        &names,
+        &files,
+        &mut Folder,
+        &mut output,
+        &mut errors,
+    );
+    let lines = b"deep: out of memory\ndeep: out of memory\nnone: it can't be opened\n";
+    Ok(status == 3 && errors.as_slice() == lines.as_slice())
+}
+
+#[test]
+fn a_file_without_memory_does_not_end_it(rt: HostRuntime) {
+    assert!(rt; matches!(goes_on_behind_no_memory(rt.alloc()), Ok(true)));
 }
 
 // A table, the result of reading it, and the error line.
@@ -257,6 +332,15 @@ const TABLES: [(&[u8], Result<&str, u8>, &str); 9] = [
     (&[0x35, 0xFF], Err(2), "names: it is not UTF-8\n"),
 ];
 
+// The same, of a name with a line feed and a mark of direction.
+fn table_name_is_escaped(alloc: Global) -> bool {
+    let mut input = b"nothing\n".as_slice();
+    let mut errors = Vec::new(alloc);
+    let read = own_table(alloc, "", "a\n\u{2066}", &mut input, &mut errors);
+    let line = b"a\\n\\u{2066}: line 1 names no tag\n";
+    matches!(read, Err(2)) && errors.as_slice() == line.as_slice()
+}
+
 fn reads_table(alloc: Global, row: (&[u8], Result<&str, u8>, &str)) -> bool {
     let (bytes, answer, line) = row;
     let mut input = bytes;
@@ -275,6 +359,7 @@ fn tables_of_names(rt: HostRuntime) {
     for row in TABLES {
         assert!(rt; reads_table(rt.alloc(), row), "{row:?}");
     }
+    assert!(rt; table_name_is_escaped(rt.alloc()));
     let mut failing = Held {
         bytes: b"540001 Own",
         fails: true,

@@ -91,7 +91,10 @@ fn growths(alloc: Global, encoding: Encoding, input: &str) -> Result<u64, AllocE
     let names = names_in(alloc)?;
     let job = Job {
         name: "capture",
-        task: Task::Check { kmip: false },
+        task: Task::Check {
+            kmip: false,
+            empty: false,
+        },
         encoding,
     };
     for before in 0..100u64 {
@@ -148,7 +151,10 @@ fn nested_status(alloc: Global, depth: u32, most: usize) -> Result<u8, AllocErro
     let names = names_in(&small)?;
     let job = Job {
         name: "capture",
-        task: Task::Check { kmip: false },
+        task: Task::Check {
+            kmip: false,
+            empty: false,
+        },
         encoding: Encoding::Hexadecimal,
     };
     let memory = Memory {

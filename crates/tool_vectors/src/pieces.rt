@@ -280,7 +280,10 @@ fn long_status(alloc: Global, length: u32, most: usize) -> Result<u8, AllocError
     let one = long_message(alloc, length, 0)?;
     let all = times(alloc, one.as_slice(), 3)?;
     let heap = BoundedAllocator::in_blocks(alloc, most);
-    let task = Task::Check { kmip: false };
+    let task = Task::Check {
+        kmip: false,
+        empty: false,
+    };
     let (outcome, _) = run_slow(
         &heap,
         alloc,
@@ -297,7 +300,10 @@ fn long_status(alloc: Global, length: u32, most: usize) -> Result<u8, AllocError
 fn claimed_status(alloc: Global, most: usize) -> Result<u8, AllocError> {
     let bytes = [0x42, 0x00, 0x69, 0x01, 0xFF, 0xFF, 0xFF, 0xF0, 0x42];
     let heap = BoundedAllocator::in_blocks(alloc, most);
-    let task = Task::Check { kmip: false };
+    let task = Task::Check {
+        kmip: false,
+        empty: false,
+    };
     let (outcome, _) = run_slow(
         &heap,
         alloc,

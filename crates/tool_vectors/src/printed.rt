@@ -50,7 +50,7 @@ const CLOSED: Task<'static> = Task::Diagnose {
     prefix: "4200",
 };
 
-const PRINTED: [Row; 23] = [
+const PRINTED: [Row; 27] = [
     (SHOW, Encoding::Detected, VERSION, VERSION_LINES),
     (SHOW, Encoding::Hexadecimal, VERSION, VERSION_LINES),
     (SHOW, Encoding::Detected, VERSION_BASE64, VERSION_LINES),
@@ -66,7 +66,15 @@ const PRINTED: [Row; 23] = [
     (PREFIXED, Encoding::Detected, VERSION, "69[6Ai6Bi]\n"),
     (PREFIXED, Encoding::Detected, "4200690100000000", "69[ERR\n"),
     (CLOSED, Encoding::Detected, "4200690100000000", "69[]\n"),
-    (Task::Check { kmip: false }, Encoding::Detected, VERSION, ""),
+    (
+        Task::Check {
+            kmip: false,
+            empty: false,
+        },
+        Encoding::Detected,
+        VERSION,
+        "",
+    ),
     (
         Task::Hexadecimal,
         Encoding::Detected,
@@ -114,12 +122,47 @@ const PRINTED: [Row; 23] = [
         HOSTILE,
         "Tag: Unique Identifier (0x420094), Type: Structure (0x01), Data:\n  Tag: Unique Identifier (0x420094), Type: TextString (0x07), Data: <redacted>\n",
     ),
+    // Characters that can't be seen, which change the order, the lines or the look of those around; and their neighbours, which
+    // stay as they are.
+    (
+        SHOW,
+        Encoding::Detected,
+        UNSEEN,
+        "Tag: Unique Identifier (0x420094), Type: Structure (0x01), Data:\n  Tag: Unique Identifier (0x420094), Type: TextString (0x07), Data: \\u{ad}\\u{34f}\\u{61c}\\u{115f}\\u{1160}\\u{17b4}\\u{17b5}\\u{180b}\\u{180f}\\u{200b}\\u{200f}\\u{2028}\\u{2029}\\u{202a}\\u{202e}\\u{2060}\\u{2066}\\u{2069}\\u{206f}\\u{3164}\\u{fe00}\\u{fe0f}\\u{feff}\\u{ffa0}\\u{fff0}\\u{fffb}\\u{1bca0}\\u{1bca3}\\u{1d173}\\u{1d17a}\\u{e0000}\\u{e0041}\\u{e0fff}\n",
+    ),
+    (
+        SHOW,
+        Encoding::Detected,
+        SEEN,
+        "Tag: Unique Identifier (0x420094), Type: Structure (0x01), Data:\n  Tag: Unique Identifier (0x420094), Type: TextString (0x07), Data: \u{ac}\u{ae}\u{350}\u{61b}\u{115e}\u{1161}\u{17b6}\u{180a}\u{200a}\u{2010}\u{2027}\u{202f}\u{205f}\u{2070}\u{3165}\u{fdff}\u{fe10}\u{ff9f}\u{ffa1}\u{ffef}\u{fffc}\u{1bca4}\u{1d172}\u{1d17b}\u{dffff}\u{e1000}\n",
+    ),
     // No message.
     (SHOW, Encoding::Detected, "", ""),
     (SHOW, Encoding::Detected, " \n", ""),
     (SHOW, Encoding::Base64, "", ""),
-    (Task::Check { kmip: false }, Encoding::Raw, "", ""),
+    (ANY_CHECK, Encoding::Raw, "", ""),
+    (ANY_CHECK, Encoding::Detected, "", ""),
+    (
+        ANY_CHECK,
+        Encoding::Armoured,
+        "-----BEGIN-----\n-----END-----\n",
+        "",
+    ),
 ];
+
+// A check that takes an input without a message, too.
+const ANY_CHECK: Task<'static> = Task::Check {
+    kmip: false,
+    empty: true,
+};
+
+// Each of those that can't be seen, or the first and the last of a range.
+const UNSEEN: &str =
+    "42009401000000704200940700000067C2ADCD8FD89CE1859FE185A0E19EB4E19EB5E1A08BE1A08FE2808BE2808FE280A8E280A9E280AAE280AEE281A0E281A6E281A9E281AFE385A4EFB880EFB88FEFBBBFEFBEA0EFBFB0EFBFBBF09BB2A0F09BB2A3F09D85B3F09D85BAF3A08080F3A08181F3A0BFBF00";
+
+// The characters beside them.
+const SEEN: &str =
+    "4200940100000058420094070000004FC2ACC2AECD90D89BE1859EE185A1E19EB6E1A08AE2808AE28090E280A7E280AFE2819FE281B0E385A5EFB7BFEFB890EFBE9FEFBEA1EFBFAFEFBFBCF09BB2A4F09D85B2F09D85BBF39FBFBFF3A1808000";
 
 fn prints(alloc: Global, row: Row) -> bool {
     let (task, encoding, input, text) = row;

@@ -7,7 +7,7 @@ use ttlv_words::request_of;
 // Arguments, what they ask for, the file of names, and how many files are read.
 type Row = (&'static str, Asked<'static>, Option<&'static str>, usize);
 
-const ASKED: [Row; 21] = [
+const ASKED: [Row; 23] = [
     ("ttlv from-json", Asked::FromJson { raw: false }, None, 0),
     (
         "ttlv from-json --raw a b",
@@ -112,14 +112,39 @@ const ASKED: [Row; 21] = [
         None,
         1,
     ),
+    // Empty structures are closed, if it isn't asked that they aren't.
     (
         "ttlv diag --input=raw",
+        Asked::Print {
+            task: Task::Diagnose {
+                closed: true,
+                prefix: "",
+            },
+            encoding: Encoding::Raw,
+        },
+        None,
+        0,
+    ),
+    (
+        "ttlv diag --unclosed",
         Asked::Print {
             task: Task::Diagnose {
                 closed: false,
                 prefix: "",
             },
-            encoding: Encoding::Raw,
+            encoding: Encoding::Detected,
+        },
+        None,
+        0,
+    ),
+    (
+        "ttlv check --allow-empty --kmip",
+        Asked::Print {
+            task: Task::Check {
+                kmip: true,
+                empty: true,
+            },
+            encoding: Encoding::Detected,
         },
         None,
         0,
@@ -134,7 +159,10 @@ const ASKED: [Row; 21] = [
     (
         "ttlv check --input hex a b c",
         Asked::Print {
-            task: Task::Check { kmip: false },
+            task: Task::Check {
+                kmip: false,
+                empty: false,
+            },
             encoding: Encoding::Hexadecimal,
         },
         None,
@@ -143,7 +171,10 @@ const ASKED: [Row; 21] = [
     (
         "ttlv check --kmip a",
         Asked::Print {
-            task: Task::Check { kmip: true },
+            task: Task::Check {
+                kmip: true,
+                empty: false,
+            },
             encoding: Encoding::Detected,
         },
         None,
@@ -161,7 +192,10 @@ const ASKED: [Row; 21] = [
     (
         "ttlv check --input base64url",
         Asked::Print {
-            task: Task::Check { kmip: false },
+            task: Task::Check {
+                kmip: false,
+                empty: false,
+            },
             encoding: Encoding::Base64Url,
         },
         None,
@@ -170,7 +204,10 @@ const ASKED: [Row; 21] = [
     (
         "ttlv check --input pem",
         Asked::Print {
-            task: Task::Check { kmip: false },
+            task: Task::Check {
+                kmip: false,
+                empty: false,
+            },
             encoding: Encoding::Armoured,
         },
         None,
@@ -179,7 +216,10 @@ const ASKED: [Row; 21] = [
     (
         "ttlv check --input od",
         Asked::Print {
-            task: Task::Check { kmip: false },
+            task: Task::Check {
+                kmip: false,
+                empty: false,
+            },
             encoding: Encoding::Dump,
         },
         None,
@@ -188,7 +228,10 @@ const ASKED: [Row; 21] = [
     (
         "ttlv check --input tcpdump",
         Asked::Print {
-            task: Task::Check { kmip: false },
+            task: Task::Check {
+                kmip: false,
+                empty: false,
+            },
             encoding: Encoding::Packets,
         },
         None,

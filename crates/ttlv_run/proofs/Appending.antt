@@ -1,7 +1,8 @@
 -- Texts that are written one behind the other.
-use Rattle.std.proofs.Common.{ℕ, List, Option, Result, Ok, Err, OnOk, OnErr, Bool, true, false, length, sym, subst, take_all, le_refl}
+use Rattle.std.proofs.Common.{◌≡◌, is_ok, ℕ, List, Option, Result, Ok, Err, OnOk, OnErr, Bool, true, false, length, sym, subst, take_all, le_refl}
 use Rattle.std.specs.Io.KnownBytes.{Appends}
 use Rattle.kmip_ttlv_types.specs.Streams.{AppendsFront}
+use Rattle.kmip_ttlv_util.specs.Pieces.{WritesText}
 use Rattle.ttlv_run.specs.Reasons.{Reports}
 
 -- a text that was written to its end is a beginning of itself
@@ -22,3 +23,11 @@ pub sent_front : {T E : Type 0} (r : Result T E) (old new : Option (List ℕ)) (
     → OnErr r (AppendsFront old new text) → AppendsFront old new text
 sent_front (Ok x) old new text all some = all_front old new text all
 sent_front (Err e) old new text all some = some
+
+-- a text that a writer got in pieces, to its end or not
+pub written_reports : {T E : Type 0} (r : Result T E) (said : Bool) (old new : Option (List ℕ)) (text : List ℕ) → said ≡ is_ok r
+    → WritesText (λ t. t ≡ text) old new r → Reports said old new text
+written_reports (Ok x) said old new text says w =
+    subst (λ (b : Bool). Reports b old new text) (sym says) (subst (Appends old new) w.is w.holds)
+written_reports (Err e) said old new text says w =
+    subst (λ (b : Bool). Reports b old new text) (sym says) (subst (AppendsFront old new) w.is w.holds)

@@ -7,6 +7,7 @@ use Rattle.kmip_ttlv_types.specs.Streams.{AppendsFront}
 use Rattle.ttlv_run.specs.{declared.job.Job.Job, declared.run_error.RunError.RunError, declared.job.BackJob.BackJob, declared.misread.Misread.Misread}
 use Rattle.ttlv_run.specs.{Inputs.IsUnread, Reasons.IsOfPrinting, Reasons.Reports, Texts.Names}
 use Rattle.ttlv_run.specs.declared.run_error.RunError.TheVariants.{UnreadableInput, UnwritableOutput, ClosedPipe, NoMemory}
+use Rattle.ttlv_run.specs.Escapes.{escaped}
 use Rattle.ttlv_run.specs.Misreadings.{encoding_words, with_kind, line_end, misread_line}
 use Rattle.ttlv_run.specs.Runs.{Streams, Unwritten, Fails, UnwrittenBack, FailsBack}
 
@@ -57,5 +58,5 @@ unread_by P why h read memory = absurd h
 pub misread_is : (name words digits end : List ℕ) (m : Misread) → words ≡ encoding_words m.taken
     → digits ≡ decimal m.offset
     → end ≡ line_end m.guessed
-    → with_kind (name ++ codes ": taken as " ++ words ++ codes ": byte " ++ digits) m.kind ++ end ≡ misread_line name m
+    → with_kind (escaped name ++ codes ": taken as " ++ words ++ codes ": byte " ++ digits) m.kind ++ end ≡ misread_line name m
 misread_is name words digits end m w d e = rw (w, d, e) refl

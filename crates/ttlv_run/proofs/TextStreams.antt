@@ -14,12 +14,12 @@ use Rattle.ttlv_run.specs.Columns.{first_part, mark_length, body, Reads, begins,
 use Rattle.ttlv_run.specs.Decoding.{one_or_none, Reading, StuckBy, Stuck, AllBytes, Grows, DecodesLast, DecodesMore, is_last}
 use Rattle.ttlv_run.specs.Fronts.{front_size, taken_as, ReadsBytes, DecodesTo, StandsFrontIn}
 use Rattle.ttlv_run.specs.Inputs.{TakesSome, IsUnread, IsMisread, form_of, is_detected, encoding_of, StandsIn, Stands}
-use Rattle.ttlv_run.specs.Runs.{Printed, FrontsIn, Fails}
+use Rattle.ttlv_run.specs.Runs.{FrontsIn, Fails}
 use Rattle.ttlv_run.specs.Streaming.{EndsAt, PrintsOn, YieldsBy}
 use Rattle.ttlv_run.specs.Texts.{Names}
 use Rattle.ttlv_run.proofs.{Decided.unread_by, Decoders.holds_bytes}
 use Rattle.ttlv_run.proofs.FrontsDecided.{Decided, either_by, decided_on, four_least, body_on, taken_is}
-use Rattle.ttlv_run.proofs.Windows.{Left, left_of, Shown, Standing, Further, more_shown, printed_all, fronts, no_memory}
+use Rattle.ttlv_run.proofs.Windows.{Left, left_of, Shown, AllPrinted, Standing, Further, more_shown, printed_all, fronts, no_memory}
 
 -- what is left of a text that is read stands at its end
 pub rest_behind : (form : Form) (first : LinePart) (s ds : List ℕ) (part : LinePart) (rest : List ℕ) → Reads form first s ds part rest → (front : List ℕ)
@@ -328,7 +328,7 @@ module _ {names : Names} {job : Job} {form : Form} {known now output mid : Optio
   -- all is printed
   pub text_printed : {new : Option (List ℕ)} {last : Bool} {reached : Reached} {count : ℕ} → last ≡ is_last ended wrong → wrong ≡ None → ended ≡ true
       → reached ≡ Behind count → EndsAt bytes last reached → SomeText (PrintsOn names job.task base bytes last reached) (Appends mid new)
-      → Printed names job (record { input = known; input_left = now; output = output; output_now = new })
+      → AllPrinted names job (record { input = known; input_left = now; output = output; output_now = new }) (base + count)
   text_printed last_is is end at ends reported =
       let all : AllBytes form r.s r.all = subst (λ (f : Form). AllBytes f r.s r.all) r.form_is (last_decoded is end) in
       printed_all r.shown reported at ends (last_is ∙ ap (is_last ended) is ∙ end) (record { taken = r.input.consumed; ended = r.input.at_end end })

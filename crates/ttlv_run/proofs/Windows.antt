@@ -1,22 +1,23 @@
 -- Messages among bytes that stand among those of all messages, and an input that comes piece by piece.
 use Rattle.std.proofs.Common.{◌≡◌, ◌⊎◌, inl, inr, ℕ, ◌+◌, ◌-◌, ◌<◌, ◌≤◌, Bool, true, false, ◌&&◌, if◌then◌else◌, List, [], ◌++◌, length, take, drop, take-add}
-use Rattle.std.proofs.Common.{get_or, Some, None, Option, IfSome, ap, sym, refl, subst, ◌∙◌, arith, append-nil, append_assoc, nat_eq}
+use Rattle.std.proofs.Common.{get_or, Some, None, Option, Ok, Err, ◌==◌, IfSome, ap, sym, refl, subst, ◌∙◌, arith, append-nil, append_assoc, nat_eq}
 use Rattle.std.specs.Prelude.{◌||◌, nat_le, nat_lt}
 use Rattle.std.specs.Io.KnownBytes.{Appends, Consumes, IsAtEnd, Keeps}
 use Rattle.std.proofs.KnownBytes.{Appends-nil, Appends-trans, Consumes-trans, Consumes-kept}
 use Rattle.std.proofs.lemmas.Bool.{cases_lt, or_cases, eqb-true, leb-true, le-leb, ltb-true, le-ltb, and_parts}
 use Rattle.std.proofs.lemmas.List.{take-append-drop, get_or-take, get_or-drop, get_or_past, get_or_append_left, get_or-append_right, take-append-le}
-use Rattle.std.proofs.lemmas.List.{drop-append-le, length-append, length-drop, length-take-le, drop-drop}
+use Rattle.std.proofs.lemmas.List.{drop-append-le, nil_from_length, length-append, length-drop, length-take-le, drop-drop}
 use Rattle.kmip_ttlv_types.specs.{Places.length_at, Streams.AppendsFront}
 use Rattle.kmip_ttlv_types.proofs.Taken.{AppendsFront-second}
 use Rattle.kmip_ttlv_items.specs.{declared.found.Fault.Fault, ItemWalks.AreBytes}
 use Rattle.kmip_ttlv_util.specs.Pieces.{SomeText}
 use Rattle.ttlv_run.specs.declared.{form.Form.Form, job.Encoding.Encoding, job.Job.Job, job.Task.Task, messages.Place.Place, messages.Reached.Reached}
 use Rattle.ttlv_run.specs.declared.{messages.Reached.TheVariants.Behind, messages.Reached.TheVariants.Fault as AtFault, run_error.RunError.RunError}
+use Rattle.ttlv_run.specs.declared.run_error.RunError.TheVariants.{NoMessage}
 use Rattle.ttlv_run.specs.Fronts.{front_size, StandsFrontIn, StandsUpTo}
 use Rattle.ttlv_run.specs.Inputs.{TakesAll, TakesSome, IsUnread, form_of, encoding_of, StandsIn, Stands}
-use Rattle.ttlv_run.specs.Messages.{is_there, first_size, message_at, is_taken, Whole, whole_none, whole_more, IsWrong, Continues}
-use Rattle.ttlv_run.specs.Runs.{Printed, Faults, Unwritten, Fronts, Fails}
+use Rattle.ttlv_run.specs.Messages.{is_there, first_size, message_at, is_taken, wants_message, Whole, whole_none, whole_more, IsWrong, Continues}
+use Rattle.ttlv_run.specs.Runs.{Streams, HasText, Places, Faults, Unwritten, Fronts, Fails}
 use Rattle.ttlv_run.specs.Streaming.{is_due, StandsAt, EndsAt, PrintsUpTo, PrintsOn, ContinuesBehind, Yields, YieldsBy}
 use Rattle.ttlv_run.specs.Texts.{Names, IsMessageText}
 use Rattle.ttlv_run.proofs.{Appending.all_front, Completion.whole_goes, Completion.goes_behind, Decided.unread_by}
@@ -302,6 +303,41 @@ module _ {names : Names} {task : Task} {output mid : Option (List ℕ)} {base : 
           none = front.1;
         }
 
+-- the whole input was taken, all its messages are whole, and what is printed of them was appended; they take so many bytes
+pub record AllPrinted (names : Names) (job : Job) (s : Streams) (count : ℕ) : Type 0 where
+  pub input : List ℕ
+  pub text : List ℕ
+  pub taken : TakesAll s.input s.input_left input
+  pub has : HasText names job input text None
+  pub appended : Appends s.output s.output_now text
+  pub long : length has.bytes ≡ count
+
+-- nothing is printed of no bytes
+no_text : {names : Names} {task : Task} {bytes text : List ℕ} {p : ℕ} → Whole names task bytes p text → length bytes ≡ 0 → text ≡ []
+no_text whole_none none = refl
+no_text (whole_more p q old new reported before lt tells taken is at) none = absurd (omega (arith, lt, none))
+
+-- whether there is a message, if the task wants one
+pub behind_places : {names : Names} {job : Job} {s : Streams} {count : ℕ} → AllPrinted names job s count → (b : Bool)
+    → (wants_message job.task && count == 0) ≡ b → Places names job s (if b then Err NoMessage else Ok None)
+behind_places {job = job} {s} {count} a true e =
+    let none : length a.has.bytes ≡ 0 = a.long ∙ eqb-true count 0 (and_parts (wants_message job.task) (count == 0) e).1 in
+    record {
+      input = a.input;
+      taken = a.taken;
+      stands = subst (Stands job.encoding a.input) (nil_from_length a.has.bytes none) a.has.stands;
+      wants = (and_parts (wants_message job.task) (count == 0) e).0;
+      appended = subst (Appends s.output s.output_now) (no_text a.has.prints none) a.appended;
+    }
+behind_places {job = job} a false e = record {
+  input = a.input;
+  text = a.text;
+  taken = a.taken;
+  has = a.has;
+  some = ap (λ (n : ℕ). wants_message job.task && n == 0) a.long ∙ e;
+  appended = a.appended;
+}
+
 module _ {names : Names} {job : Job} {output mid : Option (List ℕ)} {base : ℕ} {came bytes : List ℕ} (p : Shown names job.task output mid base came bytes)
   where
     module _ {last : Bool} {reached : Reached} {now known left : Option (List ℕ)}
@@ -310,7 +346,7 @@ module _ {names : Names} {job : Job} {output mid : Option (List ℕ)} {base : �
         -- whole messages, and all is printed
         pub printed_all : {count : ℕ} {input : List ℕ} → reached ≡ Behind count → EndsAt bytes last reached → last ≡ true → TakesAll known left input
             → Stands job.encoding input came
-            → Printed names job (record { input = known; input_left = left; output = output; output_now = now })
+            → AllPrinted names job (record { input = known; input_left = left; output = output; output_now = now }) (base + count)
         printed_all {count} {input} is ends end taken stands_for =
             let all : count ≡ length bytes = subst (λ (b : Bool). EndsAt bytes b (Behind count)) end (subst (EndsAt bytes last) is ends) in
             let text = p.text ++ reported.text in
@@ -327,6 +363,7 @@ module _ {names : Names} {job : Job} {output mid : Option (List ℕ)} {base : �
                 prints = subst (λ (s : List ℕ). Whole names job.task s (length came) text) (append-nil came) whole;
               };
               appended = printed_to p reached now reported;
+              long = omega (arith, all, shown_long p);
             }
 
         -- a fault
@@ -429,7 +466,7 @@ module _ {names : Names} {job : Job} {known now output mid : Option (List ℕ)} 
   -- whole messages, and all is printed
   pub printed : {output_now : Option (List ℕ)} {reached : Reached} {count : ℕ} → reached ≡ Behind count → EndsAt bytes ended reached → ended ≡ true
       → SomeText (PrintsOn names job.task base bytes ended reached) (Appends mid output_now)
-      → Printed names job (record { input = known; input_left = now; output = output; output_now = output_now })
+      → AllPrinted names job (record { input = known; input_left = now; output = output; output_now = output_now }) (base + count)
   printed is ends end reported = printed_all p.shown reported is ends end (record { taken = p.input.consumed; ended = p.input.at_end end })
       (raw_stands job.encoding p.came p.input.raw)
 

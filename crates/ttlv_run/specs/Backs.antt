@@ -10,6 +10,7 @@ use Rattle.ttlv_run.specs.declared.back.BackFaultKind.{BackFaultKind}
 use Rattle.ttlv_run.specs.declared.back.BackFaultKind.TheVariants.{NoPart, LeftOpen}
 use Rattle.ttlv_run.specs.declared.back.BackReached.{BackReached}
 use Rattle.ttlv_run.specs.declared.back.BackReached.TheVariants.{Behind, NoText}
+use Rattle.ttlv_run.specs.Escapes.{escaped}
 use Rattle.ttlv_run.specs.Texts.{text_back}
 
 -- a line is diagnostics from its first character to its last, but for white space at its end: its parts stand one
@@ -133,4 +134,4 @@ back_words LeftOpen = codes "a structure is not closed"
 -- the line on standard error: what the input is called, the offset in it and what is wrong
 abbrev pub back_line : List ℕ → BackFault → List ℕ
 back_line name fault =
-    name ++ codes ": byte " ++ decimal fault.offset ++ codes ": " ++ back_words fault.kind ++ codes "\n"
+    escaped name ++ codes ": byte " ++ decimal fault.offset ++ codes ": " ++ back_words fault.kind ++ codes "\n"

@@ -1,7 +1,7 @@
 -- What is done with several inputs, one after the other.
 use Rattle.std.specs.Borrow.{Bor}
-use Rattle.std.specs.Prelude.{◌≡◌, ◌≢◌, ◌⊎◌, ℕ, ◌≤◌, List, [], ◌∷◌, ◌++◌, length, take, nat_lt, if◌then◌else◌}
-use Rattle.std.specs.Prelude.{Option, Some, None}
+use Rattle.std.specs.Prelude.{◌≡◌, ◌⊎◌, ℕ, ◌≤◌, Bool, true, false, List, [], ◌∷◌, ◌++◌, length, take, nat_lt, if◌then◌else◌}
+use Rattle.std.specs.Prelude.{Option, Some, None, Result, Ok, Err}
 use Rattle.std.specs.Io.KnownBytes.{Keeps}
 use Rattle.kmip_ttlv_types.specs.Streams.{AppendsFront}
 use Rattle.ttlv_run.specs.declared.job.Asked.{Asked}
@@ -9,19 +9,20 @@ use Rattle.ttlv_run.specs.declared.job.Asked.TheVariants.{Print, ReadBack, FromJ
 use Rattle.ttlv_run.specs.declared.job.BackJob.{BackJob}
 use Rattle.ttlv_run.specs.declared.job.Job.{Job}
 use Rattle.ttlv_run.specs.declared.job.JsonJob.{JsonJob}
-use Rattle.ttlv_run.specs.declared.run_error.RunError.TheVariants.{UnopenedInput}
-use Rattle.ttlv_run.specs.JsonLines.{PrintedJson, MalformedJson, AbortedJson}
-use Rattle.ttlv_run.specs.Reasons.{error_line}
-use Rattle.ttlv_run.specs.Runs.{Streams, Printed, Malformed, Aborted, PrintedBack, MalformedBack, AbortedBack}
+use Rattle.ttlv_run.specs.declared.run_error.RunError.{RunError}
+use Rattle.ttlv_run.specs.declared.run_error.RunError.TheVariants.{UnopenedInput, UnwritableOutput, ClosedPipe}
+use Rattle.ttlv_run.specs.JsonLines.{PrintedJson, MalformedJson, AbortedJson, JsonEnds}
+use Rattle.ttlv_run.specs.Reasons.{status_in, error_line}
+use Rattle.ttlv_run.specs.Runs.{Streams, Printed, Malformed, Lacking, Aborted, RunEnds, PrintedBack, MalformedBack, AbortedBack, BackEnds}
 use Rattle.ttlv_run.specs.Texts.{Names}
 
--- what a run has done that ended with a status: 0 where all is whole, 1 where a message is malformed, 2 and 3 for a
--- reason
+-- what a run has done that ended with a status: 0 where all is whole, 1 where a message is malformed or none is there, 2 and 3
+-- for a reason
 pub record PrintDone
     (names : Names) (job : Job) (s : Streams) (errors errors_now : Option (List ℕ)) (status : ℕ) : Type 0 where
   pub known : status ≤ 3
   pub printed : status ≡ 0 → Printed names job s × Keeps errors errors_now
-  pub malformed : status ≡ 1 → Malformed names job s errors errors_now
+  pub malformed : status ≡ 1 → Malformed names job s errors errors_now ⊎ Lacking job s errors errors_now
   pub refused : (status ≡ 2) ⊎ (status ≡ 3) → Aborted names job s status errors errors_now
 
 -- the same of diagnostics that are read back
@@ -49,6 +50,16 @@ IsDone names (ReadBack prefix) name s errors errors_now status =
 IsDone names (FromJson raw) name s errors errors_now status =
     JsonDone (record { name = name; raw = raw }) s errors errors_now status
 
+-- the same, by whether all of the input is whole, or why not all of it was printed
+abbrev pub IsEnded :
+    Names → Asked → Bor (List ℕ) → Streams → Option (List ℕ) → Option (List ℕ) → Result Bool RunError → Type 0
+IsEnded names (Print task encoding) name s errors errors_now outcome =
+    RunEnds names (record { name = name; task = task; encoding = encoding }) s errors errors_now outcome
+IsEnded names (ReadBack prefix) name s errors errors_now outcome =
+    BackEnds names (record { name = name; prefix = prefix }) s errors errors_now outcome
+IsEnded names (FromJson raw) name s errors errors_now outcome =
+    JsonEnds (record { name = name; raw = raw }) s errors errors_now outcome
+
 -- what opens inputs, and what the output and the errors hold, as far as that is known
 pub record At (O : Type 0) : Type 0 where
   pub opener : O
@@ -64,45 +75,54 @@ pub record Opening (O I : Type 0) : Type 1 where
 -- and this is reported
 pub data FileDone
     {O I : Type 0} (how : Opening O I) (names : Names) (asked : Asked) (name : Bor (List ℕ)) (old new : At O)
-    (status : ℕ) : Type 0 where
+    (outcome : Result Bool RunError) : Type 0 where
   opened :
       (input : I) (s : Streams)
       → how.opens old.opener name.now (Some input) new.opener
       → s.input ≡ how.remaining input
       → s.output ≡ old.output
       → s.output_now ≡ new.output
-      → IsDone names asked name s old.errors new.errors status
-      → FileDone how names asked name old new status
+      → IsEnded names asked name s old.errors new.errors outcome
+      → FileDone how names asked name old new outcome
   unopened :
       how.opens old.opener name.now None new.opener
-      → status ≡ 2
+      → outcome ≡ Err UnopenedInput
       → Keeps old.output new.output
       → AppendsFront old.errors new.errors (error_line name.now UnopenedInput)
-      → FileDone how names asked name old new status
+      → FileDone how names asked name old new outcome
 
 -- the greater of two statuses
 abbrev pub greater : ℕ → ℕ → ℕ
 greater a b = if nat_lt a b then b else a
 
--- with some files, one after the other, none of which ended with status 3 but the last; and the greatest of their
--- statuses
-pub data AllDone {O I : Type 0} (how : Opening O I) (names : Names) (asked : Asked) (start : At O) :
-    List (Bor (List ℕ)) → At O → ℕ → Type 0 where
-  no_file : AllDone how names asked start [] start 0
-  one_more :
-      (files more : List (Bor (List ℕ))) (name : Bor (List ℕ)) (then_ now : At O) (before status greatest : ℕ)
-      → AllDone how names asked start files then_ before
-      → before ≢ 3
-      → FileDone how names asked name then_ now status
-      → more ≡ files ++ (name ∷ [])
-      → greatest ≡ greater before status
-      → AllDone how names asked start more now greatest
+-- the output can't be written, so no other file is read
+abbrev pub stops : Result Bool RunError → Bool
+stops (Ok whole) = false
+stops (Err UnwritableOutput) = true
+stops (Err ClosedPipe) = true
+stops (Err _) = false
 
--- with all files, or with those up to the first that ended with status 3
+-- with some files, one after the other, each but the last of which left an output that can be written; the greatest of their
+-- statuses, and whether the last did not
+pub data AllDone {O I : Type 0} (how : Opening O I) (names : Names) (asked : Asked) (start : At O) :
+    List (Bor (List ℕ)) → At O → ℕ → Bool → Type 0 where
+  no_file : AllDone how names asked start [] start 0 false
+  one_more :
+      (files more : List (Bor (List ℕ))) (name : Bor (List ℕ)) (then_ now : At O) (before greatest : ℕ)
+      (outcome : Result Bool RunError) (stopped : Bool)
+      → AllDone how names asked start files then_ before false
+      → FileDone how names asked name then_ now outcome
+      → more ≡ files ++ (name ∷ [])
+      → greatest ≡ greater before (status_in outcome)
+      → stopped ≡ stops outcome
+      → AllDone how names asked start more now greatest stopped
+
+-- with all files, or with those up to the first behind which the output can't be written
 pub record FilesDone
     {O I : Type 0} (how : Opening O I) (names : Names) (asked : Asked) (files : List (Bor (List ℕ)))
     (old new : At O) (greatest : ℕ) : Type 0 where
   pub count : ℕ
+  pub stopped : Bool
   pub within : count ≤ length files
-  pub done : AllDone how names asked old (take count files) new greatest
-  pub ended : greatest ≢ 3 → count ≡ length files
+  pub done : AllDone how names asked old (take count files) new greatest stopped
+  pub ended : stopped ≡ false → count ≡ length files

@@ -2,7 +2,7 @@
 use Rattle.std.specs.Prelude.{◌≡◌, ◌≢◌, ◌⊎◌, ℕ, ◌+◌, ◌≤◌, Bool, true, false, List, [], ◌∷◌, ◌++◌, length, take, drop, Option, Some, None, Result, Ok, Err}
 use Rattle.std.specs.Prelude.{codes}
 use Rattle.std.specs.Fmt.{decimal}
-use Rattle.std.specs.Io.KnownBytes.{Appends, Consumes}
+use Rattle.std.specs.Io.KnownBytes.{Appends, Consumes, Keeps}
 use Rattle.std.specs.Str.{IsUtf8, trim_end}
 use Rattle.hex.specs.Hex.{encode_upper}
 use Rattle.kmip_ttlv_types.specs.Streams.{AppendsFront}
@@ -180,3 +180,10 @@ pub record AbortedJson
   pub fails : FailsJson job s why
   pub status_is : status ≡ status_of why
   pub reported : AppendsFront errors errors_now (error_line job.name.now why)
+
+-- how a run that reads JSON back ended
+abbrev pub JsonEnds : JsonJob → Streams → Option (List ℕ) → Option (List ℕ) → Result Bool RunError → Type 0
+JsonEnds job s errors errors_now (Ok true) = PrintedJson job s × Keeps errors errors_now
+JsonEnds job s errors errors_now (Ok false) = MalformedJson job s errors errors_now
+JsonEnds job s errors errors_now (Err why) =
+    FailsJson job s why × AppendsFront errors errors_now (error_line job.name.now why)

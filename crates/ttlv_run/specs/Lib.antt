@@ -3,6 +3,7 @@ pub mod Columns
 pub mod Dates
 pub mod Decoding
 pub mod DumpLines
+pub mod Escapes
 pub mod Files
 pub mod Fronts
 pub mod Guesses

@@ -13,6 +13,7 @@ use Rattle.ttlv_run.specs.declared.job.Task.TheVariants.{Check}
 use Rattle.ttlv_run.specs.declared.messages.Place.{Place}
 use Rattle.ttlv_run.specs.declared.messages.Wrong.{Wrong}
 use Rattle.ttlv_run.specs.declared.messages.Wrong.TheVariants.{Malformed, NotKmip}
+use Rattle.ttlv_run.specs.Escapes.{escaped}
 use Rattle.ttlv_run.specs.Texts.{Names, IsMessageText}
 
 -- how many bytes the first message takes by its header, where that is there
@@ -42,8 +43,13 @@ is_kmip (Some tag) = tag == 4_325_496 || tag == 4_325_499
 
 -- the task takes a message with this root
 abbrev pub is_taken : Task → List ℕ → Bool
-is_taken (Check kmip) message = not kmip || is_kmip (tag_there message 0)
+is_taken (Check kmip empty) message = not kmip || is_kmip (tag_there message 0)
 is_taken task message = true
+
+-- the task wants a message in its input: a check, if it isn't to take none
+abbrev pub wants_message : Task → Bool
+wants_message (Check kmip empty) = not empty
+wants_message task = false
 
 -- up to a place the bytes are whole messages, and this is what is printed of them
 pub data Whole (names : Names) (task : Task) (bytes : List ℕ) : ℕ → List ℕ → Type 0 where
@@ -122,5 +128,5 @@ tag_report names (Some tag) = tag_named (names.tags tag) tag
 -- what is wrong
 unfoldable pub fault_line : Names → List ℕ → Place → List ℕ
 fault_line names name place =
-    name ++ codes ": byte " ++ decimal place.offset ++ codes ": " ++ tag_report names place.tag ++ codes ": "
+    escaped name ++ codes ": byte " ++ decimal place.offset ++ codes ": " ++ tag_report names place.tag ++ codes ": "
     ++ wrong_words place.wrong ++ codes "\n"

@@ -1,22 +1,30 @@
--- Why a run ends with status 2 or 3, and the line that says so.
-use Rattle.std.specs.Prelude.{◌≡◌, ◌⊎◌, ℕ, Bool, true, false, List, [], ◌++◌, Option, Some, None, codes}
+-- Why a run ends early, and the line that says so.
+use Rattle.std.specs.Prelude.{◌≡◌, ◌⊎◌, ℕ, Bool, true, false, List, [], ◌++◌, Option, Some, None, Result, Ok, Err, codes}
 use Rattle.std.specs.Io.KnownBytes.{Appends}
 use Rattle.std.specs.Fmt.{decimal}
 use Rattle.kmip_ttlv_types.specs.Streams.{AppendsFront}
 use Rattle.ttlv_run.specs.declared.run_error.RunError.{RunError}
 use Rattle.ttlv_run.specs.declared.run_error.RunError.TheVariants.{UnopenedInput, UnreadableInput, MisreadInput}
-use Rattle.ttlv_run.specs.declared.run_error.RunError.TheVariants.{NotUtf8, UnwritableOutput, ClosedPipe, NoMemory}
+use Rattle.ttlv_run.specs.declared.run_error.RunError.TheVariants.{NotUtf8, NoMessage, UnwritableOutput, ClosedPipe, NoMemory}
+use Rattle.ttlv_run.specs.Escapes.{escaped}
 use Rattle.ttlv_run.specs.Misreadings.{misread_line}
 
--- 2 for an input that can't be read or decoded, 3 where memory or the output fails
+-- 1 for an input without a message, 2 for one that can't be read or decoded, 3 where memory or the output fails
 abbrev pub status_of : RunError → ℕ
 status_of UnopenedInput = 2
 status_of UnreadableInput = 2
 status_of (MisreadInput m) = 2
 status_of NotUtf8 = 2
+status_of NoMessage = 1
 status_of UnwritableOutput = 3
 status_of ClosedPipe = 3
 status_of NoMemory = 3
+
+-- the status of a run: 0 where all is whole, 1 where something is malformed, or that of why it ended early
+abbrev pub status_in : Result Bool RunError → ℕ
+status_in (Ok true) = 0
+status_in (Ok false) = 1
+status_in (Err why) = status_of why
 
 -- what is wrong, in words
 abbrev pub words_of : RunError → List ℕ
@@ -24,6 +32,7 @@ words_of UnopenedInput = codes "it can't be opened"
 words_of UnreadableInput = codes "it can't be read"
 words_of (MisreadInput m) = codes "it stands for no bytes"
 words_of NotUtf8 = codes "it is not UTF-8"
+words_of NoMessage = codes "no message"
 words_of UnwritableOutput = codes "the output can't be written"
 words_of ClosedPipe = []
 words_of NoMemory = codes "out of memory"
@@ -34,8 +43,8 @@ IsOfPrinting why = (why ≡ UnwritableOutput) ⊎ (why ≡ ClosedPipe) ⊎ (why 
 
 -- the beginning of a line: what the input is called, and the offset in it, if one is given
 abbrev pub place_report : List ℕ → Option ℕ → List ℕ
-place_report name None = name
-place_report name (Some at) = name ++ codes ": byte " ++ decimal at
+place_report name None = escaped name
+place_report name (Some at) = escaped name ++ codes ": byte " ++ decimal at
 
 -- what was written to the errors: all of a text, or a beginning of it
 abbrev pub Reports : Bool → Option (List ℕ) → Option (List ℕ) → List ℕ → Type 0
@@ -46,4 +55,4 @@ Reports false old new text = AppendsFront old new text
 abbrev pub error_line : List ℕ → RunError → List ℕ
 error_line name ClosedPipe = []
 error_line name (MisreadInput m) = misread_line name m
-error_line name why = name ++ codes ": " ++ words_of why ++ codes "\n"
+error_line name why = escaped name ++ codes ": " ++ words_of why ++ codes "\n"

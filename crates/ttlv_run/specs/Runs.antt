@@ -1,5 +1,5 @@
 -- What a run takes, prints and says.
-use Rattle.std.specs.Prelude.{◌≡◌, ◌⊎◌, ℕ, Bool, true, false, List, [], ◌∷◌, ◌++◌, ◌≤◌, length, drop, nat_lt, Option, Some, None, Result, Ok, Err}
+use Rattle.std.specs.Prelude.{◌≡◌, ◌⊎◌, ℕ, Bool, true, false, List, [], ◌∷◌, ◌++◌, ◌≤◌, ◌==◌, ◌&&◌, length, drop, nat_lt, Option, Some, None, Result, Ok, Err, if◌then◌else◌}
 use Rattle.std.specs.Io.KnownBytes.{Appends, Consumes, Keeps}
 use Rattle.kmip_ttlv_items.specs.ItemWalks.{AreBytes}
 use Rattle.kmip_ttlv_types.specs.Streams.{AppendsFront}
@@ -11,14 +11,14 @@ use Rattle.ttlv_run.specs.declared.job.Task.{Task}
 use Rattle.ttlv_run.specs.declared.messages.Place.{Place}
 use Rattle.ttlv_run.specs.declared.misread.Misread.{Misread}
 use Rattle.ttlv_run.specs.declared.run_error.RunError.{RunError}
-use Rattle.ttlv_run.specs.declared.run_error.RunError.TheVariants.{UnopenedInput, UnreadableInput, MisreadInput, NotUtf8}
+use Rattle.ttlv_run.specs.declared.run_error.RunError.TheVariants.{UnopenedInput, UnreadableInput, MisreadInput, NotUtf8, NoMessage}
 use Rattle.ttlv_run.specs.declared.run_error.RunError.TheVariants.{UnwritableOutput, ClosedPipe, NoMemory}
 use Rattle.kmip_ttlv_names.specs.NameTables.{lines_of}
 use Rattle.ttlv_run.specs.declared.back.BackFault.{BackFault}
 use Rattle.ttlv_run.specs.Backs.{FirstBreak, IsOneLine, AreLines, ReadsLines, back_line}
 use Rattle.ttlv_run.specs.Fronts.{front_size, DecodesTo, StandsUpTo}
 use Rattle.ttlv_run.specs.Inputs.{TakesAll, TakesSome, form_of, encoding_of, Stands, Misreads}
-use Rattle.ttlv_run.specs.Messages.{is_there, Whole, Prints, Continues, Breaks as MessageBreaks, fault_line}
+use Rattle.ttlv_run.specs.Messages.{is_there, wants_message, Whole, Prints, Continues, Breaks as MessageBreaks, fault_line}
 use Rattle.ttlv_run.specs.Reasons.{status_of, error_line}
 use Rattle.ttlv_run.specs.Texts.{Names, text_back}
 
@@ -29,19 +29,33 @@ pub record Streams : Type 0 where
   pub output : Option (List ℕ)
   pub output_now : Option (List ℕ)
 
+-- no message stands in bytes, and the task wants one
+abbrev pub lacks_message : Task → List ℕ → Bool
+lacks_message task bytes = wants_message task && length bytes == 0
+
 -- this text is what is printed of the messages of an input, up to the first fault
 pub record HasText (names : Names) (job : Job) (input text : List ℕ) (place : Option Place) : Type 0 where
   pub bytes : List ℕ
   pub stands : Stands job.encoding input bytes
   pub prints : Prints names job.task bytes text place
 
--- the whole input was taken, all its messages are whole, and exactly what is printed of them was appended to the output
+-- the whole input was taken, all its messages are whole, there is one if the task wants that, and exactly what is printed of
+-- them was appended to the output
 pub record Printed (names : Names) (job : Job) (s : Streams) : Type 0 where
   pub input : List ℕ
   pub text : List ℕ
   pub taken : TakesAll s.input s.input_left input
   pub has : HasText names job input text None
+  pub some : lacks_message job.task has.bytes ≡ false
   pub appended : Appends s.output s.output_now text
+
+-- the whole input was taken, it stands for no bytes, and the task wants a message; nothing was appended
+pub record Empty (job : Job) (s : Streams) : Type 0 where
+  pub input : List ℕ
+  pub taken : TakesAll s.input s.input_left input
+  pub stands : Stands job.encoding input []
+  pub wants : wants_message job.task ≡ true
+  pub appended : Appends s.output s.output_now []
 
 -- behind a front of the input, or all of it, stands a message that is wrong, whatever follows; and exactly what is printed up to
 -- its fault was appended to the output
@@ -122,8 +136,13 @@ Fails names job s UnwritableOutput = Unwritten names job s
 Fails names job s ClosedPipe = Unwritten names job s
 Fails names job s NoMemory = Keeps s.output s.output_now ⊎ Unwritten names job s
 Fails names job s (MisreadInput m) = Undecoded names job s m
+Fails names job s NoMessage = Empty job s
 Fails names job s UnopenedInput = ⊥
 Fails names job s NotUtf8 = ⊥
+
+-- what comes of an input whose messages are whole, and take so many bytes
+abbrev pub behind_all : Task → ℕ → Result (Option Place) RunError
+behind_all task count = if wants_message task && count == 0 then Err NoMessage else Ok None
 
 -- what is printed for a job, up to the first fault
 abbrev pub Places : Names → Job → Streams → Result (Option Place) RunError → Type 0
@@ -143,6 +162,11 @@ pub record Malformed (names : Names) (job : Job) (s : Streams) (errors errors_no
   pub breaks : Breaks names job s line
   pub reported : AppendsFront errors errors_now line
 
+-- the input has no message, and a beginning of the line that says so was appended to the errors
+pub record Lacking (job : Job) (s : Streams) (errors errors_now : Option (List ℕ)) : Type 0 where
+  pub empty : Empty job s
+  pub reported : AppendsFront errors errors_now (error_line job.name.now NoMessage)
+
 -- there is a reason for the status, and a beginning of its line was appended to the errors
 pub record Aborted
     (names : Names) (job : Job) (s : Streams) (status : ℕ) (errors errors_now : Option (List ℕ)) : Type 0 where
@@ -150,6 +174,14 @@ pub record Aborted
   pub fails : Fails names job s why
   pub status_is : status ≡ status_of why
   pub reported : AppendsFront errors errors_now (error_line job.name.now why)
+
+-- how a run ended: all messages are whole; or one is malformed; or there is a reason, and a beginning of its line was appended to
+-- the errors
+abbrev pub RunEnds : Names → Job → Streams → Option (List ℕ) → Option (List ℕ) → Result Bool RunError → Type 0
+RunEnds names job s errors errors_now (Ok true) = Printed names job s × Keeps errors errors_now
+RunEnds names job s errors errors_now (Ok false) = Malformed names job s errors errors_now
+RunEnds names job s errors errors_now (Err why) =
+    Fails names job s why × AppendsFront errors errors_now (error_line job.name.now why)
 
 -- the whole input was taken, and this text is what its diagnostics are read back as; and the first line that is not
 -- whole stops being a diagnostic here, or all lines are whole
@@ -233,3 +265,10 @@ pub record AbortedBack
   pub fails : FailsBack names job s why
   pub status_is : status ≡ status_of why
   pub reported : AppendsFront errors errors_now (error_line job.name.now why)
+
+-- how a run that reads diagnostics back ended
+abbrev pub BackEnds : Names → BackJob → Streams → Option (List ℕ) → Option (List ℕ) → Result Bool RunError → Type 0
+BackEnds names job s errors errors_now (Ok true) = PrintedBack names job s None × Keeps errors errors_now
+BackEnds names job s errors errors_now (Ok false) = MalformedBack names job s errors errors_now
+BackEnds names job s errors errors_now (Err why) =
+    FailsBack names job s why × AppendsFront errors errors_now (error_line job.name.now why)

@@ -1,11 +1,10 @@
 -- What is printed of one message.
-use Rattle.std.specs.Prelude.{◌≡◌, ℕ, ◌+◌, ◌/◌, ◌%◌, ◌==◌, Bool, false, ◌&&◌, List, [], ◌∷◌, ◌++◌}
+use Rattle.std.specs.Prelude.{◌≡◌, ℕ, ◌+◌, ◌==◌, Bool, false, ◌&&◌, List, [], ◌∷◌, ◌++◌}
 use Rattle.std.specs.Prelude.{length, take, nat_lt, nat_le}
-use Rattle.std.specs.Prelude.{Option, Some, None, if◌then◌else◌, codes, encode_utf8}
+use Rattle.std.specs.Prelude.{Option, Some, None, if◌then◌else◌, codes}
 use Rattle.std.specs.List.{flat_map}
-use Rattle.std.specs.Char.{is_control}
-use Rattle.std.specs.Fmt.{decimal, digit_glyph}
-use Rattle.std.specs.Str.{chars, trim_end}
+use Rattle.std.specs.Fmt.{decimal}
+use Rattle.std.specs.Str.{trim_end}
 use Rattle.std.specs.Int.{w32, w64, from_be_bytes}
 use Rattle.hex.specs.Hex.{encode_upper}
 use Rattle.kmip_ttlv_types.specs.declared.typ.TtlvType.{TtlvType}
@@ -28,6 +27,7 @@ use Rattle.ttlv_run.specs.declared.job.Values.TheVariants.{Hidden, Escaped}
 use Rattle.ttlv_run.specs.declared.job.Look.{Look}
 use Rattle.ttlv_run.specs.declared.lines.Reach.{Reach}
 use Rattle.ttlv_run.specs.Dates.{date_shown}
+use Rattle.ttlv_run.specs.Escapes.{escaped}
 use Rattle.ttlv_run.specs.Masks.{value_named, mask_names}
 use Rattle.ttlv_run.specs.declared.job.Names.{Names as NamesAre}
 
@@ -52,26 +52,6 @@ names_of tables = record {
 abbrev pub behind_space : Option (List ℕ) → List ℕ
 behind_space None = []
 behind_space (Some name) = 32 ∷ name
-
--- the hexadecimal digits of a number below 256, in lowercase, without a zero in front
-abbrev pub short_hex : ℕ → List ℕ
-short_hex n = (if nat_lt n 16 then [] else digit_glyph false (n / 16) ∷ []) ++ digit_glyph false (n % 16) ∷ []
-
--- a character in a line, as Rust's `char::escape_debug` writes control characters (U+0000 to U+001F, U+007F to U+009F)
--- and the backslash; any other as it is
-unfoldable pub escaped_char : ℕ → List ℕ
-escaped_char c =
-    if c == 0 then codes "\\0"
-    else if c == 9 then codes "\\t"
-    else if c == 10 then codes "\\n"
-    else if c == 13 then codes "\\r"
-    else if c == 92 then codes "\\\\"
-    else if is_control c then codes "\\u{" ++ (short_hex c ++ codes "}")
-    else encode_utf8 c
-
--- a text in a line, character by character
-unfoldable pub escaped : List ℕ → List ℕ
-escaped text = flat_map escaped_char (chars text)
 
 -- how many bytes a string has of which a part is printed
 abbrev pub count_shown : ℕ → List ℕ
@@ -196,7 +176,7 @@ message_text names (Diagnose closed prefix) at bytes found fault ended =
 message_text names Hexadecimal at bytes found fault ended = encode_upper bytes ++ 10 ∷ []
 message_text names (Json hiding) at bytes found fault ended =
     json_text (secrets_of hiding names.secrets) (hides_all hiding) bytes found fault ended
-message_text names (Check kmip) at bytes found fault ended = []
+message_text names (Check kmip empty) at bytes found fault ended = []
 
 -- this is the text of a message that begins at an offset: of the items that were met by its end, or by the first fault
 pub record IsMessageText (names : Names) (task : Task) (at : ℕ) (bytes text : List ℕ) (fault : Option Fault) : Type 0 where

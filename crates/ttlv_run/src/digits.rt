@@ -16,7 +16,7 @@ use crate::guess::mark_length;
 use crate::job::{Job, Names};
 use crate::memory::Memory;
 use crate::messages::{Place, Reached};
-use crate::run::print_messages;
+use crate::run::{behind_all, print_messages};
 use crate::run_error::RunError;
 use crate::window::Window;
 use std::alloc::Allocator;
@@ -144,7 +144,7 @@ pub fn print_digits<A: Allocator + Copy, B: Allocator + Copy, R: Read, W: Write>
             return Err(misread(job.encoding, taken_as(form), why));
         }
         if ended {
-            return Ok(None);
+            return behind_all(job.task, base);
         }
         ended = text.read_more(input)? == 0;
     }

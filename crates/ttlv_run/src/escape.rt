@@ -1,10 +1,11 @@
-//! Texts as they stand in a line: control characters and backslashes are escaped.
+//! Texts as they stand in a line: control characters, those that can't be seen, and backslashes are escaped.
 
-ghost use Rattle.std.specs.Prelude.{◌≡◌, ◌<◌, ◌++◌, ◌∷◌, [], true, false, OnOk, OnErr, codes, encode_utf8};
+ghost use Rattle.std.specs.Prelude.{◌≡◌, ◌<◌, ◌/◌, ◌%◌, ◌^◌, ◌++◌, ◌∷◌, [], true, false, OnOk, OnErr, codes, encode_utf8};
 ghost use Rattle.std.specs.Fmt.{digit_glyph};
 ghost use Rattle.kmip_ttlv_types.specs.declared.typ.TtlvType.TheVariants.{TextString};
 ghost use Rattle.kmip_ttlv_types.specs.Leaves.{is_valid};
-ghost use Rattle.ttlv_run.specs.Texts.{short_hex, escaped_char, escaped};
+ghost use Rattle.ttlv_run.specs.Columns.{in_range};
+ghost use Rattle.ttlv_run.specs.Escapes.{byte_hex, short_hex, word_hex, number_hex, is_unseen_low, is_unseen_middle, is_unseen_high, is_unseen, escaped_char, escaped};
 
 use kmip_ttlv_util::TextSink;
 use std::str;
@@ -33,6 +34,16 @@ pub fn push_digit<S: TextSink>(out: &mut S, value: u32) -> Result<(), S::Error>
     out.push_str(unsafe { str::from_utf8_unchecked(&text) })
 }
 
+// Adds the two hexadecimal digits of a number.
+fn push_byte_hex<S: TextSink>(out: &mut S, value: u32) -> Result<(), S::Error>
+    requires { value < 256 }
+    ensures ok { OnOk result (S.adds out.old (byte_hex value) out.new) }
+    ensures err { OnErr result (S.breaks out.old (byte_hex value) out.new) }
+{
+    let text = [digit(value / 16), digit(value % 16)];
+    out.push_str(unsafe { str::from_utf8_unchecked(&text) })
+}
+
 // Adds the hexadecimal digits of a number, without a zero in front.
 fn push_short_hex<S: TextSink>(out: &mut S, value: u32) -> Result<(), S::Error>
     requires { value < 256 }
@@ -46,15 +57,96 @@ fn push_short_hex<S: TextSink>(out: &mut S, value: u32) -> Result<(), S::Error>
     push_digit(out, value)
 }
 
+// The same, of two bytes.
+fn push_word_hex<S: TextSink>(out: &mut S, value: u32) -> Result<(), S::Error>
+    requires { value < 65536 }
+    ensures ok { OnOk result (S.adds out.old (word_hex value) out.new) }
+    ensures err { OnErr result (S.breaks out.old (word_hex value) out.new) }
+{
+    if value >= 256 {
+        push_short_hex(out, value / 256)?;
+        return push_byte_hex(out, value % 256);
+    }
+    push_short_hex(out, value)
+}
+
+// Adds the four hexadecimal digits of a number.
+fn push_two_bytes<S: TextSink>(out: &mut S, value: u32) -> Result<(), S::Error>
+    requires { value < 2 ^ 24 }
+    ensures ok { OnOk result (S.adds out.old (byte_hex (value / 256 % 256) ++ byte_hex (value % 256)) out.new) }
+    ensures err { OnErr result (S.breaks out.old (byte_hex (value / 256 % 256) ++ byte_hex (value % 256)) out.new) }
+{
+    push_byte_hex(out, value / 256 % 256)?;
+    push_byte_hex(out, value % 256)
+}
+
+// The hexadecimal digits of a number of three bytes, without a zero in front.
+#[tactic(auto, unfolding(crate::specs::Escapes::number_hex))]
+fn push_number_hex<S: TextSink>(out: &mut S, value: u32) -> Result<(), S::Error>
+    requires { value < 2 ^ 24 }
+    ensures ok { OnOk result (S.adds out.old (number_hex value) out.new) }
+    ensures err { OnErr result (S.breaks out.old (number_hex value) out.new) }
+{
+    if value >= 65536 {
+        push_short_hex(out, value / 65536)?;
+        return push_two_bytes(out, value);
+    }
+    push_word_hex(out, value)
+}
+
 // Adds a character by its number.
 fn push_by_number<S: TextSink>(out: &mut S, c: char) -> Result<(), S::Error>
-    requires { c < 256 }
-    ensures ok { OnOk result (S.adds out.old (codes "\\u{" ++ (short_hex c ++ codes "}")) out.new) }
-    ensures err { OnErr result (S.breaks out.old (codes "\\u{" ++ (short_hex c ++ codes "}")) out.new) }
+    ensures ok { OnOk result (S.adds out.old (codes "\\u{" ++ (number_hex c ++ codes "}")) out.new) }
+    ensures err { OnErr result (S.breaks out.old (codes "\\u{" ++ (number_hex c ++ codes "}")) out.new) }
 {
     out.push_str("\\u{")?;
-    push_short_hex(out, c as u32)?;
+    push_number_hex(out, c as u32)?;
     out.push_str("}")
+}
+
+// Whether a number is in a range.
+fn is_in(least: u32, most: u32, c: u32) -> bool
+    ensures { result ≡ in_range least most c }
+{
+    least <= c && c <= most
+}
+
+fn is_unseen_low(c: u32) -> bool
+    ensures { result ≡ is_unseen_low c }
+{
+    c == 0xAD
+        || c == 0x34F
+        || c == 0x61C
+        || is_in(0x115F, 0x1160, c)
+        || is_in(0x17B4, 0x17B5, c)
+        || is_in(0x180B, 0x180F, c)
+}
+
+fn is_unseen_middle(c: u32) -> bool
+    ensures { result ≡ is_unseen_middle c }
+{
+    is_in(0x200B, 0x200F, c) || is_in(0x2028, 0x202E, c) || is_in(0x2060, 0x206F, c) || c == 0x3164
+}
+
+fn is_unseen_high(c: u32) -> bool
+    ensures { result ≡ is_unseen_high c }
+{
+    is_in(0xFE00, 0xFE0F, c)
+        || c == 0xFEFF
+        || c == 0xFFA0
+        || is_in(0xFFF0, 0xFFFB, c)
+        || is_in(0x1BCA0, 0x1BCA3, c)
+        || is_in(0x1D173, 0x1D17A, c)
+        || is_in(0xE0000, 0xE0FFF, c)
+}
+
+// Whether a character can't be seen.
+#[tactic(auto, unfolding(crate::specs::Escapes::is_unseen))]
+fn is_unseen(c: char) -> bool
+    ensures { result ≡ is_unseen c }
+{
+    let c = c as u32;
+    is_unseen_low(c) || is_unseen_middle(c) || is_unseen_high(c)
 }
 
 // Adds a character as it is.
@@ -66,8 +158,8 @@ fn push_plain<S: TextSink>(out: &mut S, c: char) -> Result<(), S::Error>
     out.push_str(c.encode_utf8(&mut room))
 }
 
-// Adds a character; a control character or a backslash escaped.
-#[tactic(auto, unfolding(crate::specs::Texts::escaped_char))]
+// Adds a character; a control character, one that can't be seen or a backslash escaped.
+#[tactic(auto, unfolding(crate::specs::Escapes::escaped_char))]
 fn push_char<S: TextSink>(out: &mut S, c: char) -> Result<(), S::Error>
     ensures ok { OnOk result (S.adds out.old (escaped_char c) out.new) }
     ensures err { OnErr result (S.breaks out.old (escaped_char c) out.new) }
@@ -78,22 +170,29 @@ fn push_char<S: TextSink>(out: &mut S, c: char) -> Result<(), S::Error>
         '\n' => out.push_str("\\n"),
         '\r' => out.push_str("\\r"),
         '\\' => out.push_str("\\\\"),
-        _ if c.is_control() => push_by_number(out, c),
+        _ if c.is_control() || is_unseen(c) => push_by_number(out, c),
         _ => push_plain(out, c),
     }
 }
 
-/// Adds a text with its control characters and backslashes escaped.
+/// Adds a text with its control characters, those that can't be seen, and its backslashes escaped.
 ///
 /// It fails where the sink fails.
+pub fn push_text<S: TextSink>(out: &mut S, text: &str) -> Result<(), S::Error>
+    ensures ok { OnOk result (S.adds out.old (escaped text.now) out.new) }
+    ensures err { OnErr result (S.breaks out.old (escaped text.now) out.new) }
+{
+    for c in text.chars() {
+        push_char(out, c)?;
+    }
+    Ok(())
+}
+
+/// The same, of the bytes of a text.
 pub fn push_escaped<S: TextSink>(out: &mut S, text: &[u8]) -> Result<(), S::Error>
     requires { is_valid TextString text.now ≡ true }
     ensures ok { OnOk result (S.adds out.old (escaped text.now) out.new) }
     ensures err { OnErr result (S.breaks out.old (escaped text.now) out.new) }
 {
-    let text = unsafe { str::from_utf8_unchecked(text) };
-    for c in text.chars() {
-        push_char(out, c)?;
-    }
-    Ok(())
+    push_text(out, unsafe { str::from_utf8_unchecked(text) })
 }

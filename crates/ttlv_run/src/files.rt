@@ -1,14 +1,14 @@
 //! A run over several inputs, one after the other, and which of them is which.
 
 ghost use Rattle.std.specs.Prelude.{◌≡◌, ℕ, List, Option};
-ghost use Rattle.ttlv_run.specs.Files.{IsDone, FileDone, greater, FilesDone};
+ghost use Rattle.ttlv_run.specs.Files.{IsDone, IsEnded, FileDone, greater, stops, FilesDone};
 ghost use Rattle.ttlv_run.specs.Texts.{names_of};
 
-use crate::from_json::read_json;
+use crate::from_json::{read_json, read_json_to_end};
 use crate::job::{Asked, BackJob, Job, JsonJob, Names};
 use crate::memory::Memory;
-use crate::run::{read_back, report_error, run};
-use crate::run_error::RunError;
+use crate::run::{read_back, read_back_to_end, report_error, run, run_to_end};
+use crate::run_error::{RunError, status_in};
 use std::alloc::{Allocator, Global};
 use std::io::{Read, Write};
 
@@ -64,6 +64,45 @@ pub fn run_asked<B: Allocator + Copy, R: Read, W: Write, E: Write>(
     }
 }
 
+// Does the same, and returns whether all of the input is whole, or why not all of it was printed.
+fn end_asked<B: Allocator + Copy, R: Read, W: Write, E: Write>(
+    memory: Memory<Global, B>,
+    asked: Asked<'_>,
+    name: &str,
+    names: &Names<'_, B>,
+    input: &mut R,
+    output: &mut W,
+    errors: &mut E,
+) -> Result<bool, RunError>
+    ensures { IsEnded (names_of names.now) asked.entry name.entry
+        (record {
+          input = R.remaining input.old;
+          input_left = R.remaining input.new;
+          output = W.contents output.old;
+          output_now = W.contents output.new;
+        })
+        (E.contents errors.old) (E.contents errors.new) result }
+{
+    match asked {
+        Asked::Print { task, encoding } => {
+            let job = Job {
+                name,
+                task,
+                encoding,
+            };
+            run_to_end(memory, &job, names, input, output, errors)
+        }
+        Asked::ReadBack { prefix } => {
+            let job = BackJob { name, prefix };
+            read_back_to_end(memory, &job, names, input, output, errors)
+        }
+        Asked::FromJson { raw } => {
+            let job = JsonJob { name, raw };
+            read_json_to_end(memory.input, &job, input, output, errors)
+        }
+    }
+}
+
 // Does it with a file.
 fn run_file<B: Allocator + Copy, O: Opener, W: Write, E: Write>(
     memory: Memory<Global, B>,
@@ -73,17 +112,17 @@ fn run_file<B: Allocator + Copy, O: Opener, W: Write, E: Write>(
     opener: &mut O,
     output: &mut W,
     errors: &mut E,
-) -> u8
+) -> Result<bool, RunError>
     ensures { FileDone (record { opens = O.opens; remaining = O.Input.remaining })
         (names_of names.now) asked.entry name.entry
         (record { opener = opener.old; output = W.contents output.old; errors = E.contents errors.old })
         (record { opener = opener.new; output = W.contents output.new; errors = E.contents errors.new }) result }
 {
     match opener.open(name) {
-        Some(mut input) => run_asked(memory, asked, name, names, &mut input, output, errors),
+        Some(mut input) => end_asked(memory, asked, name, names, &mut input, output, errors),
         None => {
             report_error(errors, name, RunError::UnopenedInput);
-            2
+            Err(RunError::UnopenedInput)
         }
     }
 }
@@ -95,9 +134,20 @@ fn greater(a: u8, b: u8) -> u8
     if a < b { b } else { a }
 }
 
+// Whether no other file is read, since the output can't be written.
+fn stops(outcome: Result<bool, RunError>) -> bool
+    ensures { result ≡ stops outcome }
+{
+    match outcome {
+        Ok(_) => false,
+        Err(RunError::UnwritableOutput) | Err(RunError::ClosedPipe) => true,
+        Err(_) => false,
+    }
+}
+
 /// Does with each file what is asked, one after the other, and returns the greatest of their exit statuses:
-/// those of [`run`], [`read_back`] and [`read_json`], and 2 for a file that can't be opened. Behind a file with status 3,
-/// out of memory or an output that fails, no other is read.
+/// those of [`run`], [`read_back`] and [`read_json`], and 2 for a file that can't be opened. If the output can't be
+/// written, no other file is read; behind a file for which memory doesn't suffice the others are.
 pub fn run_files<B: Allocator + Copy, O: Opener, W: Write, E: Write>(
     memory: Memory<Global, B>,
     asked: Asked<'_>,
@@ -114,9 +164,9 @@ pub fn run_files<B: Allocator + Copy, O: Opener, W: Write, E: Write>(
 {
     let mut status = 0;
     'files: for name in files {
-        let next = run_file(memory, asked, name, names, opener, output, errors);
-        status = greater(status, next);
-        if status == 3 {
+        let outcome = run_file(memory, asked, name, names, opener, output, errors);
+        status = greater(status, status_in(outcome));
+        if stops(outcome) {
             return status;
         }
     }

@@ -4,7 +4,7 @@ ghost use Rattle.std.specs.Prelude.{◌≡◌, ◌≤◌, ◌++◌, ◌⊎◌, �
 ghost use Rattle.std.specs.Io.KnownBytes.{Appends, Keeps};
 ghost use Rattle.kmip_ttlv_types.specs.Streams.{AppendsFront};
 ghost use Rattle.ttlv_run.specs.Reasons.{IsOfPrinting, Reports};
-ghost use Rattle.ttlv_run.specs.JsonLines.{shown, Prints, Spoils, PrintsBytes, FailsAt, fault_at, bad_line, column_report, RespondsJson, PrintedJson, MalformedJson, AbortedJson};
+ghost use Rattle.ttlv_run.specs.JsonLines.{shown, Prints, Spoils, PrintsBytes, FailsAt, fault_at, bad_line, column_report, RespondsJson, PrintedJson, MalformedJson, AbortedJson, JsonEnds};
 
 use crate::back::{behind, line_at};
 use crate::job::JsonJob;
@@ -179,6 +179,36 @@ fn report_fault<E: Write>(errors: &mut E, name: &str, fault: LineFault)
     report(errors, writable, "\n");
 }
 
+// Does what [`read_json`] does, and returns whether all lines are messages or empty, or why not all were printed.
+pub(crate) fn read_json_to_end<R: Read, W: Write, E: Write>(
+    heap: Global,
+    job: &JsonJob<'_>,
+    input: &mut R,
+    output: &mut W,
+    errors: &mut E,
+) -> Result<bool, RunError>
+    ensures { JsonEnds job.now
+        (record {
+          input = R.remaining input.old;
+          input_left = R.remaining input.new;
+          output = W.contents output.old;
+          output_now = W.contents output.new;
+        })
+        (E.contents errors.old) (E.contents errors.new) result }
+{
+    match respond(heap, job, input, output) {
+        Ok(None) => Ok(true),
+        Ok(Some(fault)) => {
+            report_fault(errors, job.name, fault);
+            Ok(false)
+        }
+        Err(run_error) => {
+            report_error(errors, job.name, run_error);
+            Err(run_error)
+        }
+    }
+}
+
 /// Reads `input` and prints to `output` the messages that its lines are the JSON of, in hexadecimal, each in a line of its own, or
 /// as raw bytes. It returns the exit status: 0 if each line is a message or empty, 1 if a line is none, 2 if the input can't be
 /// read or is not UTF-8, 3 when out of memory or if the output can't be written.
@@ -224,15 +254,9 @@ pub fn read_json<R: Read, W: Write, E: Write>(
         })
         result (E.contents errors.old) (E.contents errors.new) }
 {
-    match respond(heap, job, input, output) {
-        Ok(None) => 0,
-        Ok(Some(fault)) => {
-            report_fault(errors, job.name, fault);
-            1
-        }
-        Err(run_error) => {
-            report_error(errors, job.name, run_error);
-            run_error.status()
-        }
+    match read_json_to_end(heap, job, input, output, errors) {
+        Ok(true) => 0,
+        Ok(false) => 1,
+        Err(why) => why.status(),
     }
 }

@@ -61,8 +61,9 @@ pub enum Task<'w> {
     Hexadecimal,
     /// A line of JSON; nothing of a message with a fault.
     Json { hiding: Hiding },
-    /// Nothing; with `kmip` a message is at fault too whose root is neither a Request Message nor a Response Message.
-    Check { kmip: bool },
+    /// Nothing; with `kmip` a message is at fault too whose root is neither a Request Message nor a Response Message, and
+    /// without `empty` an input that has no message.
+    Check { kmip: bool, empty: bool },
 }
 
 /// What the bytes of messages stand in the input as.

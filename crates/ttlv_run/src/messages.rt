@@ -3,10 +3,11 @@
 ghost use Rattle.std.specs.Prelude.{◌≡◌, ◌<◌, ◌≤◌, ◌+◌, ◌^◌, length, ◌++◌, Option, IfOk, OnOk, OnErr, string_bytes};
 ghost use Rattle.kmip_ttlv_types.specs.Places.{length_at};
 ghost use Rattle.kmip_ttlv_util.specs.Pieces.{SomeText};
-ghost use Rattle.ttlv_run.specs.Messages.{size_stated, is_there, first_size, message_at, tag_there, is_kmip, is_taken, fault_words, wrong_words, fault_line, tag_report};
+ghost use Rattle.ttlv_run.specs.Messages.{size_stated, is_there, first_size, message_at, tag_there, is_kmip, is_taken, wants_message, fault_words, wrong_words, fault_line, tag_report};
 ghost use Rattle.ttlv_run.specs.Streaming.{is_due, EndsAt, PrintsOn, ContinuesBehind};
 ghost use Rattle.ttlv_run.specs.Texts.{names_of};
 
+use crate::escape::push_text;
 use crate::job::{Names, Task};
 use crate::texts::push_message;
 use itoa::Buffer;
@@ -126,8 +127,18 @@ fn is_taken(task: Task<'_>, message: &[u8]) -> bool
     ensures { result ≡ is_taken task.entry message.now }
 {
     match task {
-        Task::Check { kmip } => !kmip || is_kmip(tag_there(message, 0)),
+        Task::Check { kmip, .. } => !kmip || is_kmip(tag_there(message, 0)),
         _ => true,
+    }
+}
+
+/// Whether a task wants a message in its input.
+pub fn wants_message(task: Task<'_>) -> bool
+    ensures { result ≡ wants_message task.entry }
+{
+    match task {
+        Task::Check { empty, .. } => !empty,
+        _ => false,
     }
 }
 
@@ -234,7 +245,8 @@ pub fn fault_line<A: Allocator + Copy>(
 ) -> Result<String<A>, AllocError>
     ensures { IfOk result (λ line. string_bytes line ≡ fault_line (names_of names.now) name.now place) }
 {
-    let mut line = String::from_str(alloc, name)?;
+    let mut line = String::new(alloc);
+    push_text(&mut line, name)?;
     line.push_str(": byte ")?;
     line.push_str(Buffer::new().format(place.offset))?;
     line.push_str(": ")?;

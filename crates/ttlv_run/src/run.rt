@@ -5,19 +5,21 @@ ghost use Rattle.std.specs.Io.KnownBytes.{Appends, Consumes, IsAtEnd, Keeps};
 ghost use Rattle.kmip_ttlv_types.specs.Streams.{AppendsFront};
 ghost use Rattle.kmip_ttlv_util.specs.Pieces.{SomeText};
 ghost use Rattle.ttlv_run.specs.Backs.{ReadsBack, ReadsFront, back_line};
+ghost use Rattle.ttlv_run.specs.Escapes.{escaped};
 ghost use Rattle.ttlv_run.specs.Reasons.{IsOfPrinting, Reports, place_report, error_line};
 ghost use Rattle.ttlv_run.specs.Fronts.{front_size, Begins, BeginFails};
 ghost use Rattle.ttlv_run.specs.Inputs.{IsUnread, form_of, encoding_of};
 ghost use Rattle.ttlv_run.specs.Streaming.{buffered, EndsAt, PrintsOn, ContinuesBehind};
-ghost use Rattle.ttlv_run.specs.Runs.{Places, Responds, Printed, Malformed, Aborted, RespondsBack, PrintedBack, MalformedBack, AbortedBack};
+ghost use Rattle.ttlv_run.specs.Runs.{behind_all, Places, Responds, Printed, Malformed, Lacking, Aborted, RunEnds, RespondsBack, PrintedBack, MalformedBack, AbortedBack, BackEnds};
 ghost use Rattle.ttlv_run.specs.Texts.{names_of};
 
 use crate::back::{BackFault, BackReached, print_back};
 use crate::coding::{encoding_of, form_of, front_size};
 use crate::digits::print_digits;
+use crate::escape::push_text;
 use crate::job::{BackJob, Encoding, Job, Names, Task};
 use crate::memory::Memory;
-use crate::messages::{Place, Reached, fault_line, print_all};
+use crate::messages::{Place, Reached, fault_line, print_all, wants_message};
 use crate::misread::report_misread;
 use crate::run_error::RunError;
 use crate::window::Window;
@@ -67,6 +69,16 @@ pub(crate) fn print_messages<A: Allocator + Copy, W: Write>(
     }
 }
 
+// What comes of an input whose messages are whole, and take so many bytes: a fault where the task wants one.
+pub(crate) fn behind_all(task: Task<'_>, count: usize) -> Result<Option<Place>, RunError>
+    ensures { result ≡ behind_all task.entry count }
+{
+    if wants_message(task) && count == 0 {
+        return Err(RunError::NoMessage);
+    }
+    Ok(None)
+}
+
 // Prints what a job asks for of raw messages as they come, each when it is there as a whole, and gives the first fault.
 fn print_raw<A: Allocator, B: Allocator + Copy, R: Read, W: Write>(
     alloc: B,
@@ -103,7 +115,7 @@ fn print_raw<A: Allocator, B: Allocator + Copy, R: Read, W: Write>(
             Reached::Fault(place) => return Ok(Some(place)),
         }
         if ended {
-            return Ok(None);
+            return behind_all(job.task, base);
         }
         ended = window.read_more(input)? == 0;
     }
@@ -259,11 +271,22 @@ pub(crate) fn report<E: Write>(errors: &mut E, writable: bool, text: &str) -> bo
     writable && errors.send(text.as_bytes()).is_ok()
 }
 
+// Writes what the input is called, escaped; returns whether it was written to its end.
+fn report_name<E: Write>(errors: &mut E, name: &str) -> bool
+    ensures { Reports result (E.contents errors.old) (E.contents errors.new) (escaped name.now) }
+{
+    let mut pieces = Pieces::new(errors);
+    match push_text(&mut pieces, name) {
+        Ok(()) => pieces.finish().is_ok(),
+        Err(_) => false,
+    }
+}
+
 /// Writes what the input is called, and the offset in it, if one is given.
 pub(crate) fn report_place<E: Write>(errors: &mut E, name: &str, offset: Option<usize>) -> bool
     ensures { Reports result (E.contents errors.old) (E.contents errors.new) (place_report name.now offset) }
 {
-    let writable = errors.send(name.as_bytes()).is_ok();
+    let writable = report_name(errors, name);
     let Some(at) = offset else {
         return writable;
     };
@@ -271,10 +294,11 @@ pub(crate) fn report_place<E: Write>(errors: &mut E, name: &str, offset: Option<
     report(errors, writable, Buffer::new().format(at))
 }
 
-// Writes the line that says something of an input, as far as it can be written.
-fn report_words<E: Write>(errors: &mut E, name: &str, words: &str)
+/// Writes the line that says something of an input, a table or a word, whose name is escaped, as far as it can be written. It takes
+/// no memory.
+pub fn report_words<E: Write>(errors: &mut E, name: &str, words: &str)
     ensures { AppendsFront (E.contents errors.old) (E.contents errors.new)
-        (name.now ++ codes ": " ++ words.now ++ codes "\n") }
+        (escaped name.now ++ codes ": " ++ words.now ++ codes "\n") }
 {
     let writable = report_place(errors, name, None);
     let writable = report(errors, writable, ": ");
@@ -292,6 +316,7 @@ pub(crate) fn report_error<E: Write>(errors: &mut E, name: &str, run_error: RunE
         RunError::UnopenedInput
         | RunError::UnreadableInput
         | RunError::NotUtf8
+        | RunError::NoMessage
         | RunError::UnwritableOutput
         | RunError::NoMemory => report_words(errors, name, run_error.words()),
     }
@@ -307,8 +332,39 @@ fn report_back_fault<E: Write>(errors: &mut E, name: &str, fault: BackFault)
     report(errors, writable, "\n");
 }
 
+// Does what [`run`] does, and returns whether all messages are whole, or why not all were printed.
+pub(crate) fn run_to_end<A: Allocator + Copy, B: Allocator + Copy, R: Read, W: Write, E: Write>(
+    memory: Memory<A, B>,
+    job: &Job<'_>,
+    names: &Names<'_, B>,
+    input: &mut R,
+    output: &mut W,
+    errors: &mut E,
+) -> Result<bool, RunError>
+    ensures { RunEnds (names_of names.now) job.now
+        (record {
+          input = R.remaining input.old;
+          input_left = R.remaining input.new;
+          output = W.contents output.old;
+          output_now = W.contents output.new;
+        })
+        (E.contents errors.old) (E.contents errors.new) result }
+{
+    match respond(memory, job, names, input, output) {
+        Ok(None) => Ok(true),
+        Ok(Some(line)) => {
+            let _ = errors.send(line.as_bytes());
+            Ok(false)
+        }
+        Err(run_error) => {
+            report_error(errors, job.name, run_error);
+            Err(run_error)
+        }
+    }
+}
+
 /// Reads `input`, prints what the job asks for to `output`, and returns the exit status: 0 if all messages are
-/// whole, 1 if one is malformed, 2 if the input can't be read or decoded, 3 when out of memory or if the output
+/// whole, 1 if one is malformed, or none is there and the task wants one, 2 if the input can't be read or decoded, 3 when out of memory or if the output
 /// can't be written.
 ///
 /// Messages are printed as they come, each before the next read if all of it is there, of a text with one character more.
@@ -338,8 +394,16 @@ pub fn run<A: Allocator + Copy, B: Allocator + Copy, R: Read, W: Write, E: Write
         })
         × Keeps (E.contents errors.old) (E.contents errors.new) }
     // With status 1 a message of the input is malformed: what is printed up to its fault was appended, and the errors
-    // have its line. A front of the input was read.
+    // have its line. A front of the input was read. Or there is no message, and the task wants one.
     ensures malformed { result ≡ 1 → Malformed (names_of names.now) job.now
+        (record {
+          input = R.remaining input.old;
+          input_left = R.remaining input.new;
+          output = W.contents output.old;
+          output_now = W.contents output.new;
+        })
+        (E.contents errors.old) (E.contents errors.new)
+        ⊎ Lacking job.now
         (record {
           input = R.remaining input.old;
           input_left = R.remaining input.new;
@@ -357,15 +421,46 @@ pub fn run<A: Allocator + Copy, B: Allocator + Copy, R: Read, W: Write, E: Write
         })
         result (E.contents errors.old) (E.contents errors.new) }
 {
-    match respond(memory, job, names, input, output) {
-        Ok(None) => 0,
-        Ok(Some(line)) => {
-            let _ = errors.send(line.as_bytes());
-            1
+    match run_to_end(memory, job, names, input, output, errors) {
+        Ok(true) => 0,
+        Ok(false) => 1,
+        Err(why) => why.status(),
+    }
+}
+
+// Does what [`read_back`] does, and returns whether all lines are whole, or why not all were read back.
+pub(crate) fn read_back_to_end<
+    A: Allocator + Copy,
+    B: Allocator + Copy,
+    R: Read,
+    W: Write,
+    E: Write,
+>(
+    memory: Memory<A, B>,
+    job: &BackJob<'_>,
+    names: &Names<'_, B>,
+    input: &mut R,
+    output: &mut W,
+    errors: &mut E,
+) -> Result<bool, RunError>
+    ensures { BackEnds (names_of names.now) job.now
+        (record {
+          input = R.remaining input.old;
+          input_left = R.remaining input.new;
+          output = W.contents output.old;
+          output_now = W.contents output.new;
+        })
+        (E.contents errors.old) (E.contents errors.new) result }
+{
+    match respond_back(memory, job, names, input, output) {
+        Ok(None) => Ok(true),
+        Ok(Some(fault)) => {
+            report_back_fault(errors, job.name, fault);
+            Ok(false)
         }
         Err(run_error) => {
             report_error(errors, job.name, run_error);
-            run_error.status()
+            Err(run_error)
         }
     }
 }
@@ -417,15 +512,9 @@ pub fn read_back<A: Allocator + Copy, B: Allocator + Copy, R: Read, W: Write, E:
         })
         result (E.contents errors.old) (E.contents errors.new) }
 {
-    match respond_back(memory, job, names, input, output) {
-        Ok(None) => 0,
-        Ok(Some(fault)) => {
-            report_back_fault(errors, job.name, fault);
-            1
-        }
-        Err(run_error) => {
-            report_error(errors, job.name, run_error);
-            run_error.status()
-        }
+    match read_back_to_end(memory, job, names, input, output, errors) {
+        Ok(true) => 0,
+        Ok(false) => 1,
+        Err(why) => why.status(),
     }
 }

@@ -1,12 +1,12 @@
-//! Why a run ends with status 2 or 3.
+//! Why a run ends early, with status 2 or 3; or with status 1 for an input without a message.
 
 ghost use Rattle.std.specs.Prelude.{◌≡◌};
-ghost use Rattle.ttlv_run.specs.Reasons.{status_of, words_of};
+ghost use Rattle.ttlv_run.specs.Reasons.{status_of, status_in, words_of};
 
 use crate::misread::Misread;
 use std::alloc::AllocError;
 
-/// Why a run ends with status 2 or 3.
+/// Why a run ends early, or reads an input that has no message.
 #[derive(Clone, Copy, Debug, PartialEq, Eq)]
 pub enum RunError {
     /// The input can't be opened.
@@ -17,6 +17,8 @@ pub enum RunError {
     MisreadInput(Misread),
     /// The input is no UTF-8.
     NotUtf8,
+    /// The input has no message, and the task wants one.
+    NoMessage,
     /// The output can't be written.
     UnwritableOutput,
     /// No one reads the output any more.
@@ -35,6 +37,7 @@ impl RunError {
             | RunError::UnreadableInput
             | RunError::MisreadInput(_)
             | RunError::NotUtf8 => 2,
+            RunError::NoMessage => 1,
             RunError::UnwritableOutput | RunError::ClosedPipe | RunError::NoMemory => 3,
         }
     }
@@ -48,10 +51,22 @@ impl RunError {
             RunError::UnreadableInput => "it can't be read",
             RunError::MisreadInput(_) => "it stands for no bytes",
             RunError::NotUtf8 => "it is not UTF-8",
+            RunError::NoMessage => "no message",
             RunError::UnwritableOutput => "the output can't be written",
             RunError::ClosedPipe => "",
             RunError::NoMemory => "out of memory",
         }
+    }
+}
+
+/// The exit status of a run in which all is whole or not, or which ended early.
+pub fn status_in(outcome: Result<bool, RunError>) -> u8
+    ensures { result ≡ status_in outcome }
+{
+    match outcome {
+        Ok(true) => 0,
+        Ok(false) => 1,
+        Err(why) => why.status(),
     }
 }
 

@@ -4,7 +4,7 @@ ghost use Rattle.std.specs.Prelude.{◌≡◌, ◌⊎◌, ◌++◌, IfOk, IfErr,
 ghost use Rattle.ttlv_run.specs.Tables.{IsJoined};
 
 use crate::coding::read_all;
-use crate::run::report_error;
+use crate::run::{report_error, report_place};
 use crate::run_error::RunError;
 use itoa::Buffer;
 use kmip_ttlv_names::{TableError, own_names};
@@ -24,18 +24,21 @@ fn joined<A: Allocator>(alloc: A, front: &str, table: &str) -> Result<String<A>,
 
 // Reports that a line of a table names no tag.
 fn report_line<E: Write>(errors: &mut E, name: &str, line: usize) {
-    let _ = errors.send(name.as_bytes());
+    report_place(errors, name, None);
     let _ = errors.send(b": line ");
     let _ = errors.send(Buffer::new().format(line).as_bytes());
     let _ = errors.send(b" names no tag\n");
 }
 
-// Reports why a table is none, and returns the exit status.
+// Reports why a table is none, and returns the exit status: 3 when out of memory, and else 2.
 fn refuse<E: Write>(errors: &mut E, name: &str, run_error: RunError) -> u8
     ensures { (result ≡ 2) ⊎ (result ≡ 3) }
 {
     report_error(errors, name, run_error);
-    run_error.status()
+    match run_error {
+        RunError::NoMemory => 3,
+        _ => 2,
+    }
 }
 
 /// The standard's table and behind it that which `input` has to its end. It is called `name` in the line on

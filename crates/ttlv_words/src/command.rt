@@ -50,7 +50,9 @@ enum Part {
     Raw,
     Bytes,
     Closed,
+    Unclosed,
     Kmip,
+    Empty,
 }
 
 /// Each command: its name, what it does, and what may stand behind it.
@@ -74,7 +76,13 @@ const COMMANDS: [(&str, &str, &[Part]); 7] = [
     (
         "diag",
         "Prints a redacted diagnostic of each message, a line each",
-        &[Part::Prefix, Part::Closed, Part::Input, Part::Files],
+        &[
+            Part::Prefix,
+            Part::Closed,
+            Part::Unclosed,
+            Part::Input,
+            Part::Files,
+        ],
     ),
     (
         "undiag",
@@ -84,7 +92,7 @@ const COMMANDS: [(&str, &str, &[Part]); 7] = [
     (
         "check",
         "Prints nothing but the first fault of each input",
-        &[Part::Kmip, Part::Input, Part::Files],
+        &[Part::Kmip, Part::Empty, Part::Input, Part::Files],
     ),
     (
         "hex",
@@ -207,7 +215,14 @@ fn closed<'w>(alloc: Global) -> Arg<'w> {
     Arg::new(alloc, "closed")
         .long("closed")
         .action(ArgAction::SetTrue)
-        .help("Closes empty structures")
+        .help("Closes empty structures: the default")
+}
+
+fn unclosed<'w>(alloc: Global) -> Arg<'w> {
+    Arg::new(alloc, "unclosed")
+        .long("unclosed")
+        .action(ArgAction::SetTrue)
+        .help("Leaves empty structures open, as the crate kmip-ttlv does")
 }
 
 fn kmip<'w>(alloc: Global) -> Arg<'w> {
@@ -215,6 +230,13 @@ fn kmip<'w>(alloc: Global) -> Arg<'w> {
         .long("kmip")
         .action(ArgAction::SetTrue)
         .help("Wants each message to be a Request Message or a Response Message")
+}
+
+fn empty<'w>(alloc: Global) -> Arg<'w> {
+    Arg::new(alloc, "allow-empty")
+        .long("allow-empty")
+        .action(ArgAction::SetTrue)
+        .help("Takes an input without a message, too")
 }
 
 fn arg<'w>(alloc: Global, part: Part) -> Arg<'w> {
@@ -232,7 +254,9 @@ fn arg<'w>(alloc: Global, part: Part) -> Arg<'w> {
         Part::Raw => raw(alloc),
         Part::Bytes => bytes(alloc),
         Part::Closed => closed(alloc),
+        Part::Unclosed => unclosed(alloc),
         Part::Kmip => kmip(alloc),
+        Part::Empty => empty(alloc),
     }
 }
 

@@ -98,7 +98,7 @@ fn task_of<'w>(command: &str, matches: &ArgMatches<'w>) -> Task<'w> {
             look: look_of(matches),
         },
         "diag" => Task::Diagnose {
-            closed: matches.get_flag("closed"),
+            closed: matches.get_flag("closed") || !matches.get_flag("unclosed"),
             prefix: prefix_of(matches),
         },
         "hex" => Task::Hexadecimal,
@@ -107,6 +107,7 @@ fn task_of<'w>(command: &str, matches: &ArgMatches<'w>) -> Task<'w> {
         },
         _ => Task::Check {
             kmip: command == "check" && matches.get_flag("kmip"),
+            empty: command == "check" && matches.get_flag("allow-empty"),
         },
     }
 }

@@ -3,7 +3,7 @@ use Rattle.std.proofs.lemmas.{Result.err_from_is_err_and, List.length-take-le}
 use Rattle.ttlv_run.specs.{Columns.mark_length, Decoding.is_last, Streaming.buffered}
 use Rattle.ttlv_run.proofs.TextStreams.{text_starts, memory_before, ready, ready_standing, wrong_there, text_read_fails, more_characters, text_printed}
 use Rattle.ttlv_run.proofs.Decided.{unwritten}
-use Rattle.ttlv_run.proofs.Windows.{shown_none, no_bytes, faults, fails_in, goes_further, no_memory}
+use Rattle.ttlv_run.proofs.Windows.{shown_none, no_bytes, faults, fails_in, behind_places, goes_further, no_memory}
 use Rattle.ttlv_run.proofs.digits.print_digits.Goals as goal
 
 pub pieces-init : goal.pieces-init
@@ -62,7 +62,7 @@ pub returns-then-ended : goal.returns-then-ended
 returns-then-ended g c = λ known h.
     let r = ready (c.pieces.invariant known h) _ _ c.in_ok-wrong.ensures.made c.in_ok-wrong.ensures.form c.buffered-buffered.ensures.are in
     let count = c.in_ok-count.ensures in
-    text_printed r c.is_last-last.ensures c.in_default.is c.if-ended.true c.in-Behind.is count.end count.ok
+    rw c.behind_all.ensures (behind_places (text_printed r c.is_last-last.ensures c.in_default.is c.if-ended.true c.in-Behind.is count.end count.ok) _ refl)
 
 -- reading failed, or memory ran out for it
 pub returns-in_err-ended : goal.returns-in_err-ended

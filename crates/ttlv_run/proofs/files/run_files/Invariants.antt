@@ -1,4 +1,4 @@
-use Rattle.std.proofs.Common.{◌≢◌, take}
+use Rattle.std.proofs.Common.{take, false}
 use Rattle.ttlv_run.specs.{Files.AllDone, Texts.names_of}
 use Rattle.ttlv_run.proofs.files.run_files.Given as goal
 
@@ -8,4 +8,4 @@ invariant-files g l =
     (record { opener = l.initial.opener; output = g.W.Write.contents l.initial.output; errors = g.E.Write.contents l.initial.errors })
     (take l.name-index l.files)
     (record { opener = l.opener; output = g.W.Write.contents l.output; errors = g.E.Write.contents l.errors }) l.status
-    × (l.status ≢ 3)
+    false

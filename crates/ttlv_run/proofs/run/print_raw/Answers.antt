@@ -1,8 +1,9 @@
-use Rattle.std.proofs.Common.{◌∙◌, inr, drop, ap, sym}
+use Rattle.std.proofs.Common.{◌∙◌, inr, drop, ap, sym, refl}
 use Rattle.std.proofs.lemmas.Result.{err_from_is_err_and}
 use Rattle.ttlv_run.specs.Streaming.{buffered}
 use Rattle.ttlv_run.proofs.Decided.{unwritten}
-use Rattle.ttlv_run.proofs.Windows.{shown_none, raw_standing, of_bytes, faults, fails_in, printed, goes_further, more_came, no_memory, read_fails}
+use Rattle.ttlv_run.proofs.Windows.{shown_none, raw_standing, of_bytes, faults, fails_in, printed, behind_places, goes_further, more_came, no_memory}
+use Rattle.ttlv_run.proofs.Windows.{read_fails}
 use Rattle.ttlv_run.proofs.run.print_raw.Goals as goal
 
 pub pieces-init : goal.pieces-init
@@ -34,7 +35,7 @@ returns-in-Fault g c = λ known h.
 pub returns-then-ended : goal.returns-then-ended
 returns-then-ended g c = λ known h.
     let p = of_bytes (c.pieces.invariant known h) c.buffered-buffered.ensures.are in
-    printed p c.in-Behind.is c.in_ok-count.ensures.end c.if-ended.true c.in_ok-count.ensures.ok
+    rw c.behind_all.ensures (behind_places (printed p c.in-Behind.is c.in_ok-count.ensures.end c.if-ended.true c.in_ok-count.ensures.ok) _ refl)
 
 -- reading failed, or memory ran out for it
 pub returns-in_err-ended : goal.returns-in_err-ended

@@ -1,10 +1,10 @@
 use Rattle.std.proofs.Common.{subst, string_bytes}
 use Rattle.kmip_ttlv_types.specs.Streams.{AppendsFront}
 use Rattle.ttlv_run.proofs.Appending.{sent_front}
-use Rattle.ttlv_run.proofs.run.run.Goals as goal
+use Rattle.ttlv_run.proofs.run.run_to_end.Goals as goal
 
-pub returns-in-Ok-Some-clause-malformed : goal.returns-in-Ok-Some-clause-malformed
-returns-in-Ok-Some-clause-malformed g c = λ one. record {
+pub returns-in-Ok-Some : goal.returns-in-Ok-Some
+returns-in-Ok-Some g c = record {
   line = string_bytes c.in-Ok-Some.line;
   breaks = rw c.in-Ok-Some.field-0-is at c.in-Ok-Some.ensures;
   reported = subst (AppendsFront _ _) c.as_bytes.ensures.value (sent_front c.send.result _ _ c.as_bytes.result.now c.send.ensures.ok c.send.ensures.err);
