@@ -35,8 +35,8 @@ struct Limits {
 }
 
 impl<B: Allocator> BoundedAllocator<B> {
-    /// Allocates from `inner`, at most `budget` bytes at a time. What is freed can be allocated again. A
-    /// vector that grows has its old block and its new one for a moment.
+    /// Allocates from `inner`, at most `budget` bytes at a time. What is freed can be allocated again, and what
+    /// `inner` refuses isn't counted. A vector that grows has its old block and its new one for a moment.
     ///
     /// ```
     /// let memory = BoundedAllocator::new(rt.alloc(), 64);
@@ -151,7 +151,13 @@ unsafe impl<B: Allocator> Allocator for BoundedAllocator<B> {
         if is_beyond(&self.limits, size) {
             return Err(AllocError);
         }
-        self.inner.allocate(size, align)
+        match self.inner.allocate(size, align) {
+            Ok(block) => Ok(block),
+            Err(error) => {
+                give_back(&self.limits, size);
+                Err(error)
+            }
+        }
     }
 
     unsafe fn deallocate(&self, ptr: *mut u8, size: usize, align: usize) {

@@ -106,3 +106,20 @@ fn asked_is_a_sum(alloc: Global) -> bool {
 fn what_is_asked_for_is_counted(rt: HostRuntime) {
     assert!(rt; asked_is_a_sum(rt.alloc()));
 }
+
+// Whether what the allocator below refuses costs nothing of a budget: neither a new block, nor the growth of a vector.
+fn refusals_cost_nothing(alloc: Global) -> Option<bool> {
+    let below = BoundedAllocator::in_blocks(alloc, 10);
+    let memory = BoundedAllocator::new(&below, 100);
+    let mut bytes = Vec::with_capacity(&memory, 8).ok()?;
+    let is_refused = fails(&memory, 11) && below.has_failed() && !memory.has_failed();
+    let is_held = memory.left() == 92 && !takes_ten(&mut bytes) && memory.left() == 92;
+    drop(bytes);
+    Some(is_refused && is_held && memory.left() == 100)
+}
+
+#[test]
+fn a_budget_counts_what_was_given(rt: HostRuntime) -> Result<(), Fail> {
+    assert!(rt; refusals_cost_nothing(rt.alloc()) == Some(true));
+    Ok(())
+}

@@ -1,43 +1,50 @@
 -- It fails beyond a limit, and otherwise returns what the inner allocator returns. Assumes `Logic`.
 use Rattle.std.proofs.Common.{◌≡◌, ℕ, ◌+◌, ◌^◌, ◌<◌, true, false, List, [], ◌∷◌, Ok, Err, refl, w64, Bor}
 use seplogic.Ra.Ura.{Ura}
-use mir.Syntax.{Ty, Args, Fn, a_type, dnil, dcons}
+use mir.Syntax.{Ty, Args, Fn, Body, a_type, dnil, dcons}
 use mathlib.Core.Bool.{Bool}
-use mir.Val.{Val, vbool, vint, vptr}
+use mir.Val.{Val, vbool, vint, vptr, vunit}
 use mir.MapTy.{inst_fn}
 use base.Logic.{SProp, ent, id⊢}
 use base.Fml.{Lft, Share, ftrue, flft}
 use prog.Memory.{Memory, size, align, capped, up}
 use prog.Routine.{Routine}
-use prog.Wp.{Env, WpFn, Tables}
+use prog.Wp.{Env, Wp, WpFn, Tables, after_seq, at_return}
 use types.Logic.{Logic}
 use contract.BorrowLft.{◌⊑◌, ⊑_trans}
 use contract.Monad.{Fun, fact}
 use contract.Running.{tables, tables_of}
 use sound.WpLaws.{fm_of, WpFn-mono}
-use types.Run.{stop, fld, addr, lit, no_more, and_then, first, branches, skips, exec, returns, returns_within, enter}
-use types.Part.{agg}
-use Rattle.std.proofs.VecSteps.Shapes.{after}
+use types.Run.{stop, fld, addr, lit, no_more, and_then, of_opd, first, branches, switches_on, skips, exec, returns, returns_within, enter}
+use types.Part.{whole, agg}
+use types.Match.{vrt, in_variant}
+use Rattle.std.proofs.VecSteps.Shapes.{after, front, arm_body}
 use denote.Exit.{yes}
 use denote.RattleType.{owns}
 use denote.Ref.{shr_vals}
-use denote.Opens.{unhide}
+use denote.Memory.{hidden_shr}
+use denote.Opens.{unhide, shr_dup}
 use denote.Param.{bounded, param}
 use denote.Plain.{uint_vals, uint_Tells}
 use denote.Signature.{Slot, plain, types_at}
 use denote.Steps.{heard, nothing}
 use denote.Triple.{Clauses.Ended, Clauses.Clauses, Spec.triple_of, Statement.Triple, Table.entered, Table.cited, Call.calls_at}
 use denote.Triple.Walked.{Stays, stay_dropped, walk_of, ends_at, walked, Goes-dropped, walk_Meets}
-use types.Kit.{‵, raw, ◌⊛◌, some, pick, at_ret, later, given, learn, ◌$◌, ◌∵◌, !, qed, move, keep, use0, use1, use2, split, join, fsplit, fjoin, suffices}
+use types.Kit.{‵, raw, ◌⊛◌, some, pick, at_ret, any_q, Post as After, later, given, learn, ◌$◌, ◌∵◌, !, qed, move, keep, use0, use1, use2, split, join, fsplit}
+use types.Kit.{fjoin, suffices}
 use types.Kit.{await, done}
-use types.ByLocal.{alloc_all, pass_all, free_all, look_at, get, through, sets, lands_as, env}
+use types.ByLocal.{alloc_all, pass_all, free_all, look_at, get, get_in, get_tag, through, sets, sets_last, lands_as, env}
 use denote.RawPtr.{block_ptr}
 use denote.Builtin.{usize, RefOf}
 use Rattle.std.proofs.alloc.Calls.{Al, α, seen, Answer, answer_val, Answer-typed, Answer-Ok, Answer-err, takes_key, Takes, at_takes, Answered, Takes-goes}
 use Rattle.std.proofs.alloc.Calls.{Takes-gives, answers}
-use Rattle.kmip_ttlv_memory.proofs.LimitCalls.{Beyond, at_beyond, Beyond-goes, Beyond-gives}
+use Rattle.kmip_ttlv_memory.proofs.LimitCalls.{Beyond, at_beyond, Beyond-goes, Beyond-gives, Back, at_back, Back-goes, Back-gives}
 use Rattle.kmip_ttlv_memory.proofs.is_beyond.Symbol as c_sym
 use Rattle.kmip_ttlv_memory.proofs.is_beyond.Met as c_met
+use Rattle.kmip_ttlv_memory.proofs.give_back.Symbol as b_sym
+use Rattle.kmip_ttlv_memory.proofs.give_back.Met as b_met
+use Rattle.kmip_ttlv_memory.specs.contracts.Limits as LI
+use Rattle.kmip_ttlv_memory.proofs.Limits.TheLaws as limits_laws
 use Rattle.kmip_ttlv_memory.specs.contracts.BoundedAllocator as wrapper
 use Rattle.kmip_ttlv_memory.specs.contracts.BoundedAllocatorAllocator.allocate as F
 use Rattle.kmip_ttlv_memory.specs.contracts.BoundedAllocatorAllocator.allocate.Key as key
@@ -61,7 +68,8 @@ module _ (Z : Al) where
   stayed = (stay_dropped self yes, (stay_dropped (plain (λ _. usize)) yes, (stay_dropped (plain (λ _. usize)) yes, tt)))
 
 module _ (Z : Al) {M : Type 1} {𝓤 : Ura M} (𝓛 : Logic 𝓤) (at_mem : Memory → SProp 𝓤) (run : Routine → Fun 𝓤) (𝓣 : Tables 𝓤 𝓛.H)
-    (tk : Triple 𝓤 (𝓣.C (takes_key Z)) (Takes Z 𝓛 at_mem run)) (kn : Triple 𝓤 (𝓣.C c_sym.name) (Beyond 𝓛 at_mem run)) where
+    (tk : Triple 𝓤 (𝓣.C (takes_key Z)) (Takes Z 𝓛 at_mem run)) (kn : Triple 𝓤 (𝓣.C c_sym.name) (Beyond 𝓛 at_mem run))
+    (bk : Triple 𝓤 (𝓣.C b_sym.name) (Back 𝓛 at_mem run)) where
   open 𝓛 use {H}
 
   abbrev held : Clauses 𝓤 (ended Z)
@@ -89,8 +97,12 @@ module _ (Z : Al) {M : Type 1} {𝓤 : Ura M} (𝓛 : Logic 𝓤) (at_mem : Memo
         move ! (1 ∷ []) $ split ! $ heard ! (κ₂ ⊑ Z.row.lives) (λ le. heard ! Said (λ said.
         split ! $ split ! $ move ! (2 ∷ []) $ fsplit ! $ fsplit ! $ move ! (1 ∷ []) $ unhide ! $ fsplit ! $ fsplit ! $ use1 𝓛 (‵ (seen Z κ₁ p h))
         (id⊢ 𝓤 _) $ move ! (1 ∷ []) $ fsplit ! $ keep ! (0 ∷ 6 ∷ 2 ∷ 7 ∷ []) $
+        use1 𝓛 (‵ (hidden_shr LI.the_row κ₁ r.now.limits c.0 c.1)) (id⊢ 𝓤 _) $
+        shr_dup ! LI.the_row limits_laws.the_row_laws.shr_laws r.now.limits c.0 c.1 κ₁ $ move ! (0 ∷ 2 ∷ 3 ∷ 4 ∷ []) $
         enter ! 𝓣.C 𝓣.Λ (here Z) vs _ $ alloc_all ! (λ l. pass_all ! refl ((tt, tt), ((tt, record { fits = fn }), ((tt, record { fits = fa }), tt))) $
         let En : Env 𝓤 H = env (here Z).locals l in
+        let Then : After 𝓤 H = any_q (after_seq 𝓤 H (Wp 𝓤 H 𝓣.C 𝓣.Λ En (after 6 (here Z).body) (at_return 𝓤 H En Post)) (at_return 𝓤 H En Post)) in
+        let both : Body = front (after 5 (here Z).body) in
         sets ! (addr ! (through ! refl (fld ! refl (stop !)))) refl (tt, tt) $
         use2 𝓛 (raw ((Beyond 𝓛 at_mem run).pre (at_beyond 𝓛 at_mem run κ₁ q₁ c r.now.limits n))) (Beyond-goes 𝓛 at_mem run κ₁ q₁ c r.now.limits n fn) $
         calls_at ! (fm_of 𝓤 H 𝓛.laws 𝓣) (Beyond 𝓛 at_mem run) kn (at_beyond 𝓛 at_mem run κ₁ q₁ c r.now.limits n)
@@ -114,16 +126,34 @@ module _ (Z : Al) {M : Type 1} {𝓤 : Ura M} (𝓛 : Logic 𝓤) (at_mem : Memo
         (λ v.
         use1 𝓛 (later (raw (Answered Z 𝓛 at_mem run h τ v) ⊛ ‵ (flft κ₁ q₁))) (Takes-gives Z 𝓛 at_mem run κ₁ q₁ p h n a τ v) $ await ! tt $ split ! $
         answers Z ! at_mem run h τ v
-        (λ b o e. fjoin ! $ lands_as ! e refl (Answer-typed true b o) $ returns ! (look_at ! 0 refl) $ free_all ! refl $
+        (λ b o e. fjoin ! $ lands_as ! e refl (Answer-typed true b o) $
+        first ! $ switches_on ! (get_tag ! (vrt ! refl (fld ! refl (stop !))) (whole !)) $ exec ! 𝓣.C 𝓣.Λ En (arm_body 0 both) Then $
+        sets ! (of_opd ! (get_in ! (vrt ! refl (fld ! refl (stop !))) (in_variant ! 0 0 refl refl (whole !)))) refl (tt, tt) $
+        sets_last ! (agg ! (and_then ! (lit ! tt) (and_then ! (get ! refl) (no_more !)))) refl (Answer-typed true b o) $
+        exec ! 𝓣.C 𝓣.Λ En (after 6 (here Z).body) (at_ret En Post) $ sets ! (of_opd ! (get ! refl)) refl (Answer-typed true b o) $
+        returns ! (look_at ! 0 refl) $ free_all ! refl $ keep ! (0 ∷ 1 ∷ 2 ∷ []) $
         suffices ! _ (ends_at 𝓛 (ended Z) (stayed Z) held bound (answer_val true b o) (Ok (block_ptr b o)) (tt, (tt, (tt, tt))) (tt, (tt, (tt, tt)))) $
         use0 𝓛 (‵ (Answer.own_val (Ok (block_ptr b o)) (answer_val true b o ∷ []))) (Answer-Ok 𝓛 b o) $ nothing ! $ nothing ! $ fjoin ! $ nothing ! $ fjoin ! $
         nothing ! $ fjoin ! $ join ! $
         move ! (2 ∷ 3 ∷ []) $ join ! $ join ! $ done !)
-        (λ e. nothing ! $ lands_as ! e refl (Answer-typed false 0 0) $ returns ! (look_at ! 0 refl) $ free_all ! refl $
+        (λ e. lands_as ! e refl (Answer-typed false 0 0) $
+        first ! $ switches_on ! (get_tag ! (vrt ! refl (fld ! refl (stop !))) (whole !)) $ exec ! 𝓣.C 𝓣.Λ En (arm_body 1 both) Then $
+        sets ! (of_opd ! (get_in ! (vrt ! refl (fld ! refl (stop !))) (in_variant ! 1 0 refl refl (whole !)))) refl (tt, tt) $
+        sets ! (addr ! (through ! refl (fld ! refl (stop !)))) refl (tt, tt) $
+        -- [the tokens; what is seen of the limits]
+        move ! (2 ∷ 0 ∷ []) $
+        use2 𝓛 (raw ((Back 𝓛 at_mem run).pre (at_back 𝓛 at_mem run κ₁ q₁ c r.now.limits n))) (Back-goes 𝓛 at_mem run κ₁ q₁ c r.now.limits n fn) $
+        calls_at ! (fm_of 𝓤 H 𝓛.laws 𝓣) (Back 𝓛 at_mem run) bk (at_back 𝓛 at_mem run κ₁ q₁ c r.now.limits n)
+        (and_then ! (get ! refl) (and_then ! (get ! refl) (no_more !))) (λ w.
+        use1 𝓛 (later (given (w ≡ vunit) (‵ (flft κ₁ q₁)))) (Back-gives 𝓛 at_mem run κ₁ q₁ c r.now.limits n w) $ await ! tt $ learn ! (λ ew.
+        lands_as ! ew refl (tt, tt) $
+        sets_last ! (agg ! (and_then ! (lit ! tt) (and_then ! (get ! refl) (no_more !)))) refl (Answer-typed false 0 0) $
+        exec ! 𝓣.C 𝓣.Λ En (after 6 (here Z).body) (at_ret En Post) $ sets ! (of_opd ! (get ! refl)) refl (Answer-typed false 0 0) $
+        returns ! (look_at ! 0 refl) $ free_all ! refl $ keep ! (0 ∷ 1 ∷ []) $ nothing ! $
         suffices ! _ (ends_at 𝓛 (ended Z) (stayed Z) held bound (answer_val false 0 0) (Err (record {})) (tt, (tt, (tt, tt))) (tt, (tt, (tt, tt)))) $
         use0 𝓛 (‵ (Answer.own_val (Err (record {})) (answer_val false 0 0 ∷ []))) (Answer-err 𝓛) $ nothing ! $ nothing ! $ fjoin ! $ nothing ! $ fjoin ! $
         nothing ! $ fjoin ! $ join ! $
-        move ! (2 ∷ 3 ∷ []) $ join ! $ join ! $ done !)))))))))
+        move ! (2 ∷ 3 ∷ []) $ join ! $ join ! $ done !)))))))))))
 
 pub allocate_spec : {M : Type 1} → stated.statement M
 unfolding tables_of
@@ -143,4 +173,6 @@ allocate_spec 𝓤 𝓛 𝓜 𝓡 wired Y L g d d' met _ =
     (walked 𝓛 (ended Z) (stayed Z) c (WpFn 𝓤 𝓛.H 𝓣.C 𝓣.Λ (here Z)) (λ κs. (shr_vals, (uint_vals w64, (uint_vals w64, tt))))
     (λ κs. ((λ r vs s. s.0), (uint_Tells w64, (uint_Tells w64, tt))))
     (λ κs qs bounds a τ are. walk Z 𝓛 𝓜.mem 𝓡.returns 𝓣 (met.allocate d') (cited 𝓤 𝓛.H _ 𝓜 𝓡 𝓡.env c_sym.name (𝓡.env c_sym.name) refl
-    (c_met.met 𝓤 𝓛 𝓜 𝓡 (code.calls-kmip_ttlv_memory::is_beyond 𝓡.env wired))) κs.0 κs.1.0 qs.0 qs.1.0 bounds.0 a.0 a.1.0 a.1.1.0 τ are.1.0.1 are.1.1.0.1)))
+    (c_met.met 𝓤 𝓛 𝓜 𝓡 (code.calls-kmip_ttlv_memory::is_beyond 𝓡.env wired)))
+    (cited 𝓤 𝓛.H _ 𝓜 𝓡 𝓡.env b_sym.name (𝓡.env b_sym.name) refl
+    (b_met.met 𝓤 𝓛 𝓜 𝓡 (code.calls-kmip_ttlv_memory::give_back 𝓡.env wired))) κs.0 κs.1.0 qs.0 qs.1.0 bounds.0 a.0 a.1.0 a.1.1.0 τ are.1.0.1 are.1.1.0.1)))
