@@ -4,20 +4,21 @@
 //! `ttlv_words` and `ttlv_run`, which do the rest over any reader and any writers.
 #![tactic(auto)]
 
+use clap::Error;
 use either::Either;
-use kmip_ttlv_memory::BoundedAllocator;
 use kmip_ttlv_names::{
     STANDARD_SECRETS, STANDARD_TAGS, own_names, standard_masks, standard_values, tag_named,
 };
 use kmip_ttlv_types::TtlvTag;
-use std::alloc::{AllocError, Allocator, Global};
+use std::alloc::{AllocError, Global};
 use std::fs::File;
-use std::io::{IsTerminal, Stderr, Stdin};
+use std::io::{ErrorKind, IsTerminal, Stderr, Stdin};
 use std::process::ExitCode;
 use std::rt::Env;
 use std::{env, fs, io};
 use ttlv_run::files::{Opener, run_asked, run_files};
 use ttlv_run::progress::Progress;
+use ttlv_run::run::report_words;
 use ttlv_run::table::own_table;
 use ttlv_run::{Asked, Look, Memory, Names, Task};
 use ttlv_words::{Color, Request, request_of};
@@ -25,18 +26,46 @@ use ttlv_words::{Color, Request, request_of};
 /// The status of usage, and of input that can't be read.
 const USAGE: u8 = 2;
 
-/// The exit status if memory runs out.
-const NO_MEMORY: u8 = 3;
+/// The exit status if memory runs out, or the output can't be written.
+const FAILED: u8 = 3;
 
-// The words of the command line, behind the program's name.
+/// The most bytes of a word, with its end: as many as Linux passes to a program.
+const LONGEST_WORD: usize = 131_072;
+
+/// What stands for bytes that are no UTF-8: a file whose name has it isn't opened.
+const REPLACED: char = '\u{fffd}';
+
+// The words of the command line, behind the program's name. What isn't UTF-8 in a word is replaced.
 fn words(rt: &(impl Env + Alloc<A = Global>)) -> io::Result<Vec<String>> {
     let alloc = rt.alloc();
+    let mut room = vec![in alloc; 0u8; LONGEST_WORD]?;
     let mut words = Vec::new(alloc);
     words.push(String::from_str(alloc, "ttlv")?)?;
-    for word in env::args(rt)?.skip(1) {
-        words.push(word)?;
+    for at in 1..usize::MAX {
+        match rt.arg(at, room.as_mut_slice()) {
+            Ok(count) => {
+                let word = &room[..count.min(room.len())];
+                words.push(String::from_utf8_lossy(alloc, word)?)?;
+            }
+            Err(env::FillError::NotPresent) => break,
+            Err(env::FillError::TooLong) => return Err(ErrorKind::InvalidInput.into()),
+        }
     }
     Ok(words)
+}
+
+// Reports that memory ran out before an input was read, and returns the exit status.
+fn no_memory(rt: &HostRuntime) -> u8 {
+    report_words(&mut rt.stderr(), "ttlv", "out of memory");
+    FAILED
+}
+
+// A file of the machine; none where its name was no UTF-8, since it can't be named so.
+fn opened(rt: &HostRuntime, name: &str) -> Option<File> {
+    if name.contains(REPLACED) {
+        return None;
+    }
+    fs::open(rt, name).ok()
 }
 
 // Whether it is shown how far an input was read: on a terminal, if nothing is printed there meanwhile.
@@ -80,7 +109,7 @@ impl Opener for Disk<'_> {
         if name == "-" {
             return Some(self.shown(Either::Right(self.rt.stdin()), None));
         }
-        let file = fs::open(self.rt, name).ok()?;
+        let file = opened(self.rt, name)?;
         let total = match file.metadata() {
             Ok(metadata) => Some(metadata.len()),
             Err(_) => None,
@@ -89,15 +118,12 @@ impl Opener for Disk<'_> {
     }
 }
 
-/// The most bytes of a block of memory, but for the input: the ends of 131,072 structures that are open at once.
-const MOST: usize = 1_048_576;
-
 // Does with standard input what is asked.
-fn run_stdin<B: Allocator + Copy>(
+fn run_stdin(
     rt: &HostRuntime,
     asked: Asked<'_>,
-    memory: Memory<Global, B>,
-    names: &Names<'_, B>,
+    memory: Memory<Global, Global>,
+    names: &Names<'_>,
 ) -> u8 {
     let mut input = Progress::new(rt.stdin(), rt.stderr(), None, is_shown(rt, asked));
     run_asked(
@@ -112,12 +138,12 @@ fn run_stdin<B: Allocator + Copy>(
 }
 
 // Does with each input what is asked.
-fn do_all<B: Allocator + Copy>(
+fn do_all(
     rt: &HostRuntime,
     asked: Asked<'_>,
     files: &[&str],
-    memory: Memory<Global, B>,
-    names: &Names<'_, B>,
+    memory: Memory<Global, Global>,
+    names: &Names<'_>,
 ) -> u8 {
     if files.is_empty() {
         return run_stdin(rt, asked, memory, names);
@@ -141,10 +167,13 @@ fn table(rt: &HostRuntime, standard: &str, path: Option<&str>) -> Result<String,
     let alloc = rt.alloc();
     let Some(path) = path else {
         let alone: Result<String, AllocError> = String::from_str(alloc, standard);
-        return alone.map_err(|_| NO_MEMORY);
+        return match alone {
+            Ok(table) => Ok(table),
+            Err(_) => Err(no_memory(rt)),
+        };
     };
-    let Ok(mut file) = fs::open(rt, path) else {
-        let _ = eprintln!(rt; "{path}: it can't be opened");
+    let Some(mut file) = opened(rt, path) else {
+        report_words(&mut rt.stderr(), path, "it can't be opened");
         return Err(USAGE);
     };
     own_table(alloc, standard, path, &mut file, &mut rt.stderr())
@@ -170,7 +199,7 @@ fn tag_of(rt: &HostRuntime, table: &str, name: &str) -> Result<TtlvTag, u8> {
     match tag_named(table, name).or(TtlvTag::from_name(name)) {
         Some(tag) => Ok(tag),
         None => {
-            let _ = eprintln!(rt; "{name}: no tag has this name");
+            report_words(&mut rt.stderr(), name, "no tag has this name");
             Err(USAGE)
         }
     }
@@ -199,11 +228,7 @@ fn asked_of<'w>(rt: &HostRuntime, request: &Request<'w>, table: &str) -> Result<
 }
 
 // The names of tags and values, and the tags of secrets; none when out of memory.
-fn names_in<'t, B: Allocator + Copy>(
-    alloc: B,
-    tags: &'t str,
-    secrets: &'t str,
-) -> Option<Names<'t, B>> {
+fn names_in<'t>(alloc: Global, tags: &'t str, secrets: &'t str) -> Option<Names<'t>> {
     let own = own_names(alloc, tags).ok()?;
     let secret = own_names(alloc, secrets).ok()?;
     Some(Names {
@@ -228,27 +253,44 @@ fn run_all(rt: &HostRuntime, request: &Request<'_>) -> u8 {
         Ok(asked) => asked,
         Err(status) => return status,
     };
-    let small = BoundedAllocator::in_blocks(rt.alloc(), MOST);
     let memory = Memory {
         input: rt.alloc(),
-        rest: &small,
+        rest: rt.alloc(),
     };
-    let Some(names) = names_in(&small, tags.as_str(), secrets.as_str()) else {
-        return NO_MEMORY;
+    let Some(names) = names_in(rt.alloc(), tags.as_str(), secrets.as_str()) else {
+        return no_memory(rt);
     };
     do_all(rt, asked, request.files.as_slice(), memory, &names)
 }
 
+// What comes of words that can't be read.
+fn unread(rt: &HostRuntime, error: &io::Error) -> u8 {
+    if error.kind() == ErrorKind::OutOfMemory {
+        return no_memory(rt);
+    }
+    report_words(&mut rt.stderr(), "ttlv", "the words can't be read");
+    USAGE
+}
+
+// Prints the help, the version or what is wrong with the words, and returns the exit status.
+fn report_usage(rt: &HostRuntime, error: &Error) -> u8 {
+    if error.kind() == clap::error::ErrorKind::OutOfMemory {
+        return no_memory(rt);
+    }
+    let printed = error.print(rt);
+    if printed.is_err() && !error.use_stderr() {
+        return FAILED;
+    }
+    error.exit_code() as u8
+}
+
 fn main(rt: HostRuntime) -> ExitCode {
-    let Ok(words) = words(&rt) else {
-        let _ = eprintln!(rt; "ttlv: the words can't be read");
-        return ExitCode::from(USAGE);
+    let words = match words(&rt) {
+        Ok(words) => words,
+        Err(error) => return ExitCode::from(unread(&rt, &error)),
     };
     match request_of(rt.alloc(), words.as_slice()) {
         Ok(request) => ExitCode::from(run_all(&rt, &request)),
-        Err(error) => {
-            let _ = error.print(&rt);
-            ExitCode::from(error.exit_code() as u8)
-        }
+        Err(error) => ExitCode::from(report_usage(&rt, &error)),
     }
 }
