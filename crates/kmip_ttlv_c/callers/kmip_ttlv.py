@@ -10,7 +10,7 @@ import os
 from collections import namedtuple
 from datetime import datetime, timedelta, timezone
 
-__all__ = ["check", "decode", "encode", "from_diag", "items", "to_diag", "to_text", "version", "write"]
+__all__ = ["check", "decode", "encode", "from_diag", "items", "to_diag", "to_diag_checked", "to_text", "version", "write"]
 __all__ += ["FAULTS", "Fault", "Item", "Node", "BadItem", "Malformed", "BadNames"]
 
 _here = os.path.dirname(os.path.abspath(__file__))
@@ -105,7 +105,7 @@ Fault = namedtuple("Fault", "offset kind")
 
 
 class Malformed(ValueError):
-    """The bytes are not one whole message; `fault` is what is wrong, `items` are the items before it."""
+    """The bytes are not one whole message; `fault` is what is wrong, `items` are the items before it (of to_diag_checked none)."""
 
     def __init__(self, fault, found):
         super().__init__(f"at byte {fault.offset}: {FAULTS[fault.kind]}")
@@ -153,6 +153,7 @@ def _call(name, *kinds):
 
 
 _to_diag = _call("to_diag", _lent, _lent, ctypes.c_bool, _lent, _sizes, _sizes)
+_to_diag_checked = _call("to_diag_checked", _lent, _lent, _lent, _sizes, ctypes.POINTER(_Fault))
 _to_text = _call("to_text", _lent, _lent, ctypes.c_bool, _size, _lent, _sizes, _sizes)
 _to_standard_text = _call("to_standard_text", _lent, ctypes.c_bool, _size, _lent, _sizes)
 _from_diag = _call("from_diag", _lent, _lent, _lent, _size, _lent, _sizes, _sizes)
@@ -211,13 +212,15 @@ def _refusal(status, further=()):
         return MemoryError("out of memory, or the text takes more than its limit")
     if status == NOT_UTF8:
         return UnicodeError("a text is not UTF-8")
+    if status == MALFORMED:
+        return Malformed(Fault(further[0].offset, further[0].kind), [])
     return BadNames(further[0].value)
 
 
 def to_diag(message, prefix="", closed=True):
     """Returns the redacted diagnostic of any bytes: tags without a prefix, types, nesting, enumeration values.
 
-    Call check first: of bytes that aren't one whole message it shows the items up to where they can't be read, which may have key
+    Call check first, or to_diag_checked: of bytes that aren't one whole message it shows the items up to where they can't be read, which may have key
     bytes where a tag is expected, and of two messages the first. It ends with ERR if an item can't be read.
 
     With closed=False, as the Rust crate kmip-ttlv has it, an empty structure stays open until the structure around it ends: what follows
@@ -225,6 +228,15 @@ def to_diag(message, prefix="", closed=True):
     """
     message, prefix, count = _bytes(message), _utf8(prefix), _size()
     return _text(lambda *out: _to_diag(message, len(message), prefix, len(prefix), not closed, *out), len(message) + 64, count)
+
+
+def to_diag_checked(message, prefix=""):
+    """Returns the redacted diagnostic of one whole message, as to_diag does. Raises Malformed, without any item, for all other bytes.
+
+    So what goes to a log is a function of tags, types, nesting and enumeration values, or of where the bytes aren't a message.
+    """
+    message, prefix, fault = _bytes(message), _utf8(prefix), _Fault()
+    return _text(lambda *out: _to_diag_checked(message, len(message), prefix, len(prefix), *out), len(message) + 64, fault)
 
 
 def to_text(message, names=None, closed=True, limit=None):

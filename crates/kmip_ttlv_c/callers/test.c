@@ -95,8 +95,8 @@ static const char LINES[] = "Tag: Protocol Version (0x420069), Type: Structure (
                             "  Tag: 0x42006B, Type: Integer (0x02), Data: <redacted>";
 
 /* The calls that make a text of the worked message, each with the expected text. */
-enum { TO_DIAG, TO_TEXT, TO_STANDARD_TEXT, FROM_DIAG, GET_VERSION, CALLS };
-static const char *const TEXTS[CALLS] = {DIAGNOSTIC, TEXT, STANDARD_TEXT, LINES, KMIP_TTLV_VERSION};
+enum { TO_DIAG, TO_DIAG_CHECKED, TO_TEXT, TO_STANDARD_TEXT, FROM_DIAG, GET_VERSION, CALLS };
+static const char *const TEXTS[CALLS] = {DIAGNOSTIC, DIAGNOSTIC, TEXT, STANDARD_TEXT, LINES, KMIP_TTLV_VERSION};
 
 /* The status of a call that also sets `*other`: the table of names has no bad line, a diagnostic has three items. */
 static kmip_ttlv_status with(kmip_ttlv_status status, size_t other, size_t wanted) {
@@ -106,11 +106,16 @@ static kmip_ttlv_status with(kmip_ttlv_status status, size_t other, size_t wante
 
 static kmip_ttlv_status call_within(int which, size_t limit, uint8_t *out, size_t room, size_t *length) {
     size_t other = 99;
+    kmip_ttlv_fault fault = {9, 9};
     kmip_ttlv_status status;
     switch (which) {
     case TO_DIAG:
         status = kmip_ttlv_to_diag(VERSION, sizeof VERSION, PREFIX, 4, false, out, room, length, &other);
         return with(status, other, 3);
+    case TO_DIAG_CHECKED:
+        status = kmip_ttlv_to_diag_checked(VERSION, sizeof VERSION, PREFIX, 4, out, room, length, &fault);
+        HOLD(fault.kind == KMIP_TTLV_WHOLE && fault.offset == 0);
+        return status;
     case TO_TEXT:
         status = kmip_ttlv_to_text(VERSION, sizeof VERSION, NAMES, sizeof NAMES - 1, false, limit, out, room, length, &other);
         return with(status, other, 0);
@@ -330,6 +335,9 @@ static void refusals(void) {
     uint8_t out[64];
     HOLD(kmip_ttlv_to_diag(VERSION, 40, bad, 1, false, out, 64, &length, &items) == KMIP_TTLV_NOT_UTF8);
     HOLD(length == 0 && items == 0);
+    kmip_ttlv_fault fault = {9, 9};
+    HOLD(kmip_ttlv_to_diag_checked(VERSION, 40, bad, 1, out, 64, &length, &fault) == KMIP_TTLV_NOT_UTF8);
+    HOLD(length == 0 && fault.kind == KMIP_TTLV_WHOLE && fault.offset == 0);
     HOLD(kmip_ttlv_to_text(VERSION, 40, bad, 1, false, ANY, out, 64, &length, &line) == KMIP_TTLV_NOT_UTF8 && line == 0);
     static const uint8_t names[] = "42006A Major\n\nMinor";
     HOLD(kmip_ttlv_to_text(VERSION, 40, names, sizeof names - 1, false, ANY, out, 64, &length, &line) == KMIP_TTLV_BAD_NAMES);
@@ -435,6 +443,22 @@ static void writing(void) {
     left = -1;
 }
 
+/* A checked diagnostic: of a message that is cut, or has a byte too many, nothing but the fault, whatever room there is. */
+static void checked(void) {
+    uint8_t message[41], out[64];
+    memcpy(message, VERSION, 40);
+    message[40] = 0;
+    for (size_t size = 0; size <= 41; size++) {
+        kmip_ttlv_fault fault = {9, 9}, wanted = {9, 9};
+        size_t length = 99;
+        memset(out, '.', sizeof out);
+        kmip_ttlv_status status = kmip_ttlv_to_diag_checked(message, size, PREFIX, 4, out, size == 7 ? 0 : sizeof out, &length, &fault);
+        HOLD(status == kmip_ttlv_check(message, size, &wanted) && status == (size == 40 ? KMIP_TTLV_OK : KMIP_TTLV_MALFORMED));
+        HOLD(fault.kind == wanted.kind && fault.offset == wanted.offset);
+        HOLD(size == 40 ? is_text(out, length, DIAGNOSTIC) : length == 0 && out[0] == '.' && memcmp(out, out + 1, sizeof out - 1) == 0);
+    }
+}
+
 /* Hostile bytes: the worked message with bits flipped, cut anywhere. Each block is as long as what is lent, so that a
  * sanitizer sees what is read or written past it. */
 static void hostile(void) {
@@ -488,6 +512,7 @@ int main(void) {
     large();
     refusals();
     walks();
+    checked();
     writing();
     hostile();
     HOLD(blocks == 0);

@@ -73,6 +73,18 @@ class Texts(unittest.TestCase):
                 self.assertEqual(kmip_ttlv.to_text(EMPTY, names, closed=closed), expected)
             self.assertEqual(kmip_ttlv.to_text(EMPTY, names), kmip_ttlv.to_text(EMPTY, names, True))
 
+    def test_checked_diagnostics(self):
+        """Those of whole messages, and of other bytes where they aren't one."""
+        for message in (VERSION, DESTROY, EMPTY, EMPTY[16:]):
+            self.assertEqual(kmip_ttlv.to_diag_checked(message, "4200"), kmip_ttlv.to_diag(message, "4200"))
+            self.assertEqual(kmip_ttlv.to_diag_checked(Liar(message)), kmip_ttlv.to_diag(message))
+            for other in (*(message[:cut] for cut in range(len(message))), message + b"\0", message + VERSION, message[8:] or b"\0"):
+                with self.assertRaises(kmip_ttlv.Malformed) as refused:
+                    kmip_ttlv.to_diag_checked(other, "4200")
+                self.assertEqual((refused.exception.fault, refused.exception.items), (kmip_ttlv.check(other), []))
+        self.assertRaises(UnicodeEncodeError, kmip_ttlv.to_diag_checked, VERSION, "\ud800")
+        self.assertRaises(TypeError, kmip_ttlv.to_diag_checked, "420069")
+
     def test_limits(self):
         """A text that would take the square of its message is an error, unless so much is asked for."""
         deep, flat = nested(10_000), structure(byte_string(b"") * 10_000)
@@ -94,6 +106,7 @@ class Texts(unittest.TestCase):
         """Each call raises MemoryError if the library says that it is out of memory."""
         calls = {
             "to_diag": lambda: kmip_ttlv.to_diag(VERSION),
+            "to_diag_checked": lambda: kmip_ttlv.to_diag_checked(VERSION),
             "to_text": lambda: kmip_ttlv.to_text(VERSION, NAMES),
             "to_standard_text": lambda: kmip_ttlv.to_text(VERSION),
             "from_diag": lambda: kmip_ttlv.from_diag("69[]"),

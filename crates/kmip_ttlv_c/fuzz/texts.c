@@ -1,5 +1,5 @@
-/* kmip_ttlv_to_diag, kmip_ttlv_to_text and kmip_ttlv_to_standard_text: any bytes behind two that choose. Of a whole message the
- * diagnostic is that of the model, is the same for any other values, and has as many lines if it is read back; texts are UTF-8,
+/* kmip_ttlv_to_diag and kmip_ttlv_to_diag_checked, kmip_ttlv_to_text and kmip_ttlv_to_standard_text: any bytes behind two that
+ * choose. The checked diagnostic shows whole messages alone, and else the fault of the model. Of a whole message the diagnostic is that of the model, is the same for any other values, and has as many lines if it is read back; texts are UTF-8,
  * fit a buffer of their length and none that is shorter, and take no more memory than their limit. */
 #include "model.h"
 
@@ -7,7 +7,7 @@ enum { TO_DIAG, TO_TEXT, TO_STANDARD_TEXT, CALLS };
 
 static const char *const PREFIXES[] = {"", "4200", "42", "420078", "4200690", "42006A"};
 static const char *const TABLES[] = {"", "420078 Request\n42006A Major\n", "# none\n\n42006A \xC3\xA9\xE2\x82\xAC\r\n",
-                                     "42006A\n", "\n4200 x"};
+                                     "42006A\n", "\nNo tag"};
 static const size_t BAD_LINES[] = {0, 0, 0, 1, 2};
 
 struct asked {
@@ -128,6 +128,21 @@ static void of_whole(const struct asked *it, const kmip_ttlv_item *items, size_t
     free(out);
 }
 
+/* The checked diagnostic: this text of a whole message, and of other bytes nothing but the fault. */
+static void checked(const struct asked *it, const uint8_t *shown, size_t shown_length, kmip_ttlv_fault wanted) {
+    const uint8_t *prefix = (const uint8_t *)it->prefix;
+    const bool is_whole = wanted.kind == KMIP_TTLV_WHOLE;
+    uint8_t *out = malloc(shown_length);
+    memset(out, 0x55, shown_length);
+    kmip_ttlv_fault fault = {9, 9};
+    size_t length = 9;
+    const kmip_ttlv_status status = kmip_ttlv_to_diag_checked(it->bytes, it->size, prefix, strlen(it->prefix), out, shown_length, &length, &fault);
+    HOLD(status == (is_whole ? KMIP_TTLV_OK : KMIP_TTLV_MALFORMED) && used == 0);
+    HOLD(fault.kind == wanted.kind && fault.offset == wanted.offset && length == (is_whole ? shown_length : 0));
+    HOLD(is_whole ? memcmp(out, shown, length) == 0 : out[0] == 0x55 && memcmp(out, out + 1, shown_length - 1) == 0);
+    free(out);
+}
+
 int LLVMFuzzerTestOneInput(const uint8_t *data, size_t size) {
     if (size < 2) {
         return 0;
@@ -146,6 +161,9 @@ int LLVMFuzzerTestOneInput(const uint8_t *data, size_t size) {
         size_t length = 9;
         uint8_t *text = text_of(which, &it, &length);
         HOLD(text != NULL || which != TO_DIAG);
+        if (which == TO_DIAG && !it.open_empty) {
+            checked(&it, text, length, fault);
+        }
         if (which == TO_DIAG && fault.kind == KMIP_TTLV_WHOLE && !it.open_empty) {
             of_whole(&it, items, count, text, length);
         }
@@ -158,7 +176,7 @@ int LLVMFuzzerTestOneInput(const uint8_t *data, size_t size) {
             HOLD(has_error);
         }
         free(text);
-        if (size % 32 == 0) {
+        if (size % 64 == 0) {
             without_memory(which, &it);
         }
     }

@@ -28,7 +28,7 @@
  * can't be read a diagnostic ends with "ERR" and a readable text with a line "ERROR: .."; after an item that goes past the end
  * of its structure both end with "ERROR: TTLV structure content exceeds the structure length.". What follows a first structure
  * is not shown, and no text says that it is there. So call `kmip_ttlv_check` first, which says whether bytes are one whole
- * message.
+ * message; or for a log kmip_ttlv_to_diag_checked, which shows nothing of other bytes.
  *
  * Memory comes from malloc, realloc and free. A program that links the static library can replace them by defining
  * kmip_ttlv_malloc, kmip_ttlv_realloc and kmip_ttlv_free, all three of them, with the same meaning. If the program calls
@@ -139,6 +139,15 @@ typedef struct {
  * NOT_UTF8: the prefix. NO_ROOM: `out`. OUT_OF_MEMORY. */
 kmip_ttlv_status kmip_ttlv_to_diag(const uint8_t *bytes, size_t bytes_len, const uint8_t *prefix, size_t prefix_len,
                                    bool open_empty, uint8_t *out, size_t room, size_t *length, size_t *items);
+
+/* Writes the redacted diagnostic of bytes that are one whole message, and nothing of any others: the text of kmip_ttlv_to_diag, in
+ * which empty structures are closed. Two messages have the same one, under one prefix, if and only if they have the same tags,
+ * types, nesting and enumeration values.
+ *
+ * MALFORMED: the bytes are not one whole message; `*fault` is the first fault, as of kmip_ttlv_check. With any other status its
+ * kind is KMIP_TTLV_WHOLE. NOT_UTF8: the prefix. NO_ROOM: `out`. OUT_OF_MEMORY. */
+kmip_ttlv_status kmip_ttlv_to_diag_checked(const uint8_t *bytes, size_t bytes_len, const uint8_t *prefix, size_t prefix_len,
+                                           uint8_t *out, size_t room, size_t *length, kmip_ttlv_fault *fault);
 
 /* Writes any bytes as readable text, a line for each item, with every value. Texts are copied as they are in the message,
  * control characters too: escape them before you print them.

@@ -1,14 +1,19 @@
 -- What the calls that make a text return, and why they fail.
-use Rattle.std.specs.Prelude.{◌≡◌, ℕ, Bool, ◌+◌, ◌/◌, ◌≤◌, List, length, Option, Some, None}
+use Rattle.std.specs.Prelude.{◌≡◌, ℕ, Bool, true, ◌+◌, ◌/◌, ◌≤◌, List, length, Option, Some, None}
 use Rattle.std.specs.Str.{IsUtf8}
 use Rattle.kmip_ttlv_util.specs.Traces.{trace}
 use Rattle.kmip_ttlv_util.specs.Diagnostics.{hostile}
 use Rattle.kmip_ttlv_util.specs.PrintResults.{IsExact}
+use Rattle.kmip_ttlv_util.specs.CheckedDiagnostics.{ShowsMessage}
+use Rattle.kmip_ttlv_items.specs.declared.found.Fault.{Fault}
+use Rattle.kmip_ttlv_items.specs.ItemWalks.{Judges}
 use Rattle.kmip_ttlv_util.specs.Pretty.{IsPrinted, IsPretty}
 use Rattle.kmip_ttlv_util.specs.Undiag.{undiag}
 use Rattle.kmip_ttlv_util.specs.ReadBack.{ReadsLongest, IsReadBack}
 use Rattle.kmip_ttlv_names.specs.NameTables.{names_of, bad_line}
-use Rattle.kmip_ttlv_c.specs.declared.status.TheConstants.{OUT_OF_MEMORY, NOT_UTF8, BAD_NAMES}
+use Rattle.kmip_ttlv_c.specs.declared.status.TheConstants.{OUT_OF_MEMORY, NOT_UTF8, MALFORMED, BAD_NAMES}
+use Rattle.kmip_ttlv_c.specs.declared.items.KmipTtlvFault.{KmipTtlvFault}
+use Rattle.kmip_ttlv_c.specs.LentItems.{c_fault}
 
 -- the text is the diagnostic of bytes, and `count` is how many items were tried
 pub record IsDiagnostic (prefix : List ℕ) (closed : Bool) (bytes : List ℕ) (count : ℕ) (text : List ℕ) : Type 0 where
@@ -17,6 +22,12 @@ pub record IsDiagnostic (prefix : List ℕ) (closed : Bool) (bytes : List ℕ) (
   pub exact : IsExact prefix closed bytes text
   pub counted : count ≡ length (trace closed bytes)
   pub bounded : count ≤ length bytes / 8 + 1
+
+-- the text is the diagnostic of one whole message, with empty structures closed, and there is no fault
+pub record IsCheckedDiagnostic (prefix bytes : List ℕ) (fault : KmipTtlvFault) (text : List ℕ) : Type 0 where
+  pub utf8 : IsUtf8 prefix
+  pub shows : ShowsMessage prefix true bytes text
+  pub no_fault : fault ≡ c_fault None
 
 -- a table of names that can be parsed
 pub record IsTable (table : List ℕ) : Type 0 where
@@ -56,6 +67,18 @@ IsVersion version text = text ≡ version
 pub data PrefixFails (prefix : List ℕ) (count status : ℕ) : Type 0 where
   no_memory : IsUtf8 prefix → status ≡ OUT_OF_MEMORY → count ≡ 0 → PrefixFails prefix count status
   no_prefix : status ≡ NOT_UTF8 → (IsUtf8 prefix → ⊥) → count ≡ 0 → PrefixFails prefix count status
+
+-- a checked diagnostic fails if the bytes are not one whole message, and then the first fault is set; or as a diagnostic does
+pub data CheckedFails (prefix bytes : List ℕ) (fault : KmipTtlvFault) (status : ℕ) : Type 0 where
+  not_whole :
+      (found : Fault)
+      → IsUtf8 prefix
+      → Judges bytes (Some found)
+      → status ≡ MALFORMED
+      → fault ≡ c_fault (Some found)
+      → CheckedFails prefix bytes fault status
+  no_memory : IsUtf8 prefix → status ≡ OUT_OF_MEMORY → fault ≡ c_fault None → CheckedFails prefix bytes fault status
+  no_prefix : status ≡ NOT_UTF8 → (IsUtf8 prefix → ⊥) → fault ≡ c_fault None → CheckedFails prefix bytes fault status
 
 -- a table of names fails when out of memory, if it is not UTF-8, or at its first bad line
 pub data NamesFail (table : List ℕ) (line status : ℕ) : Type 0 where

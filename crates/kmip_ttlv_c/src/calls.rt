@@ -1,17 +1,20 @@
 //! The calls that return a text.
 
-ghost use Rattle.std.specs.Prelude.{◌≡◌, not, IfOk, IfErr, OnOk, string_bytes};
+ghost use Rattle.std.specs.Prelude.{◌≡◌, true, not, IfOk, IfErr, OnOk, string_bytes};
 ghost use Rattle.kmip_ttlv_util.specs.TagNames.{name_in};
 ghost use Rattle.kmip_ttlv_names.specs.NameTables.{names_of};
 ghost use Rattle.kmip_ttlv_c.specs.Buffers.{AnswersText};
 ghost use Rattle.kmip_ttlv_c.specs.Calls.{IsDiagnostic, PrefixFails, IsTable, IsReadable, IsNamedText, NamesFail};
+ghost use Rattle.kmip_ttlv_util.specs.CheckedDiagnostics.{ShowsMessage, ShowsNothing};
+ghost use Rattle.kmip_ttlv_c.specs.Calls.{IsCheckedDiagnostic, CheckedFails};
 ghost use Rattle.kmip_ttlv_c.specs.Calls.{StandardFails, IsReadLines, ReadingFails, IsVersion, NeverFails};
 
 use crate::buffer::offer;
-use crate::status::{BAD_NAMES, NOT_UTF8, OUT_OF_MEMORY};
+use crate::items::{KmipTtlvFault, fault_of};
+use crate::status::{BAD_NAMES, MALFORMED, NOT_UTF8, OUT_OF_MEMORY};
 use kmip_ttlv_memory::BoundedAllocator;
 use kmip_ttlv_names::{STANDARD_TAGS, TableError, standard_names, tag_names};
-use kmip_ttlv_util::{LentTagMap, PrettyPrinter, read_back_named, text_named};
+use kmip_ttlv_util::{CheckedError, LentTagMap, PrettyPrinter, read_back_named, text_named};
 use std::alloc::{AllocError, Allocator, Global};
 use std::str;
 
@@ -55,6 +58,46 @@ pub extern "C" fn kmip_ttlv_to_diag(
         return OUT_OF_MEMORY;
     };
     *items = count;
+    offer(text.as_bytes(), out, length)
+}
+
+/// The diagnostic under a prefix of one whole message, whose empty structures are closed.
+fn checked_diagnostic(alloc: Global, prefix: &str, bytes: &[u8]) -> Result<String, CheckedError>
+    ensures ok { IfOk result (λ r. ShowsMessage prefix.now true bytes.now (string_bytes r)) }
+    ensures err { IfErr result (λ e. ShowsNothing bytes.now e) }
+{
+    let mut printer = PrettyPrinter::new(alloc);
+    printer.with_tag_prefix(String::from_str(alloc, prefix)?);
+    printer.with_closed_empty(true);
+    printer.to_diag_checked(bytes)
+}
+
+/// Writes the redacted diagnostic of one whole message under a tag prefix; of other bytes it writes nothing, and sets
+/// the first fault.
+#[unsafe(no_mangle)]
+pub extern "C" fn kmip_ttlv_to_diag_checked(
+    alloc: Global,
+    bytes: &[u8],
+    prefix: &[u8],
+    out: &mut [u8],
+    length: &mut usize,
+    fault: &mut KmipTtlvFault,
+) -> u32
+    ensures { AnswersText (IsCheckedDiagnostic prefix.now bytes.now fault.new) (CheckedFails prefix.now bytes.now fault.new) result length.new out.old out.new }
+{
+    *length = 0;
+    *fault = fault_of(None);
+    let Ok(prefix) = str::from_utf8(prefix) else {
+        return NOT_UTF8;
+    };
+    let text = match checked_diagnostic(alloc, prefix, bytes) {
+        Ok(text) => text,
+        Err(CheckedError::OutOfMemory) => return OUT_OF_MEMORY,
+        Err(CheckedError::Malformed(found)) => {
+            *fault = fault_of(Some(found));
+            return MALFORMED;
+        }
+    };
     offer(text.as_bytes(), out, length)
 }
 

@@ -65,7 +65,7 @@ fn kind_of(kind: FaultKind) -> u32
 }
 
 /// A fault in the form for C.
-fn fault_of(fault: Option<Fault>) -> KmipTtlvFault
+pub fn fault_of(fault: Option<Fault>) -> KmipTtlvFault
     ensures { result ≡ c_fault fault }
 {
     match fault {
