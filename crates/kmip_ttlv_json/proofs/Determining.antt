@@ -18,6 +18,7 @@ use Rattle.kmip_ttlv_types.specs.Trees.{Tree, Trees, leaf, node, no_trees, IsTre
 use Rattle.kmip_ttlv_items.specs.{declared.found.FoundItem.FoundItem, FoundItems.Lists}
 use Rattle.kmip_ttlv_items.proofs.Spans.{leaf_not}
 use Rattle.kmip_ttlv_write.specs.GivenItems.{lines, lines_below}
+use Rattle.kmip_ttlv_json.specs.declared.print.Shown.TheVariants.{All}
 use Rattle.kmip_ttlv_json.specs.Jsons.{type_word, is_true, value_json, item_json, tree_json, trees_json, json_line}
 use Rattle.kmip_ttlv_json.specs.Laws.{no_secrets}
 use Rattle.kmip_ttlv_json.proofs.Found.{tree_plain}
@@ -128,7 +129,7 @@ boolean_one v w good fine p q e =
     ∙ be_bytes_8 w (from_be_bytes w64 w) (eqb-true (length w) 8 b.0) q refl
 
 content_one : (typ : TtlvType) (v w : List ℕ) → is_valid typ v ≡ true → is_valid typ w ≡ true → ArePlain v → ArePlain w
-    → value_json false typ v ≡ value_json false typ w → v ≡ w
+    → value_json All typ v ≡ value_json All typ w → v ≡ w
 content_one Structure v w good fine p q e = absurd (leaf_not Structure v good refl)
 content_one Boolean v w good fine p q e = boolean_one v w good fine p q (ap bool_in e)
 content_one TextString v w good fine p q e = ap text_in e
@@ -147,10 +148,10 @@ tail_in (item d ds) = ds
 
 mutual
   tree_one : (d : ℕ) (t u : Tree) (x y : List ℕ) → IsTreeText t x → IsTreeText u y → AllPlain (lines d t) → AllPlain (lines d u)
-      → tree_json no_secrets false t ≡ tree_json no_secrets false u → t ≡ u
+      → tree_json no_secrets All t ≡ tree_json no_secrets All u → t ≡ u
   tree_one d (leaf a typ v) (leaf b kind w) x y h k p q e =
       let s = item_one a b typ kind _ _ h.1.tag_fits k.1.tag_fits e in
-      let content : v ≡ w = content_one typ v w h.0 (ap (λ o. is_valid o w) s.typ ∙ k.0) p.0 q.0 (s.value ∙ sym (ap (λ o. value_json false o w) s.typ)) in
+      let content : v ≡ w = content_one typ v w h.0 (ap (λ o. is_valid o w) s.typ ∙ k.0) p.0 q.0 (s.value ∙ sym (ap (λ o. value_json All o w) s.typ)) in
       cc
   tree_one d (leaf a typ v) (node b us) x y h k p q e =
       absurd (leaf_not typ v h.0 (item_one a b typ Structure _ _ h.1.tag_fits k.1.tag_fits e).typ)
@@ -161,7 +162,7 @@ mutual
       cc (trees_one (suc d) ts us h.0 k.0 h.2 k.2 p.1 q.1 (ap items_in s.value))
 
   trees_one : (d : ℕ) (ts us : Trees) (x y : List ℕ) → AreTreeTexts ts x → AreTreeTexts us y → AllPlain (lines_below d ts) → AllPlain (lines_below d us)
-      → trees_json no_secrets false ts ≡ trees_json no_secrets false us → ts ≡ us
+      → trees_json no_secrets All ts ≡ trees_json no_secrets All us → ts ≡ us
   trees_one d no_trees no_trees x y h k p q e = refl
   trees_one d (trees.tree t ts) (trees.tree u us) x y h k p q e =
       let m = plain_both (lines d t) (lines_below d ts) p in
@@ -170,7 +171,7 @@ mutual
   trees_one d ts us x y h k p q e = absurd (cc)
 
 pub determines_all : (a b : List ℕ) (xs ys : List FoundItem) → ArePlain a → ArePlain b → (h : Lists a xs) (k : Lists b ys)
-    → json_line no_secrets false h.message ≡ json_line no_secrets false k.message → h.message ≡ k.message
+    → json_line no_secrets All h.message ≡ json_line no_secrets All k.message → h.message ≡ k.message
 determines_all m w xs ys plain also h k e =
-    let same = text_one _ _ (tree_back no_secrets false h.message) (tree_back no_secrets false k.message) (append_cancel_right _ _ (10 ∷ []) e) in
+    let same = text_one _ _ (tree_back no_secrets All h.message) (tree_back no_secrets All k.message) (append_cancel_right _ _ (10 ∷ []) e) in
     tree_one 0 h.message k.message m w h.text k.text (tree_plain m plain xs h) (tree_plain w also ys k) same

@@ -1,5 +1,5 @@
 -- The items that a walk finds, as the parts of a message's JSON.
-use Rattle.std.proofs.Common.{◌≡◌, ◌≢◌, ◌∙◌, inl, inr, ℕ, ◌+◌, ◌-◌, ◌==◌, Bool, true, false, ◌||◌, List, [], ◌∷◌, ◌++◌, take, drop, map, if◌then◌else◌, Option}
+use Rattle.std.proofs.Common.{◌≡◌, ◌≢◌, ◌∙◌, inl, inr, ℕ, ◌+◌, ◌-◌, ◌==◌, Bool, true, false, List, [], ◌∷◌, ◌++◌, take, drop, map, if◌then◌else◌, Option}
 use Rattle.std.proofs.Common.{length, Some, None, refl, sym, ap, subst, arith, append_assoc, append-nil}
 use Rattle.std.specs.Prelude.{codes, Result, Ok, Err, OnErr}
 use Rattle.std.proofs.lemmas.Bool.{cases_lt}
@@ -11,7 +11,7 @@ use Rattle.kmip_ttlv_items.proofs.Completes.{ends}
 use Rattle.kmip_ttlv_util.specs.Pieces.{SomeText}
 use Rattle.kmip_ttlv_write.specs.GivenItems.{Line, lines, line_of, given_of}
 use Rattle.kmip_ttlv_write.proofs.Uniques.{message_has_lines}
-use Rattle.kmip_ttlv_json.specs.{declared.print.Spot.Spot, Jsons.json_line}
+use Rattle.kmip_ttlv_json.specs.{declared.print.Spot.Spot, declared.print.Shown.Shown, Jsons.json_line, Jsons.within}
 use Rattle.kmip_ttlv_json.specs.Parts.{closes, is_inside, spot_after, gap, opening, value_text, value_part, item_part, kind, parts, spot_behind, first_spot}
 use Rattle.kmip_ttlv_json.specs.Printings.{IsJson, IsThere, json_text}
 use Rattle.kmip_ttlv_json.proofs.TreeTexts.{ArePlain, AllPlain, kind_code, message_flat}
@@ -21,23 +21,23 @@ pub bytes_plain : (w : List ℕ) → AreBytes w → ArePlain w
 bytes_plain w h k = elim (cases_lt k (length w)) [ inl lt ↦ h k lt | inr le ↦ omega (arith, get_or_past w k 0 le) ]
 
 -- of a leaf its value and the end
-leaf_part : (hidden : Bool) (typ : TtlvType) (content : List ℕ) → typ ≢ Structure → value_text hidden typ content ++ codes "}" ≡ value_part hidden typ content
-leaf_part hidden Structure content leaf = absurd (leaf refl)
-leaf_part hidden typ content leaf = refl
+leaf_part : (shown : Shown) (typ : TtlvType) (content : List ℕ) → typ ≢ Structure → value_text shown typ content ++ codes "}" ≡ value_part shown typ content
+leaf_part shown Structure content leaf = absurd (leaf refl)
+leaf_part shown typ content leaf = refl
 
 -- as the code takes it out of the bytes
-pub value_printed : (hidden : Bool) (w : List ℕ) (i : FoundItem) → i.typ ≢ Structure → i.length ≡ length_at w i.offset
-    → value_text hidden i.typ (take (i.offset + 8 + i.length - (i.offset + 8)) (drop (i.offset + 8) w)) ++ codes "}" ≡ value_part hidden i.typ
+pub value_printed : (shown : Shown) (w : List ℕ) (i : FoundItem) → i.typ ≢ Structure → i.length ≡ length_at w i.offset
+    → value_text shown i.typ (take (i.offset + 8 + i.length - (i.offset + 8)) (drop (i.offset + 8) w)) ++ codes "}" ≡ value_part shown i.typ
     (content_at w i.offset)
-value_printed hidden w i ne len =
+value_printed shown w i ne len =
     let n : i.offset + 8 + i.length - (i.offset + 8) ≡ length_at w i.offset = omega (arith, len) in
-    rw n (leaf_part hidden i.typ (content_at w i.offset) ne)
+    rw n (leaf_part shown i.typ (content_at w i.offset) ne)
 
 -- a structure's content is not looked at
-content_free : (hidden : Bool) (typ : TtlvType) (content : List ℕ) → value_part hidden typ (if code typ == 1 then [] else content)
-    ≡ value_part hidden typ content
-content_free hidden Structure content = refl
-content_free hidden typ content = refl
+content_free : (shown : Shown) (typ : TtlvType) (content : List ℕ) → value_part shown typ (if code typ == 1 then [] else content)
+    ≡ value_part shown typ content
+content_free shown Structure content = refl
+content_free shown typ content = refl
 
 -- the lines of found items
 abbrev pub found_lines : List ℕ → List FoundItem → List Line
@@ -69,12 +69,12 @@ tree_lines w xs h = ap (found_lines w) h.items ∙ (message_has_lines w h.messag
 pub tree_plain : (w : List ℕ) → ArePlain w → (xs : List FoundItem) (h : Lists w xs) → AllPlain (lines 0 h.message)
 tree_plain w plain xs h = subst AllPlain (tree_lines w xs h) (lines_plain w plain xs)
 
-module _ (secrets : ℕ → Bool) (hidden : Bool) where
-  parts_both : (s : Spot) (xs ys : List Line) → parts secrets hidden s (xs ++ ys) ≡ parts secrets hidden s xs ++ parts secrets hidden
+module _ (secrets : ℕ → Bool) (shown : Shown) where
+  parts_both : (s : Spot) (xs ys : List Line) → parts secrets shown s (xs ++ ys) ≡ parts secrets shown s xs ++ parts secrets shown
       (spot_behind secrets s xs) ys
   parts_both s [] ys = refl
   parts_both s (l ∷ ls) ys =
-      let part = item_part secrets hidden s l.depth l.tag (kind l.code) l.content in
+      let part = item_part secrets shown s l.depth l.tag (kind l.code) l.content in
       ap (λ (x : List ℕ). part ++ x) (parts_both (spot_after secrets s l.depth l.tag (kind l.code)) ls ys) ∙ sym (append_assoc part _ _)
 
   spot_both : (s : Spot) (xs ys : List Line) → spot_behind secrets s (xs ++ ys) ≡ spot_behind secrets (spot_behind secrets s xs) ys
@@ -83,12 +83,12 @@ module _ (secrets : ℕ → Bool) (hidden : Bool) where
 
   -- what is printed of an item
   abbrev item_printed : Spot → List ℕ → FoundItem → List ℕ
-  item_printed s w i = gap s i.depth ++ (opening i.tag i.typ ++ value_part ((hidden || is_inside s.secret i.depth) || secrets i.tag) i.typ
+  item_printed s w i = gap s i.depth ++ (opening i.tag i.typ ++ value_part (within (within shown (is_inside s.secret i.depth)) (secrets i.tag)) i.typ
       (content_at w i.offset))
 
-  printed_is : (s : Spot) (w : List ℕ) (i : FoundItem) → IsThere w i → parts secrets hidden s (found_lines w (i ∷ [])) ≡ item_printed s w i
+  printed_is : (s : Spot) (w : List ℕ) (i : FoundItem) → IsThere w i → parts secrets shown s (found_lines w (i ∷ [])) ≡ item_printed s w i
   printed_is s w i there =
-      let hid = (hidden || is_inside s.secret i.depth) || secrets i.tag in
+      let hid = within (within shown (is_inside s.secret i.depth)) (secrets i.tag) in
       let content = take i.length (drop (i.offset + 8) w) in
       append-nil _
       ∙ ap (λ (k : TtlvType). gap s i.depth ++ (opening i.tag k ++ value_part hid k (if code i.typ == 1 then [] else content))) (kind_code i.typ)
@@ -97,17 +97,17 @@ module _ (secrets : ℕ → Bool) (hidden : Bool) where
 
   -- one more
   parts_more : (w : List ℕ) (xs : List FoundItem) (i : FoundItem) → IsThere w i
-      → parts secrets hidden first_spot (found_lines w xs) ++ item_printed (spot_behind secrets first_spot (found_lines w xs)) w i
-      ≡ parts secrets hidden first_spot (found_lines w (xs ++ (i ∷ [])))
+      → parts secrets shown first_spot (found_lines w xs) ++ item_printed (spot_behind secrets first_spot (found_lines w xs)) w i
+      ≡ parts secrets shown first_spot (found_lines w (xs ++ (i ∷ [])))
   parts_more w xs i there =
       rw (found_both w xs (i ∷ []), parts_both first_spot (found_lines w xs) (found_lines w (i ∷ [])))
-      (ap (λ (x : List ℕ). parts secrets hidden first_spot (found_lines w xs) ++ x) (sym (printed_is _ w i there)))
+      (ap (λ (x : List ℕ). parts secrets shown first_spot (found_lines w xs) ++ x) (sym (printed_is _ w i there)))
 
   -- as the code prints it
-  pub one_more : (w : List ℕ) (xs : List FoundItem) (i : FoundItem) → IsThere w i → (s : Spot) (secret flag : Bool)
-      → s ≡ spot_behind secrets first_spot (found_lines w xs) → secret ≡ secrets i.tag → flag ≡ ((hidden || is_inside s.secret i.depth) || secret)
-      → parts secrets hidden first_spot (found_lines w xs) ++ (gap s i.depth ++ (opening i.tag i.typ ++ value_part flag i.typ (content_at w i.offset)))
-      ≡ parts secrets hidden first_spot (found_lines w (xs ++ (i ∷ [])))
+  pub one_more : (w : List ℕ) (xs : List FoundItem) (i : FoundItem) → IsThere w i → (s : Spot) (secret : Bool) (flag : Shown)
+      → s ≡ spot_behind secrets first_spot (found_lines w xs) → secret ≡ secrets i.tag → flag ≡ (within (within shown (is_inside s.secret i.depth)) secret)
+      → parts secrets shown first_spot (found_lines w xs) ++ (gap s i.depth ++ (opening i.tag i.typ ++ value_part flag i.typ (content_at w i.offset)))
+      ≡ parts secrets shown first_spot (found_lines w (xs ++ (i ∷ [])))
   one_more w xs i there s secret flag is printed_lines hid =
       rw (hid, printed_lines, is) (parts_more w xs i there)
 
@@ -117,11 +117,11 @@ module _ (secrets : ℕ → Bool) (hidden : Bool) where
       rw (found_both w xs (i ∷ []), spot_both first_spot (found_lines w xs) (found_lines w (i ∷ [])), kind_code i.typ) refl
 
   -- all items of a message
-  line_is : (w : List ℕ) → ArePlain w → (xs : List FoundItem) (h : Lists w xs) → parts secrets hidden first_spot (found_lines w xs)
-      ++ (closes (spot_behind secrets first_spot (found_lines w xs)).depth ++ 10 ∷ []) ≡ json_line secrets hidden h.message
+  line_is : (w : List ℕ) → ArePlain w → (xs : List FoundItem) (h : Lists w xs) → parts secrets shown first_spot (found_lines w xs)
+      ++ (closes (spot_behind secrets first_spot (found_lines w xs)).depth ++ 10 ∷ []) ≡ json_line secrets shown h.message
   line_is w plain xs h =
-      rw (tree_lines w xs h) (sym (append_assoc (parts secrets hidden first_spot (lines 0 h.message)) _ (10 ∷ []))
-      ∙ ap (λ (x : List ℕ). x ++ 10 ∷ []) (message_flat secrets hidden h.message w h.text (tree_plain w plain xs h)))
+      rw (tree_lines w xs h) (sym (append_assoc (parts secrets shown first_spot (lines 0 h.message)) _ (10 ∷ []))
+      ∙ ap (λ (x : List ℕ). x ++ 10 ∷ []) (message_flat secrets shown h.message w h.text (tree_plain w plain xs h)))
 
 -- a walk over a whole message comes to its end
 no_fault : (w : List ℕ) (some : List FoundItem) → Lists w some → (xs : List FoundItem) (fault : Option Fault) → Ended w xs fault → Lists w xs
@@ -140,41 +140,41 @@ left_over w v is plain some lists p es xs met =
     record { more = end.more; lists = no_fault w some lists (xs ++ end.more) end.fault end.ended }
 
 -- a beginning of the line, up to where some items were met
-module _ (secrets : ℕ → Bool) (hidden : Bool) (w : List ℕ) (plain : ArePlain w) (xs : List FoundItem) (left : Left w xs) where
+module _ (secrets : ℕ → Bool) (shown : Shown) (w : List ℕ) (plain : ArePlain w) (xs : List FoundItem) (left : Left w xs) where
   abbrev pub rest_printed : List ℕ
   rest_printed =
       let all = found_lines w (xs ++ left.more) in
-      parts secrets hidden (spot_behind secrets first_spot (found_lines w xs)) (found_lines w left.more)
+      parts secrets shown (spot_behind secrets first_spot (found_lines w xs)) (found_lines w left.more)
       ++ (closes (spot_behind secrets first_spot all).depth ++ 10 ∷ [])
 
-  begun : parts secrets hidden first_spot (found_lines w xs) ++ rest_printed ≡ json_line secrets hidden left.lists.message
+  begun : parts secrets shown first_spot (found_lines w xs) ++ rest_printed ≡ json_line secrets shown left.lists.message
   begun =
-      sym (append_assoc (parts secrets hidden first_spot (found_lines w xs)) _ _)
+      sym (append_assoc (parts secrets shown first_spot (found_lines w xs)) _ _)
       ∙ ap (λ (x : List ℕ). x ++ (closes (spot_behind secrets first_spot (found_lines w (xs ++ left.more))).depth ++ 10 ∷ []))
-      (sym (ap (parts secrets hidden first_spot) (found_both w xs left.more) ∙ parts_both secrets hidden first_spot (found_lines w xs) _))
-      ∙ line_is secrets hidden w plain (xs ++ left.more) left.lists
+      (sym (ap (parts secrets shown first_spot) (found_both w xs left.more) ∙ parts_both secrets shown first_spot (found_lines w xs) _))
+      ∙ line_is secrets shown w plain (xs ++ left.more) left.lists
 
   -- and the line is printed of the message
-  pub begun_json : IsJson secrets hidden w (parts secrets hidden first_spot (found_lines w xs) ++ rest_printed) None
+  pub begun_json : IsJson secrets shown w (parts secrets shown first_spot (found_lines w xs) ++ rest_printed) None
   begun_json = record { found = xs ++ left.more; ended = left.lists; is = begun }
 
 -- where a walk over a whole message ended, what is printed is its line
-pub json_is : (secrets : ℕ → Bool) (hidden : Bool) (w : List ℕ) → ArePlain w → (some : List FoundItem) → Lists w some
+pub json_is : (secrets : ℕ → Bool) (shown : Shown) (w : List ℕ) → ArePlain w → (some : List FoundItem) → Lists w some
     → (xs : List FoundItem) (fault : Option Fault) → Ended w xs fault
-    → IsJson secrets hidden w (parts secrets hidden first_spot (found_lines w xs) ++ (closes (spot_behind secrets first_spot (found_lines w xs)).depth
+    → IsJson secrets shown w (parts secrets shown first_spot (found_lines w xs) ++ (closes (spot_behind secrets first_spot (found_lines w xs)).depth
     ++ 10 ∷ [])) fault
-json_is secrets hidden w plain some lists xs None ended = record { found = xs; ended = ended; is = line_is secrets hidden w plain xs ended }
-json_is secrets hidden w plain some lists xs (Some f) ended = absurd (ended.1 some lists)
+json_is secrets shown w plain some lists xs None ended = record { found = xs; ended = ended; is = line_is secrets shown w plain xs ended }
+json_is secrets shown w plain some lists xs (Some f) ended = absurd (ended.1 some lists)
 
 -- what is printed of any bytes, whatever it is
-pub some_json : (secrets : ℕ → Bool) (hidden : Bool) (w : List ℕ) → ArePlain w → (text : List ℕ) × (fault : Option Fault) × IsJson secrets hidden w text fault
-some_json secrets hidden w plain =
+pub some_json : (secrets : ℕ → Bool) (shown : Shown) (w : List ℕ) → ArePlain w → (text : List ℕ) × (fault : Option Fault) × IsJson secrets shown w text fault
+some_json secrets shown w plain =
     let end : Ends w [] = ends w plain 0 [] [] (at_first refl refl refl) in
-    (json_text secrets hidden w end.more end.fault end.ended, end.fault, record { found = end.more; ended = end.ended; is = refl })
+    (json_text secrets shown w end.more end.fault end.ended, end.fault, record { found = end.more; ended = end.ended; is = refl })
 
 -- it failed, and a beginning of the text was added
-pub err_json : {T E X : Type 0} (r : Result T E) (breaks : X → List ℕ → X → Type 0) {secrets : ℕ → Bool} {hidden : Bool} {w text : List ℕ}
-    {fault : Option Fault} {a b : X} → IsJson secrets hidden w text fault → breaks a text b
-    → OnErr r (SomeText (λ t. (fault : Option Fault) × IsJson secrets hidden w t fault) (λ t. breaks a t b))
+pub err_json : {T E X : Type 0} (r : Result T E) (breaks : X → List ℕ → X → Type 0) {secrets : ℕ → Bool} {shown : Shown} {w text : List ℕ}
+    {fault : Option Fault} {a b : X} → IsJson secrets shown w text fault → breaks a text b
+    → OnErr r (SomeText (λ t. (fault : Option Fault) × IsJson secrets shown w t fault) (λ t. breaks a t b))
 err_json (Ok x) breaks is holds = tt
 err_json (Err e) breaks {text = text} {fault = fault} is holds = record { text = text; is = (fault, is); holds = holds }

@@ -11,7 +11,9 @@ use Rattle.serde_json.specs.Written.{compact_text, outline, items_outline}
 use Rattle.serde_json.proofs.{OnLiterals.serde_json_on_literals, Texts.print-outline}
 use Rattle.kmip_ttlv_types.specs.declared.typ.TtlvType.{TtlvType, TheVariants.Structure, TheVariants.Enumeration}
 use Rattle.kmip_ttlv_types.specs.Trees.{Tree, Trees, leaf, node, no_trees}
-use Rattle.kmip_ttlv_json.specs.Jsons.{type_word, hex_text, value_json, item_json, tree_json, trees_json}
+use Rattle.kmip_ttlv_json.specs.declared.print.Shown.{Shown}
+use Rattle.kmip_ttlv_json.specs.declared.print.Shown.TheVariants.{All, Enumerations, Nothing}
+use Rattle.kmip_ttlv_json.specs.Jsons.{type_word, hex_text, value_json, item_json, within, tree_json, trees_json}
 use Rattle.json.specs.Json as json
 use Rattle.json.specs.Tree as tree
 use Rattle.kmip_ttlv_types.specs.Trees as trees
@@ -27,10 +29,12 @@ record AllBack (ds : Items) : Type 0 where
   shallow : tree.items_depth (items_outline ds) ≡ items_depth ds
   same : of_items (items_outline ds) ≡ Some ds
 
-value_back : (hidden : Bool) (typ : TtlvType) (content : List ℕ) → Back (value_json hidden typ content)
-value_back hidden Enumeration content = record { numbers = tt; shallow = refl; same = refl }
-value_back true typ content = record { numbers = tt; shallow = refl; same = refl }
-value_back false typ content = record { numbers = tt; shallow = refl; same = refl }
+value_back : (shown : Shown) (typ : TtlvType) (content : List ℕ) → Back (value_json shown typ content)
+value_back Nothing typ content = record { numbers = tt; shallow = refl; same = refl }
+value_back All Enumeration content = record { numbers = tt; shallow = refl; same = refl }
+value_back Enumerations Enumeration content = record { numbers = tt; shallow = refl; same = refl }
+value_back Enumerations typ content = record { numbers = tt; shallow = refl; same = refl }
+value_back All typ content = record { numbers = tt; shallow = refl; same = refl }
 
 -- the members stand in the order of their keys
 put_all : (a b v : Data) → put (codes "value") v (put (codes "type") b (put (codes "tag") a no_members)) ≡ member (codes "tag") a
@@ -51,17 +55,17 @@ item_back tag typ v back =
     }
 
 mutual
-  pub tree_back : (secrets : ℕ → Bool) (hidden : Bool) (t : Tree) → Back (tree_json secrets hidden t)
-  tree_back secrets hidden (leaf tag typ content) = item_back tag typ _ (value_back (hidden || secrets tag) typ content)
-  tree_back secrets hidden (node tag below) =
-      let all = trees_back secrets (hidden || secrets tag) below in
+  pub tree_back : (secrets : ℕ → Bool) (shown : Shown) (t : Tree) → Back (tree_json secrets shown t)
+  tree_back secrets shown (leaf tag typ content) = item_back tag typ _ (value_back (within shown (secrets tag)) typ content)
+  tree_back secrets shown (node tag below) =
+      let all = trees_back secrets (within shown (secrets tag)) below in
       item_back tag Structure _ (record { numbers = all.numbers; shallow = ap suc all.shallow; same = ap (option_map array) all.same })
 
-  trees_back : (secrets : ℕ → Bool) (hidden : Bool) (ts : Trees) → AllBack (trees_json secrets hidden ts)
-  trees_back secrets hidden no_trees = record { numbers = tt; shallow = refl; same = refl }
-  trees_back secrets hidden (trees.tree t ts) =
-      let one = tree_back secrets hidden t in
-      let more = trees_back secrets hidden ts in
+  trees_back : (secrets : ℕ → Bool) (shown : Shown) (ts : Trees) → AllBack (trees_json secrets shown ts)
+  trees_back secrets shown no_trees = record { numbers = tt; shallow = refl; same = refl }
+  trees_back secrets shown (trees.tree t ts) =
+      let one = tree_back secrets shown t in
+      let more = trees_back secrets shown ts in
       record {
         numbers = (one.numbers, more.numbers);
         shallow = ap₂ max one.shallow more.shallow;

@@ -16,6 +16,7 @@ use Rattle.kmip_ttlv_items.specs.{declared.found.FoundItem.FoundItem, FoundItems
 use Rattle.kmip_ttlv_items.proofs.Spans.{leaf_not}
 use Rattle.kmip_ttlv_write.specs.GivenItems.{lines, lines_below}
 use Rattle.kmip_ttlv_write.proofs.Opens.{leaf_len, node_len, padding_is}
+use Rattle.kmip_ttlv_json.specs.declared.print.Shown.TheVariants.{All}
 use Rattle.kmip_ttlv_json.specs.Jsons.{type_word, hex_text, is_true, value_json, item_json, tree_json, trees_json}
 use Rattle.kmip_ttlv_json.specs.JsonTrees.{boolean_bytes, tag_in, type_in, content_in, valid_in, leaf_in, node_of, typed_in, tagged_in, tree_of, below_of}
 use Rattle.kmip_ttlv_json.specs.JsonTrees.{trees_of}
@@ -53,34 +54,34 @@ boolean_returns content good plain =
     ∙ be_bytes_8 content (from_be_bytes w64 content) (eqb-true (length content) 8 k.0) plain refl
 
 content_returns : (typ : TtlvType) (content : List ℕ) → is_valid typ content ≡ true → ArePlain content
-    → content_in typ (value_json false typ content) ≡ Some content
+    → content_in typ (value_json All typ content) ≡ Some content
 content_returns Structure content good plain = absurd (leaf_not Structure content good refl)
 content_returns Boolean content good plain = ap Some (boolean_returns content good plain)
 content_returns TextString content good plain = refl
 content_returns typ content good plain = ap result_ok (decode_of-encode_upper content plain)
 
 leaf_returns : (tag : ℕ) (typ : TtlvType) (content : List ℕ) → is_valid typ content ≡ true → ArePlain content
-    → leaf_in tag typ (value_json false typ content) ≡ Ok (leaf tag typ content)
+    → leaf_in tag typ (value_json All typ content) ≡ Ok (leaf tag typ content)
 leaf_returns tag typ content good plain =
     ap (λ o. ok_or (option_map (leaf tag typ) (option_and_then (valid_in typ) o)) Value) (content_returns typ content good plain)
     ∙ ap (λ b. ok_or (option_map (leaf tag typ) (if b then Some content else None)) Value) good
 
 -- it is a leaf of that type
 typed_leaf : (tag : ℕ) (typ : TtlvType) (content : List ℕ) → is_valid typ content ≡ true → ArePlain content
-    → typed_in tag (Some typ) (value_json false typ content) (below_of (value_json false typ content)) ≡ Ok (leaf tag typ content)
+    → typed_in tag (Some typ) (value_json All typ content) (below_of (value_json All typ content)) ≡ Ok (leaf tag typ content)
 typed_leaf tag Structure content good plain = absurd (leaf_not Structure content good refl)
 typed_leaf tag typ content good plain = leaf_returns tag typ content good plain
 
 -- ---- trees
 
 mutual
-  tree_returns : (d : ℕ) (t : Tree) (text : List ℕ) → IsTreeText t text → AllPlain (lines d t) → tree_of (tree_json no_secrets false t) ≡ Ok t
+  tree_returns : (d : ℕ) (t : Tree) (text : List ℕ) → IsTreeText t text → AllPlain (lines d t) → tree_of (tree_json no_secrets All t) ≡ Ok t
   tree_returns d (leaf tag typ content) text h plain =
-      item_returns tag typ (value_json false typ content) h.1.tag_fits ∙ typed_leaf tag typ content h.0 plain.0
+      item_returns tag typ (value_json All typ content) h.1.tag_fits ∙ typed_leaf tag typ content h.0 plain.0
   tree_returns d (node tag below) text h plain =
-      item_returns tag Structure (array (trees_json no_secrets false below)) h.1.tag_fits ∙ ap (node_of tag) (trees_return (suc d) below h.0 h.2 plain.1)
+      item_returns tag Structure (array (trees_json no_secrets All below)) h.1.tag_fits ∙ ap (node_of tag) (trees_return (suc d) below h.0 h.2 plain.1)
 
-  trees_return : (d : ℕ) (ts : Trees) (text : List ℕ) → AreTreeTexts ts text → AllPlain (lines_below d ts) → trees_of (trees_json no_secrets false ts) ≡ Ok ts
+  trees_return : (d : ℕ) (ts : Trees) (text : List ℕ) → AreTreeTexts ts text → AllPlain (lines_below d ts) → trees_of (trees_json no_secrets All ts) ≡ Ok ts
   trees_return d no_trees text h plain = refl
   trees_return d (trees.tree t ts) text h plain =
       let p = plain_both (lines d t) (lines_below d ts) plain in
@@ -111,13 +112,13 @@ structure_is : (t : Tree) → IsStructure t → is_node t ≡ true
 structure_is (leaf tag typ content) root = absurd root
 structure_is (node tag below) root = refl
 
-pub stands_back : (w : List ℕ) (xs : List FoundItem) → ArePlain w → (h : Lists w xs) → depth (tree_json no_secrets false h.message) ≤ max_depth
-    → Stands (compact_text (tree_json no_secrets false h.message)) h.message
+pub stands_back : (w : List ℕ) (xs : List FoundItem) → ArePlain w → (h : Lists w xs) → depth (tree_json no_secrets All h.message) ≤ max_depth
+    → Stands (compact_text (tree_json no_secrets All h.message)) h.message
 stands_back w xs plain h deep =
     let t = h.message in
     let len : length (bytes t) < 2 ^ 32 + 8 = omega (arith, structure_short t w h.text h.root, len_of t w h.text) in
     record {
-      reads = record { json = _; parsed = text_back _ (tree_back no_secrets false t) deep; is = tree_returns 0 t w h.text (tree_plain w plain xs h) };
+      reads = record { json = _; parsed = text_back _ (tree_back no_secrets All t) deep; is = tree_returns 0 t w h.text (tree_plain w plain xs h) };
       root = h.root;
       fits = (structure_fits t (structure_is t h.root) len).1;
     }

@@ -1,8 +1,8 @@
 -- The text that is printed item by item is that of the tree.
-use Rattle.std.proofs.Common.{◌≡◌, ◌≢◌, ◌∙◌, ℕ, zero, suc, ◌+◌, ◌-◌, ◌<◌, ◌≤◌, ◌==◌, Bool, true, false, not, ◌||◌, List, [], ◌∷◌, ◌++◌, get_or}
+use Rattle.std.proofs.Common.{◌≡◌, ◌≢◌, ◌∙◌, ℕ, zero, suc, ◌+◌, ◌-◌, ◌<◌, ◌≤◌, ◌==◌, Bool, true, false, not, List, [], ◌∷◌, ◌++◌, get_or}
 use Rattle.std.proofs.Common.{if◌then◌else◌, Option, Some, None, refl, sym, ap, ap₂, arith, append_assoc, append-nil}
 use Rattle.std.specs.{Prelude.codes, Int.bytes_high_first}
-use Rattle.std.proofs.{Math.Bool.and-false, Math.Bool.and-true, Math.Bool.or-false}
+use Rattle.std.proofs.{Math.Bool.and-false, Math.Bool.and-true}
 use Rattle.std.proofs.lemmas.Bool.{lt-ltb, le-ltb, ltb-true, ltb-false, ne_eqb, eq-eqb}
 use Rattle.hex.specs.Hex.{encode_upper}
 use Rattle.json.specs.Print.{escape_byte, escape, quoted}
@@ -14,7 +14,9 @@ use Rattle.kmip_ttlv_types.specs.Trees.{Tree, Trees, leaf, node, no_trees, tree,
 use Rattle.kmip_ttlv_items.proofs.Spans.{leaf_not}
 use Rattle.kmip_ttlv_write.specs.GivenItems.{Line, lines, lines_below}
 use Rattle.kmip_ttlv_json.specs.declared.print.Spot.{Spot}
-use Rattle.kmip_ttlv_json.specs.Jsons.{type_word, value_json, item_json, hex_text, is_true, tree_json, trees_json}
+use Rattle.kmip_ttlv_json.specs.declared.print.Shown.{Shown}
+use Rattle.kmip_ttlv_json.specs.declared.print.Shown.TheVariants.{All, Enumerations, Nothing}
+use Rattle.kmip_ttlv_json.specs.Jsons.{type_word, value_json, item_json, hex_text, is_true, within, tree_json, trees_json}
 use Rattle.kmip_ttlv_json.specs.Parts.{closes, is_inside, spot_after, gap, opening, value_part, item_part, kind, parts, spot_behind, first_spot}
 use Rattle.kmip_ttlv_json.proofs.Escapes.{escape_digits}
 
@@ -60,20 +62,22 @@ quoted_digits : (content : List ℕ) → ArePlain content → encode_upper conte
 quoted_digits content plain = sym (ap (λ (t : List ℕ). t ++ 34 ∷ []) (escape_digits content plain))
 
 -- the value of a leaf
-value_is : (hidden : Bool) (typ : TtlvType) (content : List ℕ) → typ ≢ Structure → ArePlain content
-    → value_part hidden typ content ≡ compact_text (value_json hidden typ content) ++ 125 ∷ []
+value_is : (shown : Shown) (typ : TtlvType) (content : List ℕ) → typ ≢ Structure → ArePlain content
+    → value_part shown typ content ≡ compact_text (value_json shown typ content) ++ 125 ∷ []
 unfolding escape_byte
-value_is hidden Structure content ne plain = absurd (ne refl)
-value_is hidden Enumeration content ne plain = ap (λ (t : List ℕ). 34 ∷ 48 ∷ 120 ∷ (t ++ 125 ∷ [])) (quoted_digits content plain)
-value_is false Boolean content ne plain = by (is_true content)
+value_is shown Structure content ne plain = absurd (ne refl)
+value_is Nothing typ content ne plain = refl
+value_is All Enumeration content ne plain = ap (λ (t : List ℕ). 34 ∷ 48 ∷ 120 ∷ (t ++ 125 ∷ [])) (quoted_digits content plain)
+value_is Enumerations Enumeration content ne plain = ap (λ (t : List ℕ). 34 ∷ 48 ∷ 120 ∷ (t ++ 125 ∷ [])) (quoted_digits content plain)
+value_is All Boolean content ne plain = by (is_true content)
   where
     by : (b : Bool) → (if b then codes "true" else codes "false") ++ codes "}" ≡ compact_text (Data.boolean b) ++ 125 ∷ []
     by true = refl
     by false = refl
-value_is false TextString content ne plain = refl
-value_is false ByteString content ne plain = ap (λ (t : List ℕ). 34 ∷ (t ++ 125 ∷ [])) (quoted_digits content plain)
-value_is true typ content ne plain = refl
-value_is false typ content ne plain = ap (λ (t : List ℕ). 34 ∷ 48 ∷ 120 ∷ (t ++ 125 ∷ [])) (quoted_digits content plain)
+value_is All TextString content ne plain = refl
+value_is All ByteString content ne plain = ap (λ (t : List ℕ). 34 ∷ (t ++ 125 ∷ [])) (quoted_digits content plain)
+value_is Enumerations typ content ne plain = refl
+value_is All typ content ne plain = ap (λ (t : List ℕ). 34 ∷ 48 ∷ 120 ∷ (t ++ 125 ∷ [])) (quoted_digits content plain)
 
 -- ---- items behind one another
 
@@ -104,15 +108,15 @@ inside_less : (s : Option ℕ) (d k : ℕ) → is_inside s d ≡ false → k ≤
 inside_less None d k h le = refl
 inside_less (Some a) d k h le = le-ltb a k (omega (arith, ltb-false a d h, le))
 
-module _ (secrets : ℕ → Bool) (hidden : Bool) where
+module _ (secrets : ℕ → Bool) (shown : Shown) where
   -- items with the ends of all structures that are open
   abbrev flat : Spot → List Line → List ℕ
   flat s [] = closes s.depth
-  flat s (l ∷ ls) = item_part secrets hidden s l.depth l.tag (kind l.code) l.content ++ flat (spot_after secrets s l.depth l.tag (kind l.code)) ls
+  flat s (l ∷ ls) = item_part secrets shown s l.depth l.tag (kind l.code) l.content ++ flat (spot_after secrets s l.depth l.tag (kind l.code)) ls
 
-  pub flat_is : (s : Spot) (ls : List Line) → parts secrets hidden s ls ++ closes (spot_behind secrets s ls).depth ≡ flat s ls
+  pub flat_is : (s : Spot) (ls : List Line) → parts secrets shown s ls ++ closes (spot_behind secrets s ls).depth ≡ flat s ls
   flat_is s [] = refl
-  flat_is s (l ∷ ls) = rw append_assoc (ap (λ (x : List ℕ). item_part secrets hidden s l.depth l.tag (kind l.code) l.content ++ x)
+  flat_is s (l ∷ ls) = rw append_assoc (ap (λ (x : List ℕ). item_part secrets shown s l.depth l.tag (kind l.code) l.content ++ x)
       (flat_is (spot_after secrets s l.depth l.tag (kind l.code)) ls))
 
   -- a structure ends in front of an item that is not in it
@@ -141,16 +145,18 @@ module _ (secrets : ℕ → Bool) (hidden : Bool) where
       by false true e = swap d b (Some d) s r low (le-ltb d d (omega arith)) e
       by false false e = swap d b None s r low refl e
 
-  -- what is in a structure is hidden
-  hidden_below : (s : Option ℕ) (d tag : ℕ) → (hidden || is_inside (secret_behind s d tag) (suc d)) ≡ ((hidden || is_inside s d) || secrets tag)
-  hidden_below s d tag = by hidden s (is_inside s d) (secrets tag) refl
+  -- what is shown of what is in a structure
+  hidden_below : (s : Option ℕ) (d tag : ℕ) → within shown (is_inside (secret_behind s d tag) (suc d))
+      ≡ within (within shown (is_inside s d)) (secrets tag)
+  hidden_below s d tag = by s (is_inside s d) (secrets tag) refl
     where
-      by : (h : Bool) (o : Option ℕ) (i k : Bool) → is_inside o d ≡ i → (h || is_inside (if i then o else if k then Some d else None) (suc d)) ≡ ((h || i) || k)
-      by true o i k e = refl
-      by false None true k e = absurd (cc)
-      by false (Some a) true k e = lt-ltb a (suc d) (omega (arith, ltb-true a d e))
-      by false o false true e = lt-ltb d (suc d) (omega arith)
-      by false o false false e = refl
+      by : (o : Option ℕ) (i k : Bool) → is_inside o d ≡ i → within shown (is_inside (if i then o else if k then Some d else None) (suc d))
+          ≡ within (within shown i) k
+      by None true k e = absurd (cc)
+      by (Some a) true true e = ap (within shown) (lt-ltb a (suc d) (omega (arith, ltb-true a d e)))
+      by (Some a) true false e = ap (within shown) (lt-ltb a (suc d) (omega (arith, ltb-true a d e)))
+      by o false true e = ap (within shown) (lt-ltb d (suc d) (omega arith))
+      by o false false e = refl
 
   gap_is : (d : ℕ) (b : Bool) (s : Option ℕ) → gap (spot d b s) d ≡ comma_if (not b)
   gap_is d b s =
@@ -159,15 +165,16 @@ module _ (secrets : ℕ → Bool) (hidden : Bool) where
 
   mutual
     tree_flat : (d : ℕ) (b : Bool) (s : Option ℕ) (t : Tree) (text : List ℕ) (r : List Line) → IsTreeText t text → AllPlain (lines d t) → IsLow d r
-        → flat (spot d b s) (lines d t ++ r) ≡ comma_if (not b) ++ (compact_text (tree_json secrets (hidden || is_inside s d) t) ++ flat (spot d false s) r)
+        → flat (spot d b s) (lines d t ++ r)
+        ≡ comma_if (not b) ++ (compact_text (tree_json secrets (within shown (is_inside s d)) t) ++ flat (spot d false s) r)
     tree_flat d b s (leaf tag typ content) text r h plain low =
         let ne = leaf_not typ content h.0 in
-        let hid = (hidden || is_inside s d) || secrets tag in
+        let hid = within (within shown (is_inside s d)) (secrets tag) in
         let v = value_json hid typ content in
         let own : opening tag typ ++ value_part hid typ content ≡ compact_text (item_json tag typ v) =
         ap (λ (x : List ℕ). opening tag typ ++ x) (value_is hid typ content ne plain.0) ∙ item_is tag typ v in
         let after : flat (spot_after secrets (spot d b s) d tag typ) r ≡ flat (spot d false s) r = leaf_after typ ne ∙ secret_same s d tag false r low in
-        ap (λ (k : TtlvType). item_part secrets hidden (spot d b s) d tag k content ++ flat (spot_after secrets (spot d b s) d tag k) r) (kind_code typ)
+        ap (λ (k : TtlvType). item_part secrets shown (spot d b s) d tag k content ++ flat (spot_after secrets (spot d b s) d tag k) r) (kind_code typ)
         ∙ ap₂ (λ (x y : List ℕ). (x ++ (opening tag typ ++ value_part hid typ content)) ++ y) (gap_is d b s) after
         ∙ ap (λ (x : List ℕ). (comma_if (not b) ++ x) ++ flat (spot d false s) r) own
         ∙ append_assoc (comma_if (not b)) (compact_text (item_json tag typ v)) (flat (spot d false s) r)
@@ -177,14 +184,14 @@ module _ (secrets : ℕ → Bool) (hidden : Bool) where
         leaf_after typ ne = refl
     tree_flat d b s (node tag below) text r h plain low =
         let u = secret_behind s d tag in
-        let hid = (hidden || is_inside s d) || secrets tag in
+        let hid = within (within shown (is_inside s d)) (secrets tag) in
         let inner = trees_json secrets hid below in
         let rest = flat (spot d false s) r in
         let one_more : d + 1 ≡ suc d = omega arith in
         let deep = ap (λ (n : ℕ). flat (spot n true u) (lines_below (suc d) below ++ r)) one_more in
         let all : flat (spot (d + 1) true u) (lines_below (suc d) below ++ r) ≡ items_text false inner ++ 125 ∷ rest =
         deep ∙ trees_flat d true u below h.0 r h.2 plain.1 low
-        ∙ ap (λ (k : Bool). items_text false (trees_json secrets k below) ++ 125 ∷ flat (spot d false u) r) (hidden_below s d tag)
+        ∙ ap (λ (k : Shown). items_text false (trees_json secrets k below) ++ 125 ∷ flat (spot d false u) r) (hidden_below s d tag)
         ∙ ap (λ (x : List ℕ). items_text false inner ++ 125 ∷ x) (secret_same s d tag false r low) in
         let own = item_is tag Structure (Data.array inner) in
         ap₂ (λ (x y : List ℕ). (x ++ (opening tag Structure ++ 91 ∷ [])) ++ y) (gap_is d b s) all
@@ -192,12 +199,12 @@ module _ (secrets : ℕ → Bool) (hidden : Bool) where
 
     trees_flat : (d : ℕ) (b : Bool) (s : Option ℕ) (ts : Trees) (text : List ℕ) (r : List Line) → AreTreeTexts ts text → AllPlain (lines_below (suc d) ts)
         → IsLow d r
-        → flat (spot (suc d) b s) (lines_below (suc d) ts ++ r) ≡ items_text (not b) (trees_json secrets (hidden || is_inside s (suc d)) ts) ++ 125 ∷ flat
+        → flat (spot (suc d) b s) (lines_below (suc d) ts ++ r) ≡ items_text (not b) (trees_json secrets (within shown (is_inside s (suc d))) ts) ++ 125 ∷ flat
         (spot d false s) r
     trees_flat d b s no_trees text r h plain low = close_one d b s r low
     trees_flat d b s (tree t ts) text r h plain low =
         let k = plain_both (lines (suc d) t) (lines_below (suc d) ts) plain in
-        let hid = hidden || is_inside s (suc d) in
+        let hid = within shown (is_inside s (suc d)) in
         let more = lines_below (suc d) ts ++ r in
         let one = compact_text (tree_json secrets hid t) in
         ap (flat (spot (suc d) b s)) (append_assoc (lines (suc d) t) (lines_below (suc d) ts) r)
@@ -205,8 +212,8 @@ module _ (secrets : ℕ → Bool) (hidden : Bool) where
         ∙ ap (λ (x : List ℕ). comma_if (not b) ++ (one ++ x)) (trees_flat d false s ts h.1 r h.4 k.1 low) ∙ simp append_assoc
 
   -- a whole message
-  pub message_flat : (t : Tree) (text : List ℕ) → IsTreeText t text → AllPlain (lines 0 t) → parts secrets hidden first_spot (lines 0 t) ++ closes
-      (spot_behind secrets first_spot (lines 0 t)).depth ≡ compact_text (tree_json secrets hidden t)
+  pub message_flat : (t : Tree) (text : List ℕ) → IsTreeText t text → AllPlain (lines 0 t) → parts secrets shown first_spot (lines 0 t) ++ closes
+      (spot_behind secrets first_spot (lines 0 t)).depth ≡ compact_text (tree_json secrets shown t)
   message_flat t text h plain =
       flat_is first_spot (lines 0 t) ∙ ap (flat first_spot) (sym (append-nil (lines 0 t))) ∙ tree_flat 0 true None t text [] h plain tt
-      ∙ append-nil _ ∙ ap (λ (b : Bool). compact_text (tree_json secrets b t)) (or-false hidden)
+      ∙ append-nil _

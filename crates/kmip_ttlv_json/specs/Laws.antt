@@ -6,6 +6,7 @@ use Rattle.serde_json.specs.Written.{compact_text}
 use Rattle.kmip_ttlv_items.specs.declared.found.FoundItem.{FoundItem}
 use Rattle.kmip_ttlv_items.specs.FoundItems.{Lists}
 use Rattle.kmip_ttlv_items.specs.ItemWalks.{AreBytes}
+use Rattle.kmip_ttlv_json.specs.declared.print.Shown.TheVariants.{All}
 use Rattle.kmip_ttlv_json.specs.Jsons.{tree_json, json_line}
 use Rattle.kmip_ttlv_types.specs.Trees.{Tree, bytes, IsTreeText}
 use Rattle.kmip_ttlv_json.specs.Readings.{Stands}
@@ -22,7 +23,7 @@ DeterminesAll =
     → AreBytes b
     → (h : Lists a xs)
     → (k : Lists b ys)
-    → json_line no_secrets false h.message ≡ json_line no_secrets false k.message
+    → json_line no_secrets All h.message ≡ json_line no_secrets All k.message
     → h.message ≡ k.message
 
 -- the line of a whole message, without its line feed, is the JSON of that message
@@ -31,8 +32,8 @@ ComesBack =
     (bytes : List ℕ) (xs : List FoundItem)
     → AreBytes bytes
     → (h : Lists bytes xs)
-    → depth (tree_json no_secrets false h.message) ≤ max_depth
-    → Stands (compact_text (tree_json no_secrets false h.message)) h.message
+    → depth (tree_json no_secrets All h.message) ≤ max_depth
+    → Stands (compact_text (tree_json no_secrets All h.message)) h.message
 
 -- what a text stands for is a whole message: its canonical bytes encode it
 abbrev pub ReadsMessages : Type 0

@@ -1,5 +1,5 @@
 -- The text of a message's JSON, item by item.
-use Rattle.std.specs.Prelude.{ℕ, zero, suc, ◌-◌, ◌==◌, Bool, true, false, not, ◌||◌, ◌&&◌, List, [], ◌∷◌, ◌++◌, nat_lt, codes, encode_utf8}
+use Rattle.std.specs.Prelude.{ℕ, zero, suc, ◌-◌, ◌==◌, Bool, true, false, not, ◌&&◌, List, [], ◌∷◌, ◌++◌, nat_lt, codes, encode_utf8}
 use Rattle.std.specs.Prelude.{Option, Some, None, if◌then◌else◌}
 use Rattle.std.specs.Int.{bytes_high_first}
 use Rattle.hex.specs.Hex.{encode_upper}
@@ -11,7 +11,9 @@ use Rattle.kmip_ttlv_types.specs.ItemTypes.{is_structure, type_of}
 use Rattle.kmip_ttlv_write.specs.FlatWrites.{opened}
 use Rattle.kmip_ttlv_write.specs.GivenItems.{Line}
 use Rattle.kmip_ttlv_json.specs.declared.print.Spot.{Spot}
-use Rattle.kmip_ttlv_json.specs.Jsons.{type_word, is_true}
+use Rattle.kmip_ttlv_json.specs.declared.print.Shown.{Shown}
+use Rattle.kmip_ttlv_json.specs.declared.print.Shown.TheVariants.{All, Enumerations, Nothing}
+use Rattle.kmip_ttlv_json.specs.Jsons.{type_word, is_true, within}
 
 -- the ends of so many structures
 abbrev pub closes : ℕ → List ℕ
@@ -23,9 +25,9 @@ abbrev pub is_inside : Option ℕ → ℕ → Bool
 is_inside None depth = false
 is_inside (Some secret) depth = nat_lt secret depth
 
--- an item's value is hidden
-abbrev pub is_hidden : (ℕ → Bool) → Bool → Spot → ℕ → ℕ → Bool
-is_hidden secrets hidden s depth tag = (hidden || is_inside s.secret depth) || secrets tag
+-- what is shown of an item's value
+abbrev pub shown_at : (ℕ → Bool) → Shown → Spot → ℕ → ℕ → Shown
+shown_at secrets shown s depth tag = within (within shown (is_inside s.secret depth)) (secrets tag)
 
 -- where printing stands before the first item, and behind one
 abbrev pub first_spot : Spot
@@ -54,39 +56,47 @@ opening tag typ = (codes "{\"tag\":\"0x" ++ encode_upper (bytes_high_first 3 tag
 abbrev pub digits_text : List ℕ → List ℕ → List ℕ
 digits_text front content = front ++ (encode_upper content ++ codes "\"")
 
+-- the value of a leaf is hidden
+abbrev pub is_hidden : Shown → TtlvType → Bool
+is_hidden All typ = false
+is_hidden Enumerations Enumeration = false
+is_hidden Enumerations typ = true
+is_hidden Nothing typ = true
+
 -- the text of a leaf's value
-abbrev pub value_text : Bool → TtlvType → List ℕ → List ℕ
-value_text hidden Enumeration content = digits_text (codes "\"0x") content
-value_text true typ content = codes "null"
-value_text false Boolean content = if is_true content then codes "true" else codes "false"
-value_text false TextString content = quoted content
-value_text false ByteString content = digits_text (codes "\"") content
-value_text false typ content = digits_text (codes "\"0x") content
+abbrev pub value_text : Shown → TtlvType → List ℕ → List ℕ
+value_text Nothing typ content = codes "null"
+value_text shown Enumeration content = digits_text (codes "\"0x") content
+value_text Enumerations typ content = codes "null"
+value_text All Boolean content = if is_true content then codes "true" else codes "false"
+value_text All TextString content = quoted content
+value_text All ByteString content = digits_text (codes "\"") content
+value_text All typ content = digits_text (codes "\"0x") content
 
 -- the rest of an item: of a structure no more than where the items in it begin
-abbrev pub value_part : Bool → TtlvType → List ℕ → List ℕ
-value_part hidden Structure content = codes "["
-value_part hidden typ content = value_text hidden typ content ++ codes "}"
+abbrev pub value_part : Shown → TtlvType → List ℕ → List ℕ
+value_part shown Structure content = codes "["
+value_part shown typ content = value_text shown typ content ++ codes "}"
 
 -- a character of a JSON string
 unfoldable pub char_text : ℕ → List ℕ
 char_text c = if nat_lt c 128 then escape_byte c else encode_utf8 c
 
 -- an item with what stands in front of it
-abbrev pub item_part : (ℕ → Bool) → Bool → Spot → ℕ → ℕ → TtlvType → List ℕ → List ℕ
-item_part secrets hidden s depth tag typ content =
-    gap s depth ++ (opening tag typ ++ value_part (is_hidden secrets hidden s depth tag) typ content)
+abbrev pub item_part : (ℕ → Bool) → Shown → Spot → ℕ → ℕ → TtlvType → List ℕ → List ℕ
+item_part secrets shown s depth tag typ content =
+    gap s depth ++ (opening tag typ ++ value_part (shown_at secrets shown s depth tag) typ content)
 
 -- the type of a code
 abbrev pub kind : ℕ → TtlvType
 kind n = elim (type_of n) [ None ↦ Structure | Some typ ↦ typ ]
 
 -- several items, one after the other; and where printing stands behind them
-abbrev pub parts : (ℕ → Bool) → Bool → Spot → List Line → List ℕ
-parts secrets hidden s [] = []
-parts secrets hidden s (l ∷ ls) =
-    item_part secrets hidden s l.depth l.tag (kind l.code) l.content
-    ++ parts secrets hidden (spot_after secrets s l.depth l.tag (kind l.code)) ls
+abbrev pub parts : (ℕ → Bool) → Shown → Spot → List Line → List ℕ
+parts secrets shown s [] = []
+parts secrets shown s (l ∷ ls) =
+    item_part secrets shown s l.depth l.tag (kind l.code) l.content
+    ++ parts secrets shown (spot_after secrets s l.depth l.tag (kind l.code)) ls
 
 abbrev pub spot_behind : (ℕ → Bool) → Spot → List Line → Spot
 spot_behind secrets s [] = s

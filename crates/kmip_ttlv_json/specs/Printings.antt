@@ -7,6 +7,8 @@ use Rattle.kmip_ttlv_items.specs.ItemWalks.{Ended, IsWhole}
 use Rattle.kmip_ttlv_types.specs.Places.{size}
 use Rattle.kmip_ttlv_json.specs.declared.print.Hiding.{Hiding}
 use Rattle.kmip_ttlv_json.specs.declared.print.Hiding.TheVariants.{Secrets, Values}
+use Rattle.kmip_ttlv_json.specs.declared.print.Shown.{Shown}
+use Rattle.kmip_ttlv_json.specs.declared.print.Shown.TheVariants.{All, Enumerations}
 use Rattle.kmip_ttlv_json.specs.Jsons.{json_line}
 
 -- something is there
@@ -19,25 +21,25 @@ abbrev pub secrets_of : Hiding → (ℕ → Bool) → ℕ → Bool
 secrets_of Secrets secrets tag = secrets tag
 secrets_of hiding secrets tag = false
 
--- all values are hidden
-abbrev pub hides_all : Hiding → Bool
-hides_all Values = true
-hides_all hiding = false
+-- what is shown of leaves that are not secret
+abbrev pub shown_of : Hiding → Shown
+shown_of Values = Enumerations
+shown_of hiding = All
 
 -- a table has a line for the tag
 abbrev pub has_line : NameMap → ℕ → Bool
 has_line table tag = is_there (name_in table tag)
 
 -- the line of a whole message; nothing of one with a fault
-abbrev pub json_text : (ℕ → Bool) → Bool → (bytes : List ℕ) → (found : List FoundItem) → (fault : Option Fault) → Ended bytes found fault → List ℕ
-json_text secrets hidden bytes found None lists = json_line secrets hidden lists.message
-json_text secrets hidden bytes found (Some fault) ended = []
+abbrev pub json_text : (ℕ → Bool) → Shown → (bytes : List ℕ) → (found : List FoundItem) → (fault : Option Fault) → Ended bytes found fault → List ℕ
+json_text secrets shown bytes found None lists = json_line secrets shown lists.message
+json_text secrets shown bytes found (Some fault) ended = []
 
 -- this is the text of a message
-pub record IsJson (secrets : ℕ → Bool) (hidden : Bool) (bytes text : List ℕ) (fault : Option Fault) : Type 0 where
+pub record IsJson (secrets : ℕ → Bool) (shown : Shown) (bytes text : List ℕ) (fault : Option Fault) : Type 0 where
   pub found : List FoundItem
   pub ended : Ended bytes found fault
-  pub is : text ≡ json_text secrets hidden bytes found fault ended
+  pub is : text ≡ json_text secrets shown bytes found fault ended
 
 -- an item's own bytes are there, and a leaf has a value
 abbrev pub IsThere : List ℕ → FoundItem → Type 0

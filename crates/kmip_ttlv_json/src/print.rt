@@ -1,6 +1,6 @@
 //! A message as a line of JSON, item by item.
 
-ghost use Rattle.std.specs.Prelude.{◌≡◌, ◌||◌, ◌++◌, ℕ, Bool, true, Option, None, IfOk, OnOk, OnErr, codes};
+ghost use Rattle.std.specs.Prelude.{◌≡◌, ◌++◌, ℕ, Bool, true, Option, None, IfOk, OnOk, OnErr, codes};
 ghost use Rattle.kmip_ttlv_types.specs.declared.typ.TtlvType.TheVariants.{Boolean as ABoolean};
 ghost use Rattle.kmip_ttlv_types.specs.Leaves.{is_valid};
 ghost use Rattle.kmip_ttlv_items.specs.declared.found.Fault.{Fault as AFault};
@@ -9,9 +9,9 @@ ghost use Rattle.kmip_ttlv_util.specs.Pieces.{SomeText};
 ghost use Rattle.kmip_ttlv_write.specs.FlatWrites.{opened};
 ghost use Rattle.hex.specs.Hex.{encode_upper};
 ghost use Rattle.std.specs.Int.{bytes_high_first};
-ghost use Rattle.kmip_ttlv_json.specs.Jsons.{is_true};
-ghost use Rattle.kmip_ttlv_json.specs.Parts.{closes, is_inside, spot_after, gap, type_part, opening, value_text, value_part};
-ghost use Rattle.kmip_ttlv_json.specs.Printings.{secrets_of, hides_all, has_line, IsJson, IsThere};
+ghost use Rattle.kmip_ttlv_json.specs.Jsons.{is_true, within};
+ghost use Rattle.kmip_ttlv_json.specs.Parts.{closes, is_inside, is_hidden, spot_after, gap, type_part, opening, value_text, value_part};
+ghost use Rattle.kmip_ttlv_json.specs.Printings.{secrets_of, shown_of, has_line, IsJson, IsThere};
 
 use crate::quoted::{push_digits_text, push_hex, push_quoted};
 use kmip_ttlv_items::{Fault, FoundItem, ItemWalk, Step, find_fault};
@@ -19,15 +19,26 @@ use kmip_ttlv_types::{TtlvTag, TtlvType};
 use kmip_ttlv_util::{LentTagMap, TextSink};
 use std::alloc::Allocator;
 
-/// Which values are hidden; an enumeration's never is.
+/// Which values are hidden.
 #[derive(Clone, Copy, Debug, PartialEq, Eq)]
 pub enum Hiding {
     /// None.
     Nothing,
-    /// Those of items whose tags are secret, and of the items in them.
+    /// Those of items whose tags are secret, and of the items in them; an enumeration's too.
     Secrets,
-    /// All.
+    /// All but those of enumerations.
     Values,
+}
+
+/// What is shown of the value of a leaf.
+#[derive(Clone, Copy)]
+pub enum Shown {
+    /// All of it.
+    All,
+    /// That of an enumeration alone.
+    Enumerations,
+    /// Nothing.
+    Nothing,
 }
 
 /// Where printing stands.
@@ -72,14 +83,21 @@ fn is_secret<A: Allocator>(hiding: Hiding, secrets: &LentTagMap<'_, A>, tag: Ttl
     }
 }
 
-// Whether all values are hidden.
-fn hides_all(hiding: Hiding) -> bool
-    ensures { result ≡ hides_all hiding }
+// What is shown of leaves that are not secret.
+fn shown_of(hiding: Hiding) -> Shown
+    ensures { result ≡ shown_of hiding }
 {
     match hiding {
-        Hiding::Values => true,
-        _ => false,
+        Hiding::Values => Shown::Enumerations,
+        _ => Shown::All,
     }
+}
+
+// What is shown of a leaf that is secret or not.
+fn within(shown: Shown, is_secret: bool) -> Shown
+    ensures { result ≡ within shown is_secret }
+{
+    if is_secret { Shown::Nothing } else { shown }
 }
 
 // Whether an item in so many structures is in a secret one.
@@ -179,18 +197,29 @@ fn is_true(content: &[u8]) -> bool
     number > 0
 }
 
+// Whether the value of a leaf is hidden.
+fn is_hidden(shown: Shown, typ: TtlvType) -> bool
+    ensures { result ≡ is_hidden shown typ }
+{
+    match shown {
+        Shown::All => false,
+        Shown::Enumerations => typ != TtlvType::Enumeration,
+        Shown::Nothing => true,
+    }
+}
+
 // Adds the value of a leaf.
 fn push_leaf<S: TextSink>(
     out: &mut S,
-    hidden: bool,
+    shown: Shown,
     typ: TtlvType,
     content: &[u8],
 ) -> Result<(), S::Error>
     requires { is_valid typ content.now ≡ true }
-    ensures ok { OnOk result (S.adds out.old (value_text hidden typ content.now) out.new) }
-    ensures err { OnErr result (S.breaks out.old (value_text hidden typ content.now) out.new) }
+    ensures ok { OnOk result (S.adds out.old (value_text shown typ content.now) out.new) }
+    ensures err { OnErr result (S.breaks out.old (value_text shown typ content.now) out.new) }
 {
-    if hidden && typ != TtlvType::Enumeration {
+    if is_hidden(shown, typ) {
         return out.push_str("null");
     }
     match typ {
@@ -204,64 +233,67 @@ fn push_leaf<S: TextSink>(
 // Adds the value of an item and its end; of a structure the beginning of it.
 fn push_value_part<S: TextSink>(
     out: &mut S,
-    hidden: bool,
+    shown: Shown,
     bytes: &[u8],
     item: &FoundItem,
 ) -> Result<(), S::Error>
     requires { IsThere bytes.now item.now }
-    ensures ok { OnOk result (S.adds out.old (value_part hidden item.now.typ (content_at bytes.now item.now.offset)) out.new) }
-    ensures err { OnErr result (S.breaks out.old (value_part hidden item.now.typ (content_at bytes.now item.now.offset)) out.new) }
+    ensures ok { OnOk result (S.adds out.old (value_part shown item.now.typ (content_at bytes.now item.now.offset)) out.new) }
+    ensures err { OnErr result (S.breaks out.old (value_part shown item.now.typ (content_at bytes.now item.now.offset)) out.new) }
 {
     if item.typ == TtlvType::Structure {
         return out.push_str("[");
     }
     let content = &bytes[item.offset + 8..item.offset + 8 + item.length as usize];
-    push_leaf(out, hidden, item.typ, content)?;
+    push_leaf(out, shown, item.typ, content)?;
     out.push_str("}")
 }
 
 // Adds an item.
 fn push_own<S: TextSink>(
     out: &mut S,
-    hidden: bool,
+    shown: Shown,
     bytes: &[u8],
     item: &FoundItem,
 ) -> Result<(), S::Error>
     requires { IsThere bytes.now item.now }
     ensures ok { OnOk result (S.adds out.old (opening item.now.tag item.now.typ
-        ++ value_part hidden item.now.typ (content_at bytes.now item.now.offset)) out.new) }
+        ++ value_part shown item.now.typ (content_at bytes.now item.now.offset)) out.new) }
     ensures err { OnErr result (S.breaks out.old (opening item.now.tag item.now.typ
-        ++ value_part hidden item.now.typ (content_at bytes.now item.now.offset)) out.new) }
+        ++ value_part shown item.now.typ (content_at bytes.now item.now.offset)) out.new) }
 {
     push_opening(out, item.tag, item.typ)?;
-    push_value_part(out, hidden, bytes, item)
+    push_value_part(out, shown, bytes, item)
 }
 
 // Adds an item, with what stands in front of it.
 fn push_item<S: TextSink>(
     out: &mut S,
     spot: Spot,
-    hidden: bool,
+    shown: Shown,
     bytes: &[u8],
     item: &FoundItem,
 ) -> Result<(), S::Error>
     requires { IsThere bytes.now item.now }
     ensures ok { OnOk result (S.adds out.old
         (gap spot item.now.depth ++ (opening item.now.tag item.now.typ
-        ++ value_part hidden item.now.typ (content_at bytes.now item.now.offset))) out.new) }
+        ++ value_part shown item.now.typ (content_at bytes.now item.now.offset))) out.new) }
     ensures err { OnErr result (S.breaks out.old
         (gap spot item.now.depth ++ (opening item.now.tag item.now.typ
-        ++ value_part hidden item.now.typ (content_at bytes.now item.now.offset))) out.new) }
+        ++ value_part shown item.now.typ (content_at bytes.now item.now.offset))) out.new) }
 {
     push_gap(out, spot, item.depth)?;
-    push_own(out, hidden, bytes, item)
+    push_own(out, shown, bytes, item)
 }
 
-// Whether an item's value is hidden, where its tag is secret or not.
-fn is_hidden(hiding: Hiding, spot: Spot, is_secret: bool, depth: usize) -> bool
-    ensures { result ≡ ((hides_all hiding || is_inside spot.secret depth) || is_secret) }
+// What is shown of an item's value, where its tag is secret or not.
+fn shown_at(hiding: Hiding, spot: Spot, is_secret: bool, depth: usize) -> Shown
+    ensures { result ≡ within (within (shown_of hiding) (is_inside spot.secret depth)) is_secret }
 {
-    hides_all(hiding) || is_inside(spot.secret, depth) || is_secret
+    within(
+        within(shown_of(hiding), is_inside(spot.secret, depth)),
+        is_secret,
+    )
 }
 
 // Adds the ends of the structures that are open, and the end of the line.
@@ -283,10 +315,10 @@ fn push_line<S: TextSink, A: Allocator>(
 ) -> Result<Option<Fault>, S::Error>
     requires { Judges message.now None }
     ensures ok { IfOk result (λ fault. SomeText
-        (λ t. IsJson (secrets_of hiding (has_line secrets.now)) (hides_all hiding) message.now t fault)
+        (λ t. IsJson (secrets_of hiding (has_line secrets.now)) (shown_of hiding) message.now t fault)
         (λ t. S.adds out.old t out.new)) }
     ensures err { OnErr result (SomeText
-        (λ t. (fault : Option AFault) × IsJson (secrets_of hiding (has_line secrets.now)) (hides_all hiding) message.now t fault)
+        (λ t. (fault : Option AFault) × IsJson (secrets_of hiding (has_line secrets.now)) (shown_of hiding) message.now t fault)
         (λ t. S.breaks out.old t out.new)) }
 {
     let mut walk = ItemWalk::new(alloc, message);
@@ -299,8 +331,8 @@ fn push_line<S: TextSink, A: Allocator>(
         match walk.next()? {
             Step::Item(item) => {
                 let is_secret = is_secret(hiding, secrets, item.tag);
-                let hidden = is_hidden(hiding, spot, is_secret, item.depth);
-                push_item(out, spot, hidden, message, &item)?;
+                let shown = shown_at(hiding, spot, is_secret, item.depth);
+                push_item(out, spot, shown, message, &item)?;
                 spot = spot_after(spot, is_secret, &item);
             }
             Step::End(fault) => {
@@ -323,10 +355,10 @@ pub fn push_json<S: TextSink, A: Allocator + Copy>(
     message: &[u8],
 ) -> Result<Option<Fault>, S::Error>
     ensures ok { IfOk result (λ fault. SomeText
-        (λ t. IsJson (secrets_of hiding (has_line secrets.now)) (hides_all hiding) message.now t fault)
+        (λ t. IsJson (secrets_of hiding (has_line secrets.now)) (shown_of hiding) message.now t fault)
         (λ t. S.adds out.old t out.new)) }
     ensures err { OnErr result (SomeText
-        (λ t. (fault : Option AFault) × IsJson (secrets_of hiding (has_line secrets.now)) (hides_all hiding) message.now t fault)
+        (λ t. (fault : Option AFault) × IsJson (secrets_of hiding (has_line secrets.now)) (shown_of hiding) message.now t fault)
         (λ t. S.breaks out.old t out.new)) }
 {
     if let Some(fault) = find_fault(alloc, message)? {

@@ -33,7 +33,7 @@ pub const TEXT_JSON: &str =
 
 // The key block without its key material, its credential and its password.
 const KEY_BLOCK_HIDDEN: &str =
-    "{\"tag\":\"0x420040\",\"type\":\"Structure\",\"value\":[{\"tag\":\"0x420042\",\"type\":\"Enumeration\",\"value\":\"0x00000001\"},{\"tag\":\"0x420045\",\"type\":\"Structure\",\"value\":[{\"tag\":\"0x420043\",\"type\":\"Structure\",\"value\":[{\"tag\":\"0x42003F\",\"type\":\"ByteString\",\"value\":null},{\"tag\":\"0x420075\",\"type\":\"Enumeration\",\"value\":\"0x00000004\"}]},{\"tag\":\"0x420009\",\"type\":\"Integer\",\"value\":null}]},{\"tag\":\"0x420025\",\"type\":\"Structure\",\"value\":[{\"tag\":\"0x420099\",\"type\":\"TextString\",\"value\":null},{\"tag\":\"0x4200A1\",\"type\":\"TextString\",\"value\":null}]},{\"tag\":\"0x420094\",\"type\":\"TextString\",\"value\":\"id\"}]}\n";
+    "{\"tag\":\"0x420040\",\"type\":\"Structure\",\"value\":[{\"tag\":\"0x420042\",\"type\":\"Enumeration\",\"value\":\"0x00000001\"},{\"tag\":\"0x420045\",\"type\":\"Structure\",\"value\":[{\"tag\":\"0x420043\",\"type\":\"Structure\",\"value\":[{\"tag\":\"0x42003F\",\"type\":\"ByteString\",\"value\":null},{\"tag\":\"0x420075\",\"type\":\"Enumeration\",\"value\":null}]},{\"tag\":\"0x420009\",\"type\":\"Integer\",\"value\":null}]},{\"tag\":\"0x420025\",\"type\":\"Structure\",\"value\":[{\"tag\":\"0x420099\",\"type\":\"TextString\",\"value\":null},{\"tag\":\"0x4200A1\",\"type\":\"TextString\",\"value\":null}]},{\"tag\":\"0x420094\",\"type\":\"TextString\",\"value\":\"id\"}]}\n";
 
 // What is hidden, an input, its JSON, and what is printed on standard error.
 type Row = (Hiding, &'static str, &'static str, &'static str);

@@ -1,7 +1,7 @@
 //! Tests of the tool `ttlv`: what a run prints of worked messages in each encoding, the status and the
 //! error line of malformed or undecodable input, the results of failing allocations, failing writers and
-//! closed pipes, what is printed of long inputs and of raw messages, texts and diagnostics that come in pieces, and what the
-//! command line asks for.
+//! closed pipes, what is printed of long inputs and of raw messages, texts and diagnostics that come in pieces, what the
+//! command line asks for, and what each of its options comes to.
 #![tactic(auto)]
 
 #[cfg(test)]
@@ -34,5 +34,7 @@ mod read_jsons;
 mod runs;
 #[cfg(test)]
 mod texts;
+#[cfg(test)]
+mod tool;
 #[cfg(test)]
 mod words;

@@ -73,11 +73,11 @@ const ROWS: [Row; 7] = [
         "42009101000000284200430800000004010203AB000000004200430800000005010203AB050000004200430800000000",
         "Tag: Template-Attribute (0x420091), Type: Structure (0x01), Data:\n  Tag: Key Material (0x420043), Type: ByteString (0x08), Data: 010203AB\n  Tag: Key Material (0x420043), Type: ByteString (0x08), Data: 010203AB.. (5 bytes)\n  Tag: Key Material (0x420043), Type: ByteString (0x08), Data: \n",
     ),
-    // All values in a key, beside it in its Key Value, and in a credential are hidden, except enumerations.
+    // All values in a key, beside it in its Key Value, and in a credential are hidden.
     (
         SECRETS,
         KEY_BLOCK,
-        "Tag: Key Block (0x420040), Type: Structure (0x01), Data:\n  Tag: Key Format Type (0x420042), Type: Enumeration (0x05), Data: 0x000001 (1) Raw\n  Tag: Key Value (0x420045), Type: Structure (0x01), Data:\n    Tag: Key Material (0x420043), Type: Structure (0x01), Data:\n      Tag: Key (0x42003F), Type: ByteString (0x08), Data: <redacted>\n      Tag: Recommended Curve (0x420075), Type: Enumeration (0x05), Data: 0x000004 (4) P-224\n    Tag: Attribute Index (0x420009), Type: Integer (0x02), Data: <redacted>\n  Tag: Credential Value (0x420025), Type: Structure (0x01), Data:\n    Tag: Username (0x420099), Type: TextString (0x07), Data: <redacted>\n    Tag: Password (0x4200A1), Type: TextString (0x07), Data: <redacted>\n  Tag: Unique Identifier (0x420094), Type: TextString (0x07), Data: id\n",
+        "Tag: Key Block (0x420040), Type: Structure (0x01), Data:\n  Tag: Key Format Type (0x420042), Type: Enumeration (0x05), Data: 0x000001 (1) Raw\n  Tag: Key Value (0x420045), Type: Structure (0x01), Data:\n    Tag: Key Material (0x420043), Type: Structure (0x01), Data:\n      Tag: Key (0x42003F), Type: ByteString (0x08), Data: <redacted>\n      Tag: Recommended Curve (0x420075), Type: Enumeration (0x05), Data: <redacted>\n    Tag: Attribute Index (0x420009), Type: Integer (0x02), Data: <redacted>\n  Tag: Credential Value (0x420025), Type: Structure (0x01), Data:\n    Tag: Username (0x420099), Type: TextString (0x07), Data: <redacted>\n    Tag: Password (0x4200A1), Type: TextString (0x07), Data: <redacted>\n  Tag: Unique Identifier (0x420094), Type: TextString (0x07), Data: id\n",
     ),
 ];
 

@@ -1,13 +1,13 @@
 //! What the command line asks for.
 
 use std::alloc::{AllocError, Global};
-use ttlv_run::{Asked, Encoding, Hiding, Look, Task, Values};
+use ttlv_run::{Asked, Encoding, Hiding, Look, Strict, Task, Values};
 use ttlv_words::request_of;
 
 // Arguments, what they ask for, the file of names, and how many files are read.
 type Row = (&'static str, Asked<'static>, Option<&'static str>, usize);
 
-const ASKED: [Row; 23] = [
+const ASKED: [Row; 25] = [
     ("ttlv from-json", Asked::FromJson { raw: false }, None, 0),
     (
         "ttlv from-json --raw a b",
@@ -29,8 +29,10 @@ const ASKED: [Row; 23] = [
     (
         "ttlv json --redact",
         Asked::Print {
-            task: Task::Json {
-                hiding: Hiding::Values,
+            task: Task::Whole {
+                strict: Strict::Json {
+                    hiding: Hiding::Values,
+                },
             },
             encoding: Encoding::Detected,
         },
@@ -40,8 +42,10 @@ const ASKED: [Row; 23] = [
     (
         "ttlv json --redact=keys",
         Asked::Print {
-            task: Task::Json {
-                hiding: Hiding::Secrets,
+            task: Task::Whole {
+                strict: Strict::Json {
+                    hiding: Hiding::Secrets,
+                },
             },
             encoding: Encoding::Detected,
         },
@@ -60,10 +64,12 @@ const ASKED: [Row; 23] = [
     (
         "ttlv show --redact --names own.txt a b",
         Asked::Print {
-            task: Task::Show {
-                look: Look {
-                    values: Values::Hidden,
-                    ..Look::PLAIN
+            task: Task::Whole {
+                strict: Strict::Show {
+                    look: Look {
+                        values: Values::Hidden,
+                        ..Look::PLAIN
+                    },
                 },
             },
             encoding: Encoding::Detected,
@@ -89,10 +95,12 @@ const ASKED: [Row; 23] = [
     (
         "ttlv show --raw --redact",
         Asked::Print {
-            task: Task::Show {
-                look: Look {
-                    values: Values::Hidden,
-                    ..Look::PLAIN
+            task: Task::Whole {
+                strict: Strict::Show {
+                    look: Look {
+                        values: Values::Hidden,
+                        ..Look::PLAIN
+                    },
                 },
             },
             encoding: Encoding::Detected,
@@ -214,6 +222,30 @@ const ASKED: [Row; 23] = [
         0,
     ),
     (
+        "ttlv check --input xxd",
+        Asked::Print {
+            task: Task::Check {
+                kmip: false,
+                empty: false,
+            },
+            encoding: Encoding::Dump,
+        },
+        None,
+        0,
+    ),
+    (
+        "ttlv check --input hexdump",
+        Asked::Print {
+            task: Task::Check {
+                kmip: false,
+                empty: false,
+            },
+            encoding: Encoding::Dump,
+        },
+        None,
+        0,
+    ),
+    (
         "ttlv check --input od",
         Asked::Print {
             task: Task::Check {
@@ -303,6 +335,7 @@ fn tables_of_secrets(rt: HostRuntime) {
             Some("own.txt"),
         ),
         ("ttlv json --secrets own.txt --redact=keys", Some("own.txt")),
+        ("ttlv show --redact=keys a", None),
         ("ttlv json --redact=keys a", None),
     ] {
         assert!(rt; has_secrets(rt.alloc(), line, secrets), "{line}");

@@ -1,27 +1,21 @@
 //! Prints and checks messages in TTLV: `ttlv show|diag|undiag|check|hex|json|from-json [FILE..]`.
 //!
 //! Here the words of the command line, the files and the streams of the process are handed to
-//! `ttlv_words` and `ttlv_run`, which do the rest over any reader and any writers.
+//! `ttlv_words`, which does the rest over any reader and any writers.
 #![tactic(auto)]
 
-use clap::Error;
 use either::Either;
-use kmip_ttlv_names::{
-    STANDARD_SECRETS, STANDARD_TAGS, own_names, standard_masks, standard_values, tag_named,
-};
-use kmip_ttlv_types::TtlvTag;
-use std::alloc::{AllocError, Global};
+use std::alloc::Global;
 use std::fs::File;
 use std::io::{ErrorKind, IsTerminal, Stderr, Stdin};
 use std::process::ExitCode;
 use std::rt::Env;
 use std::{env, fs, io};
-use ttlv_run::files::{Opener, run_asked, run_files};
+use ttlv_run::files::Opener;
 use ttlv_run::progress::Progress;
 use ttlv_run::run::report_words;
-use ttlv_run::table::own_table;
-use ttlv_run::{Asked, Look, Memory, Names, Task};
-use ttlv_words::{Color, Request, request_of};
+use ttlv_run::{Asked, Task};
+use ttlv_words::{Request, Terminal, report_usage, request_of, run_request};
 
 /// The status of usage, and of input that can't be read.
 const USAGE: u8 = 2;
@@ -118,149 +112,44 @@ impl Opener for Disk<'_> {
     }
 }
 
-// Does with standard input what is asked.
-fn run_stdin(
-    rt: &HostRuntime,
-    asked: Asked<'_>,
-    memory: Memory<Global, Global>,
-    names: &Names<'_>,
-) -> u8 {
-    let mut input = Progress::new(rt.stdin(), rt.stderr(), None, is_shown(rt, asked));
-    run_asked(
-        memory,
-        asked,
-        "standard input",
-        names,
-        &mut input,
-        &mut rt.stdout(),
-        &mut rt.stderr(),
-    )
+// The tables of the machine: files.
+#[derive(Drop)]
+struct Tables<'r> {
+    rt: &'r HostRuntime,
 }
 
-// Does with each input what is asked.
-fn do_all(
-    rt: &HostRuntime,
-    asked: Asked<'_>,
-    files: &[&str],
-    memory: Memory<Global, Global>,
-    names: &Names<'_>,
-) -> u8 {
-    if files.is_empty() {
-        return run_stdin(rt, asked, memory, names);
-    }
-    run_files(
-        memory,
-        asked,
-        names,
-        files,
-        &mut Disk {
-            rt,
-            shown: is_shown(rt, asked),
-        },
-        &mut rt.stdout(),
-        &mut rt.stderr(),
-    )
-}
+impl Opener for Tables<'_> {
+    type Input = File;
 
-// A table of tags, and after it that of a file, if one is named; or the status if that can't be read.
-fn table(rt: &HostRuntime, standard: &str, path: Option<&str>) -> Result<String, u8> {
-    let alloc = rt.alloc();
-    let Some(path) = path else {
-        let alone: Result<String, AllocError> = String::from_str(alloc, standard);
-        return match alone {
-            Ok(table) => Ok(table),
-            Err(_) => Err(no_memory(rt)),
-        };
-    };
-    let Some(mut file) = opened(rt, path) else {
-        report_words(&mut rt.stderr(), path, "it can't be opened");
-        return Err(USAGE);
-    };
-    own_table(alloc, standard, path, &mut file, &mut rt.stderr())
-}
+    // What a disk holds can't be said.
+    ghost opens = { λ _ _ _ _. Unit {0} };
 
-// Whether lines are coloured.
-fn is_colored(rt: &HostRuntime, color: Color) -> bool {
-    match color {
-        Color::Always => true,
-        Color::Never => false,
-        Color::Auto => {
-            let unwanted = match env::var(rt, "NO_COLOR") {
-                Ok(value) => !value.is_empty(),
-                Err(_) => false,
-            };
-            !unwanted && rt.stdout().is_terminal()
-        }
+    fn open(&mut self, name: &str) -> Option<File> {
+        opened(self.rt, name)
     }
 }
 
-// The tag of a name in a table, or of its digits; or the status where it is none.
-fn tag_of(rt: &HostRuntime, table: &str, name: &str) -> Result<TtlvTag, u8> {
-    match tag_named(table, name).or(TtlvTag::from_name(name)) {
-        Some(tag) => Ok(tag),
-        None => {
-            report_words(&mut rt.stderr(), name, "no tag has this name");
-            Err(USAGE)
-        }
-    }
-}
-
-// What is asked, with what only the table and the terminal decide.
-fn asked_of<'w>(rt: &HostRuntime, request: &Request<'w>, table: &str) -> Result<Asked<'w>, u8> {
-    let (look, encoding) = match request.asked {
-        Asked::Print {
-            task: Task::Show { look },
-            encoding,
-        } => (look, encoding),
-        asked => return Ok(asked),
-    };
-    let only = match request.tag {
-        Some(name) => Some(*tag_of(rt, table, name)?),
-        None => None,
-    };
-    let look = Look {
-        colored: is_colored(rt, request.color),
-        only,
-        ..look
-    };
-    let task = Task::Show { look };
-    Ok(Asked::Print { task, encoding })
-}
-
-// The names of tags and values, and the tags of secrets; none when out of memory.
-fn names_in<'t>(alloc: Global, tags: &'t str, secrets: &'t str) -> Option<Names<'t>> {
-    let own = own_names(alloc, tags).ok()?;
-    let secret = own_names(alloc, secrets).ok()?;
-    Some(Names {
-        tags: own.tags,
-        values: standard_values(alloc).ok()?,
-        masks: standard_masks(alloc).ok()?,
-        own: own.values,
-        secrets: secret.tags,
-    })
-}
-
+// Does what a request asks for.
 fn run_all(rt: &HostRuntime, request: &Request<'_>) -> u8 {
-    let tags = match table(rt, STANDARD_TAGS, request.names) {
-        Ok(tags) => tags,
-        Err(status) => return status,
+    let shown = is_shown(rt, request.asked);
+    let variable = env::var(rt, "NO_COLOR");
+    let terminal = Terminal {
+        is_one: rt.stdout().is_terminal(),
+        no_color: match &variable {
+            Ok(value) => Some(value.as_str()),
+            Err(_) => None,
+        },
     };
-    let secrets = match table(rt, STANDARD_SECRETS, request.secrets) {
-        Ok(secrets) => secrets,
-        Err(status) => return status,
-    };
-    let asked = match asked_of(rt, request, tags.as_str()) {
-        Ok(asked) => asked,
-        Err(status) => return status,
-    };
-    let memory = Memory {
-        input: rt.alloc(),
-        rest: rt.alloc(),
-    };
-    let Some(names) = names_in(rt.alloc(), tags.as_str(), secrets.as_str()) else {
-        return no_memory(rt);
-    };
-    do_all(rt, asked, request.files.as_slice(), memory, &names)
+    run_request(
+        rt.alloc(),
+        request,
+        terminal,
+        &mut Tables { rt },
+        &mut Disk { rt, shown },
+        &mut Progress::new(rt.stdin(), rt.stderr(), None, shown),
+        &mut rt.stdout(),
+        &mut rt.stderr(),
+    )
 }
 
 // What comes of words that can't be read.
@@ -272,18 +161,6 @@ fn unread(rt: &HostRuntime, error: &io::Error) -> u8 {
     USAGE
 }
 
-// Prints the help, the version or what is wrong with the words, and returns the exit status.
-fn report_usage(rt: &HostRuntime, error: &Error) -> u8 {
-    if error.kind() == clap::error::ErrorKind::OutOfMemory {
-        return no_memory(rt);
-    }
-    let printed = error.print(rt);
-    if printed.is_err() && !error.use_stderr() {
-        return FAILED;
-    }
-    error.exit_code() as u8
-}
-
 fn main(rt: HostRuntime) -> ExitCode {
     let words = match words(&rt) {
         Ok(words) => words,
@@ -291,6 +168,6 @@ fn main(rt: HostRuntime) -> ExitCode {
     };
     match request_of(rt.alloc(), words.as_slice()) {
         Ok(request) => ExitCode::from(run_all(&rt, &request)),
-        Err(error) => ExitCode::from(report_usage(&rt, &error)),
+        Err(error) => ExitCode::from(report_usage(&rt, &mut rt.stderr(), &error)),
     }
 }

@@ -17,7 +17,9 @@ pub mod Packets
 pub mod Parts
 pub mod Prefixes
 pub mod Printing
+pub mod Redacting
 pub mod Sequences
+pub mod Wholes
 pub mod TextStreams
 pub mod Decided
 pub mod Windows

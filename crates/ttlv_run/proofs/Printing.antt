@@ -9,7 +9,7 @@ use Rattle.kmip_ttlv_util.specs.Pieces.{SomeText, Moves}
 use Rattle.kmip_ttlv_util.proofs.Saying.{piece_ends}
 use Rattle.ttlv_run.specs.declared.job.{Task.Task, Task.TheVariants.Show, Task.TheVariants.Json, Look.Look}
 use Rattle.kmip_ttlv_json.specs.declared.print.Hiding.{Hiding}
-use Rattle.kmip_ttlv_json.specs.Printings.{secrets_of, hides_all, IsJson}
+use Rattle.kmip_ttlv_json.specs.Printings.{secrets_of, shown_of, IsJson}
 use Rattle.ttlv_run.specs.Texts.{Names, no_reach, lines_from, message_text, IsMessageText}
 use Rattle.ttlv_run.proofs.Completion.{reach_all, lines-append}
 
@@ -29,7 +29,7 @@ IsAlways names task at bytes t = (found : List FoundItem) (fault : Option Fault)
 
 -- what is printed of it as JSON
 pub json_lines_of : (names : Names) (at : ℕ) (bytes : List ℕ) (hiding : Hiding) (task : Task) → task ≡ Json hiding → (t : List ℕ) (fault : Option Fault)
-    → IsJson (secrets_of hiding names.secrets) (hides_all hiding) bytes t fault → IsMessageText names task at bytes t fault
+    → IsJson (secrets_of hiding names.secrets) (shown_of hiding) bytes t fault → IsMessageText names task at bytes t fault
 json_lines_of names at bytes hiding task is t fault h = record {
   found = h.found;
   ended = h.ended;
@@ -42,6 +42,13 @@ pub decided_any : {names : Names} {at : ℕ} {bytes t : List ℕ} {task : Task} 
 decided_any {bytes = bytes} plain is =
     let end : Ends bytes [] = ends bytes plain 0 [] [] (at_first refl refl refl) in
     (end.fault, record { found = end.more; ended = end.ended; is = sym (is end.more end.fault end.ended) })
+
+-- whatever it is, a task prints something of a message
+pub decided_some : (names : Names) (task : Task) (at : ℕ) (bytes : List ℕ) → ((k : ℕ) → get_or bytes k 0 < 256)
+    → (t : List ℕ) × Decided names task at bytes t
+decided_some names task at bytes plain =
+    let end : Ends bytes [] = ends bytes plain 0 [] [] (at_first refl refl refl) in
+    (message_text names task at bytes end.more end.fault end.ended, (end.fault, record { found = end.more; ended = end.ended; is = refl }))
 
 -- a sink failed in the lines of the items that were met, or behind them
 pub broken_lines : {X : Type 0} {names : Names} {at : ℕ} {bytes w : List ℕ} {look : Look} {q : ℕ} {es : List ℕ} {xs : List FoundItem}

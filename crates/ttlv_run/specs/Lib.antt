@@ -14,6 +14,7 @@ pub mod Masks
 pub mod Messages
 pub mod Misreadings
 pub mod Reasons
+pub mod Redactions
 pub mod Runs
 pub mod Streaming
 pub mod Tables

@@ -9,7 +9,7 @@ use Rattle.kmip_ttlv_items.specs.declared.found.FaultKind.{FaultKind}
 use Rattle.kmip_ttlv_items.specs.declared.found.FaultKind.TheVariants.{Cut, NoStructure, UnknownType, PartialHeader}
 use Rattle.kmip_ttlv_items.specs.declared.found.FaultKind.TheVariants.{WrongLength, Overlong, InvalidValue, Surplus}
 use Rattle.ttlv_run.specs.declared.job.Task.{Task}
-use Rattle.ttlv_run.specs.declared.job.Task.TheVariants.{Check}
+use Rattle.ttlv_run.specs.declared.job.Task.TheVariants.{Check, Whole as OfWhole}
 use Rattle.ttlv_run.specs.declared.messages.Place.{Place}
 use Rattle.ttlv_run.specs.declared.messages.Wrong.{Wrong}
 use Rattle.ttlv_run.specs.declared.messages.Wrong.TheVariants.{Malformed, NotKmip}
@@ -123,6 +123,11 @@ wrong_words NotKmip = codes "neither a Request Message nor a Response Message"
 abbrev pub tag_report : Names → Option ℕ → List ℕ
 tag_report names None = codes "no tag"
 tag_report names (Some tag) = tag_named (names.tags tag) tag
+
+-- what is told of a fault: of a task that prints whole messages alone no tag
+abbrev pub told : Task → Place → Place
+told (OfWhole strict) place = record { offset = place.offset; tag = None; wrong = place.wrong }
+told task place = place
 
 -- the line on standard error: what the input is called, the offset among its messages' bytes, the tag there and
 -- what is wrong

@@ -18,7 +18,7 @@ use Rattle.ttlv_run.specs.declared.back.BackFault.{BackFault}
 use Rattle.ttlv_run.specs.Backs.{FirstBreak, IsOneLine, AreLines, ReadsLines, back_line}
 use Rattle.ttlv_run.specs.Fronts.{front_size, DecodesTo, StandsUpTo}
 use Rattle.ttlv_run.specs.Inputs.{TakesAll, TakesSome, form_of, encoding_of, Stands, Misreads}
-use Rattle.ttlv_run.specs.Messages.{is_there, wants_message, Whole, Prints, Continues, Breaks as MessageBreaks, fault_line}
+use Rattle.ttlv_run.specs.Messages.{is_there, wants_message, Whole, Prints, Continues, Breaks as MessageBreaks, fault_line, told}
 use Rattle.ttlv_run.specs.Reasons.{status_of, error_line}
 use Rattle.ttlv_run.specs.Texts.{Names, text_back}
 
@@ -73,7 +73,7 @@ pub record Faults (names : Names) (job : Job) (s : Streams) (place : Place) : Ty
 pub record Breaks (names : Names) (job : Job) (s : Streams) (line : List ℕ) : Type 0 where
   pub place : Place
   pub faults : Faults names job s place
-  pub says : line ≡ fault_line names job.name.now place
+  pub says : line ≡ fault_line names job.name.now (told job.task place)
 
 -- a beginning of what is printed of the input was appended to the output, whatever follows the bytes that a front of it, or all
 -- of it, stands for

@@ -19,11 +19,13 @@ use Rattle.kmip_ttlv_names.specs.NameTables.{lines_of}
 use Rattle.kmip_ttlv_items.specs.declared.found.FoundItem.{FoundItem}
 use Rattle.kmip_ttlv_items.specs.declared.found.Fault.{Fault}
 use Rattle.kmip_ttlv_items.specs.ItemWalks.{Ended, content_at}
-use Rattle.kmip_ttlv_json.specs.Printings.{secrets_of, hides_all, has_line, json_text}
+use Rattle.kmip_ttlv_json.specs.Printings.{secrets_of, shown_of, has_line, json_text}
+use Rattle.ttlv_run.specs.declared.job.Strict.{Strict}
+use Rattle.ttlv_run.specs.declared.job.Strict.TheVariants.{Show as ShowWhole, Diagnose as DiagnoseWhole, Json as JsonWhole}
 use Rattle.ttlv_run.specs.declared.job.Task.{Task}
-use Rattle.ttlv_run.specs.declared.job.Task.TheVariants.{Show, Diagnose, Hexadecimal, Json, Check}
+use Rattle.ttlv_run.specs.declared.job.Task.TheVariants.{Show, Diagnose, Hexadecimal, Json, Whole, Check}
 use Rattle.ttlv_run.specs.declared.job.Values.{Values}
-use Rattle.ttlv_run.specs.declared.job.Values.TheVariants.{Hidden, Escaped}
+use Rattle.ttlv_run.specs.declared.job.Values.TheVariants.{Hidden, Secret, Escaped}
 use Rattle.ttlv_run.specs.declared.job.Look.{Look}
 use Rattle.ttlv_run.specs.declared.lines.Reach.{Reach}
 use Rattle.ttlv_run.specs.Dates.{date_shown}
@@ -64,10 +66,11 @@ bytes_shown (Some width) content =
     if nat_le (length content) width then value_shown ByteString content
     else value_shown ByteString (take width content) ++ count_shown (length content)
 
--- the value of a leaf, with the name that an enumeration's has, those of a mask's bits, and a date; where values are
--- hidden, of an enumeration alone; a text is escaped, if it isn't to be raw
+-- the value of a leaf, with the name that an enumeration's has, those of a mask's bits, and a date; nothing of a secret
+-- one; where values are hidden, of an enumeration alone; a text is escaped, if it isn't to be raw
 unfoldable pub shown : Names → Values → Option ℕ → ℕ → TtlvType → List ℕ → List ℕ
 shown names values width tag Structure content = []
+shown names Secret width tag typ content = hidden
 shown names values width tag Enumeration content =
     value_shown Enumeration content ++ behind_space (names.values tag (from_be_bytes w32 content))
 shown names Hidden width tag typ content = hidden
@@ -133,7 +136,7 @@ no_reach = record { secret = 0; asked = 0 }
 
 -- what is said of a value: nothing of one in a secret item, if those are hidden
 abbrev pub values_shown : Look → Reach → FoundItem → Values
-values_shown look r i = if look.secrets_hidden && nat_lt i.offset r.secret then Hidden else look.values
+values_shown look r i = if look.secrets_hidden && nat_lt i.offset r.secret then Secret else look.values
 
 -- an item is passed over: one tag is asked for, and it is in no item of that tag
 abbrev pub is_passed : Option ℕ → Reach → FoundItem → Bool
@@ -165,6 +168,14 @@ line_back tags prefix line = trimmed_back tags prefix (trim_end line)
 unfoldable pub text_back : (ℕ → Option (List ℕ)) → List ℕ → List ℕ → List ℕ
 text_back tags prefix text = flat_map (line_back tags prefix) (lines_of text)
 
+-- what is printed of a whole message alone
+abbrev pub whole_text : Names → Strict → ℕ → (bytes : List ℕ) → (found : List FoundItem) → Ended bytes found None → List ℕ
+whole_text names (ShowWhole look) at bytes found lists = lines_from names look at bytes no_reach found
+whole_text names (DiagnoseWhole closed prefix) at bytes found lists =
+    hostile prefix.now closed (length bytes) (trace closed bytes) ++ 10 ∷ []
+whole_text names (JsonWhole hiding) at bytes found lists =
+    json_text (secrets_of hiding names.secrets) (shown_of hiding) bytes found None lists
+
 -- what a task prints of a message that begins at an offset, in which these items were met by its end, or by the first
 -- fault
 abbrev pub message_text :
@@ -175,7 +186,9 @@ message_text names (Diagnose closed prefix) at bytes found fault ended =
     hostile prefix.now closed (length bytes) (trace closed bytes) ++ 10 ∷ []
 message_text names Hexadecimal at bytes found fault ended = encode_upper bytes ++ 10 ∷ []
 message_text names (Json hiding) at bytes found fault ended =
-    json_text (secrets_of hiding names.secrets) (hides_all hiding) bytes found fault ended
+    json_text (secrets_of hiding names.secrets) (shown_of hiding) bytes found fault ended
+message_text names (Whole strict) at bytes found None lists = whole_text names strict at bytes found lists
+message_text names (Whole strict) at bytes found (Some fault) ended = []
 message_text names (Check kmip empty) at bytes found fault ended = []
 
 -- this is the text of a message that begins at an offset: of the items that were met by its end, or by the first fault

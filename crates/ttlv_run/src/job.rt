@@ -8,11 +8,13 @@ use kmip_ttlv_names::ValueMap;
 use kmip_ttlv_util::LentTagMap;
 use std::alloc::{Allocator, Global};
 
-/// What a line says of the value of a leaf that is no enumeration; an enumeration's is always there.
+/// What a line says of the value of a leaf.
 #[derive(Clone, Copy, Debug, PartialEq, Eq)]
 pub enum Values {
-    /// Nothing: `<redacted>` stands there.
+    /// Nothing, but of an enumeration's: `<redacted>` stands there.
     Hidden,
+    /// Nothing: `<redacted>` stands there.
+    Secret,
     /// The value; control characters and backslashes of a text as Rust's `char::escape_debug` writes
     /// them, so that a text stays in its line and sends a terminal nothing.
     Escaped,
@@ -49,6 +51,17 @@ impl Look {
     };
 }
 
+/// What is printed of a whole message; of one with a fault nothing is.
+#[derive(Clone, Copy, Debug, PartialEq, Eq)]
+pub enum Strict<'w> {
+    /// A readable line of each item.
+    Show { look: Look },
+    /// Its diagnostic and a line feed, as [`Task::Diagnose`] does.
+    Diagnose { closed: bool, prefix: &'w str },
+    /// A line of JSON.
+    Json { hiding: Hiding },
+}
+
 /// What is printed of each message.
 #[derive(Clone, Copy, Debug, PartialEq, Eq)]
 pub enum Task<'w> {
@@ -61,6 +74,9 @@ pub enum Task<'w> {
     Hexadecimal,
     /// A line of JSON; nothing of a message with a fault.
     Json { hiding: Hiding },
+    /// That of whole messages alone: of a message with a fault nothing is printed, and the line on standard error doesn't
+    /// tell its tag.
+    Whole { strict: Strict<'w> },
     /// Nothing; with `kmip` a message is at fault too whose root is neither a Request Message nor a Response Message, and
     /// without `empty` an input that has no message.
     Check { kmip: bool, empty: bool },

@@ -1,10 +1,13 @@
 //! Laws of the definitions that the run's contract cites, each on a function without a body.
 
-ghost use Rattle.std.specs.Prelude.{◌≡◌, ◌<◌, ◌≤◌, ◌++◌, ℕ, List, [], Some, length};
+ghost use Rattle.std.specs.Prelude.{◌≡◌, ◌<◌, ◌≤◌, ◌++◌, ℕ, Bool, List, [], Option, Some, None, length};
+ghost use Rattle.kmip_ttlv_items.specs.declared.found.Fault.{Fault as AFault};
 ghost use Rattle.kmip_ttlv_items.specs.declared.found.FoundItem.{FoundItem as AnItem};
 ghost use Rattle.kmip_ttlv_items.specs.ItemWalks.{AreBytes, Meets};
 ghost use Rattle.ttlv_run.specs.declared.job.Task.{Task as ATask};
-ghost use Rattle.ttlv_run.specs.declared.job.Task.TheVariants.{Show as ToShow};
+ghost use Rattle.ttlv_run.specs.declared.job.Strict.{Strict as AStrict};
+ghost use Rattle.ttlv_run.specs.declared.job.Strict.TheVariants.{Show as ShowWhole};
+ghost use Rattle.ttlv_run.specs.declared.job.Task.TheVariants.{Show as ToShow, Whole as OfWhole};
 ghost use Rattle.ttlv_run.specs.declared.job.Look.{Look as TheLook};
 ghost use Rattle.ttlv_run.specs.declared.form.Form.TheVariants.{DumpText};
 ghost use Rattle.ttlv_run.specs.DumpLines.{ColonLine, BareLine, CountsColumn};
@@ -13,9 +16,10 @@ ghost use Rattle.ttlv_run.specs.declared.job.Job.{Job as AJob};
 ghost use Rattle.ttlv_run.specs.declared.messages.Place.{Place as APlace};
 ghost use Rattle.ttlv_run.specs.Fronts.{StandsFront};
 ghost use Rattle.ttlv_run.specs.Inputs.{Stands};
-ghost use Rattle.ttlv_run.specs.Messages.{Whole, message_at, Continues};
+ghost use Rattle.ttlv_run.specs.Messages.{Whole, message_at, Continues, told};
+ghost use Rattle.ttlv_run.specs.Redactions.{redacted, outline};
 ghost use Rattle.ttlv_run.specs.Runs.{Streams as TheStreams, HasText, Faults, Unwritten};
-ghost use Rattle.ttlv_run.specs.Texts.{Names as TheNames, lines_from, no_reach};
+ghost use Rattle.ttlv_run.specs.Texts.{Names as TheNames, lines_from, no_reach, IsMessageText};
 
 /// What is printed of an input exists, whatever its bytes are; and it goes on behind what is printed of
 /// whole messages in front, and behind the lines of the items that were met of the next one.
@@ -47,4 +51,18 @@ pub fn a_front_stands_for_a_front()
         → Stands job.encoding f.input all → HasText names job f.input f.text (Some place) }
     ensures beginning { (names : TheNames) (job : AJob) (s : TheStreams) (all : List ℕ) (u : Unwritten names job s)
         → AreBytes all → Stands job.encoding u.input all → Continues names job.task all u.text }
+{}
+
+/// What is printed of a message by a task that prints whole messages alone. With hidden values the readable lines of two whole
+/// messages with the same outline are the same: the depths, tags and types of their items, and the values of enumerations. Of a
+/// message with a fault nothing is printed, and of faults of one kind at one offset the same is told.
+pub fn a_redacted_text_has_one_outline()
+    ensures lines { (names : TheNames) (width : Option ℕ) (colored : Bool) (at other : ℕ) (a b t u : List ℕ)
+        (p : IsMessageText names (OfWhole (ShowWhole (redacted width colored))) at a t None)
+        (q : IsMessageText names (OfWhole (ShowWhole (redacted width colored))) other b u None)
+        → outline a p.found ≡ outline b q.found → t ≡ u }
+    ensures nothing { (names : TheNames) (strict : AStrict) (at : ℕ) (bytes t : List ℕ) (fault : AFault)
+        → IsMessageText names (OfWhole strict) at bytes t (Some fault) → t ≡ [] }
+    ensures fault { (strict other : AStrict) (p q : APlace) → p.offset ≡ q.offset → p.wrong ≡ q.wrong
+        → told (OfWhole strict) p ≡ told (OfWhole other) q }
 {}

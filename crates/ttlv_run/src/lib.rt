@@ -37,6 +37,6 @@ mod texts;
 mod values;
 mod window;
 
-pub use job::{Asked, BackJob, Encoding, Job, JsonJob, Look, Names, Task, Values};
+pub use job::{Asked, BackJob, Encoding, Job, JsonJob, Look, Names, Strict, Task, Values};
 pub use kmip_ttlv_json::Hiding;
 pub use memory::Memory;

@@ -152,7 +152,7 @@ fn values_shown(look: &Look, reach: Reach, item: &FoundItem) -> Values
     ensures { result ≡ values_shown look.now reach item.now }
 {
     if look.secrets_hidden && (item.offset as u128) < reach.secret {
-        Values::Hidden
+        Values::Secret
     } else {
         look.values
     }

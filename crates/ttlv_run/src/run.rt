@@ -10,6 +10,7 @@ ghost use Rattle.ttlv_run.specs.Reasons.{IsOfPrinting, Reports, place_report, er
 ghost use Rattle.ttlv_run.specs.Fronts.{front_size, Begins, BeginFails};
 ghost use Rattle.ttlv_run.specs.Inputs.{IsUnread, form_of, encoding_of};
 ghost use Rattle.ttlv_run.specs.Streaming.{buffered, EndsAt, PrintsOn, ContinuesBehind};
+ghost use Rattle.ttlv_run.specs.Messages.{told};
 ghost use Rattle.ttlv_run.specs.Runs.{behind_all, Places, Responds, Printed, Malformed, Lacking, Aborted, RunEnds, RespondsBack, PrintedBack, MalformedBack, AbortedBack, BackEnds};
 ghost use Rattle.ttlv_run.specs.Texts.{names_of};
 
@@ -163,6 +164,16 @@ fn print_input<A: Allocator + Copy, B: Allocator + Copy, R: Read, W: Write>(
     }
 }
 
+// What is told of a fault: of a task that prints whole messages alone no tag.
+fn told(task: Task<'_>, place: Place) -> Place
+    ensures { result ≡ told task.entry place }
+{
+    match task {
+        Task::Whole { .. } => Place { tag: None, ..place },
+        _ => place,
+    }
+}
+
 // Prints what a job asks for, and gives the line that says what is malformed, if anything is.
 fn respond<A: Allocator + Copy, B: Allocator + Copy, R: Read, W: Write>(
     memory: Memory<A, B>,
@@ -181,7 +192,10 @@ fn respond<A: Allocator + Copy, B: Allocator + Copy, R: Read, W: Write>(
 {
     match print_input(memory, job, names, input, output)? {
         None => Ok(None),
-        Some(place) => Ok(Some(fault_line(memory.rest, names, job.name, place)?)),
+        Some(place) => {
+            let told = told(job.task, place);
+            Ok(Some(fault_line(memory.rest, names, job.name, told)?))
+        }
     }
 }
 

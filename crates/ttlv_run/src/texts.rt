@@ -1,14 +1,16 @@
 //! What is printed of one message.
 
-ghost use Rattle.std.specs.Prelude.{◌≡◌, ◌<◌, ◌+◌, ◌^◌, ◌++◌, ◌∷◌, [], length, Option, IfOk, OnOk, OnErr};
+ghost use Rattle.std.specs.Prelude.{◌≡◌, ◌<◌, ◌+◌, ◌^◌, ◌++◌, ◌∷◌, [], length, Option, None, IfOk, OnOk, OnErr};
 ghost use Rattle.hex.specs.Hex.{encode_upper};
 ghost use Rattle.kmip_ttlv_items.specs.declared.found.Fault.{Fault as AFault};
+ghost use Rattle.kmip_ttlv_items.specs.ItemWalks.{Judges};
 ghost use Rattle.kmip_ttlv_util.specs.Diagnostics.{hostile};
 ghost use Rattle.kmip_ttlv_util.specs.Pieces.{SomeText};
 ghost use Rattle.kmip_ttlv_util.specs.Traces.{trace};
+ghost use Rattle.ttlv_run.specs.declared.job.Task.TheVariants.{Whole as OfWhole};
 ghost use Rattle.ttlv_run.specs.Texts.{names_of, IsMessageText};
 
-use crate::job::{Names, Task};
+use crate::job::{Names, Strict, Task};
 use crate::lines::push_lines;
 use kmip_ttlv_items::{Fault, find_fault};
 use kmip_ttlv_json::push_json;
@@ -42,6 +44,57 @@ fn push_hexadecimal<S: TextSink>(out: &mut S, message: &[u8]) -> Result<(), S::E
     out.push_str("\n")
 }
 
+// Adds what is printed of a message that has no fault, and gives the end of the walk over it.
+fn push_judged<S: TextSink, A: Allocator + Copy>(
+    alloc: A,
+    out: &mut S,
+    names: &Names<'_, A>,
+    strict: Strict<'_>,
+    at: usize,
+    message: &[u8],
+) -> Result<Option<Fault>, S::Error>
+    requires within { at + length message.now < 2 ^ 64 }
+    requires judged { Judges message.now None }
+    ensures ok { IfOk result (λ fault. SomeText
+        (λ t. IsMessageText (names_of names.now) (OfWhole strict.entry) at message.now t fault)
+        (λ t. S.adds out.old t out.new)) }
+    ensures err { OnErr result (SomeText
+        (λ t. (fault : Option AFault) × IsMessageText (names_of names.now) (OfWhole strict.entry) at message.now t fault)
+        (λ t. S.breaks out.old t out.new)) }
+{
+    match strict {
+        Strict::Show { look } => push_lines(alloc, out, names, look, at, message),
+        Strict::Json { hiding } => push_json(alloc, out, hiding, &names.secrets, message),
+        Strict::Diagnose { closed, prefix } => {
+            push_diagnostic(alloc, out, closed, prefix, message)?;
+            Ok(None)
+        }
+    }
+}
+
+// Adds what is printed of a whole message, and gives the first fault of one that isn't; of that it adds nothing.
+fn push_whole<S: TextSink, A: Allocator + Copy>(
+    alloc: A,
+    out: &mut S,
+    names: &Names<'_, A>,
+    strict: Strict<'_>,
+    at: usize,
+    message: &[u8],
+) -> Result<Option<Fault>, S::Error>
+    requires { at + length message.now < 2 ^ 64 }
+    ensures ok { IfOk result (λ fault. SomeText
+        (λ t. IsMessageText (names_of names.now) (OfWhole strict.entry) at message.now t fault)
+        (λ t. S.adds out.old t out.new)) }
+    ensures err { OnErr result (SomeText
+        (λ t. (fault : Option AFault) × IsMessageText (names_of names.now) (OfWhole strict.entry) at message.now t fault)
+        (λ t. S.breaks out.old t out.new)) }
+{
+    if let Some(fault) = find_fault(alloc, message)? {
+        return Ok(Some(fault));
+    }
+    push_judged(alloc, out, names, strict, at, message)
+}
+
 /// Adds what a task prints of a message, which begins at an offset among the bytes of all, and gives its first fault; its
 /// lines come up to there, and its JSON doesn't come.
 ///
@@ -65,6 +118,7 @@ pub fn push_message<S: TextSink, A: Allocator + Copy>(
     match task {
         Task::Show { look } => return push_lines(alloc, out, names, look, at, message),
         Task::Json { hiding } => return push_json(alloc, out, hiding, &names.secrets, message),
+        Task::Whole { strict } => return push_whole(alloc, out, names, strict, at, message),
         Task::Diagnose { closed, prefix } => push_diagnostic(alloc, out, closed, prefix, message)?,
         Task::Hexadecimal => push_hexadecimal(out, message)?,
         Task::Check { .. } => {}

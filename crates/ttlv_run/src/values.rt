@@ -177,6 +177,7 @@ pub fn push_shown<S: TextSink, A: Allocator>(
 {
     match item.typ {
         TtlvType::Structure => Ok(()),
+        _ if values == Values::Secret => out.push_str("<redacted>"),
         TtlvType::Enumeration => push_enumeration(out, names, item.tag, content),
         _ if values == Values::Hidden => out.push_str("<redacted>"),
         TtlvType::TextString if values == Values::Escaped => push_escaped(out, content),

@@ -47,6 +47,7 @@ enum Part {
     Color,
     Redact,
     Secrets,
+    Strict,
     Raw,
     Bytes,
     Closed,
@@ -63,6 +64,7 @@ const COMMANDS: [(&str, &str, &[Part]); 7] = [
         &[
             Part::Redact,
             Part::Secrets,
+            Part::Strict,
             Part::Raw,
             Part::Offsets,
             Part::Width,
@@ -80,6 +82,7 @@ const COMMANDS: [(&str, &str, &[Part]); 7] = [
             Part::Prefix,
             Part::Closed,
             Part::Unclosed,
+            Part::Strict,
             Part::Input,
             Part::Files,
         ],
@@ -102,7 +105,13 @@ const COMMANDS: [(&str, &str, &[Part]); 7] = [
     (
         "json",
         "Prints each message as JSON, a line each",
-        &[Part::Redact, Part::Secrets, Part::Input, Part::Files],
+        &[
+            Part::Redact,
+            Part::Secrets,
+            Part::Strict,
+            Part::Input,
+            Part::Files,
+        ],
     ),
     (
         "from-json",
@@ -197,6 +206,13 @@ fn secrets<'w>(alloc: Global) -> Arg<'w> {
         )
 }
 
+fn strict<'w>(alloc: Global) -> Arg<'w> {
+    Arg::new(alloc, "strict")
+        .long("strict")
+        .action(ArgAction::SetTrue)
+        .help("Prints nothing of a malformed message, and no tag at its error; so does --redact")
+}
+
 fn raw<'w>(alloc: Global) -> Arg<'w> {
     Arg::new(alloc, "raw")
         .long("raw")
@@ -251,6 +267,7 @@ fn arg<'w>(alloc: Global, part: Part) -> Arg<'w> {
         Part::Color => color(alloc),
         Part::Redact => redact(alloc),
         Part::Secrets => secrets(alloc),
+        Part::Strict => strict(alloc),
         Part::Raw => raw(alloc),
         Part::Bytes => bytes(alloc),
         Part::Closed => closed(alloc),

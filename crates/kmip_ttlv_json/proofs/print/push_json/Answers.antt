@@ -1,5 +1,5 @@
 use Rattle.std.proofs.Common.{◌<◌, ℕ, [], get_or, arith}
-use Rattle.kmip_ttlv_json.specs.Printings.{secrets_of, hides_all, has_line}
+use Rattle.kmip_ttlv_json.specs.Printings.{secrets_of, shown_of, has_line}
 use Rattle.kmip_ttlv_json.proofs.Found.{some_json, err_json}
 use Rattle.kmip_ttlv_json.proofs.print.push_json.Goals as goal
 
@@ -7,6 +7,6 @@ use Rattle.kmip_ttlv_json.proofs.print.push_json.Goals as goal
 pub returns-in_err-fault-clause-err : goal.returns-in_err-fault-clause-err
 returns-in_err-fault-clause-err g c =
     let plain : (k : ℕ) → get_or c.args.message.now k 0 < 256 = λ k. omega (arith, c.type_inv.message k) in
-    let json = some_json (secrets_of c.args.hiding (has_line c.args.secrets.now)) (hides_all c.args.hiding) c.args.message.now plain in
+    let json = some_json (secrets_of c.args.hiding (has_line c.args.secrets.now)) (shown_of c.args.hiding) c.args.message.now plain in
     err_json _ g.S.TextSink.breaks json.2
     (g.met.S.TextSink.breaks_first _ _ [] json.0 (g.met.S.TextSink.breaks_after _ _ [] (g.met.S.TextSink.adds_none c.args.out.now)))

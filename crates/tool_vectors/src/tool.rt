@@ -1,0 +1,358 @@
+//! The tool from its words to what it prints: each option, on messages that hold keys.
+
+use crate::runs::Outcome;
+use std::alloc::{AllocError, Global};
+use std::io;
+use std::io::Read;
+use ttlv_run::files::Opener;
+use ttlv_words::{Request, Terminal, report_usage, request_of, run_request};
+
+// A key block, with an enumeration in its key.
+const KEY: &str =
+    "420040010000005042004205000000040000000100000000420045010000002842004301000000204200\
+3F08000000080909090909090909420075050000000400000004000000004200\
+2A02000000040000008000000000";
+
+// A message with an own secret, a mask and a byte string.
+const OWN: &str =
+    "540003010000003054000208000000030A0B0C000000000042002C02000000040000000400000000540004\
+08000000080001020304050607";
+
+// Key Material whose length is 0, with the bytes of the key behind it: no header.
+const LEAK: &str = "420040010000001042004301000000003031323334353637";
+
+// A file or a table in memory.
+#[derive(Drop)]
+struct Held {
+    bytes: &'static [u8],
+}
+
+impl Read for Held {
+    fn read(&mut self, buf: &mut [u8]) -> io::Result<usize> {
+        self.bytes.read(buf)
+    }
+}
+
+// Those by name; any other name can't be opened.
+#[derive(Drop)]
+struct Folder;
+
+impl Opener for Folder {
+    type Input = Held;
+
+    ghost opens = { λ _ _ _ _. Unit {0} };
+
+    fn open(&mut self, name: &str) -> Option<Held> {
+        let bytes = match name {
+            "key" => KEY.as_bytes(),
+            "own" => OWN.as_bytes(),
+            "leak" => LEAK.as_bytes(),
+            "own.txt" => b"# Ours.\n540002 Own Secret\n".as_slice(),
+            "values.txt" => b"540002 Own Secret\n540002:00000001 A Value\n".as_slice(),
+            _ => return None,
+        };
+        Some(Held { bytes })
+    }
+}
+
+const PLAIN: Terminal<'static> = Terminal {
+    is_one: false,
+    no_color: None,
+};
+
+const COLORED: Terminal<'static> = Terminal {
+    is_one: true,
+    no_color: None,
+};
+
+// Words, where the output goes, the status, what is printed and the lines of errors.
+type Row = (
+    &'static str,
+    Terminal<'static>,
+    u8,
+    &'static str,
+    &'static str,
+);
+
+const SHOWN_KEY: &str =
+    "Tag: Key Block (0x420040), Type: Structure (0x01), Data:\n  Tag: Key Format Type (0x420042), Type: Enumeration (0x05), Data: 0x000001 (1) Raw\n  Tag: Key Value (0x420045), Type: Structure (0x01), Data:\n    Tag: Key Material (0x420043), Type: Structure (0x01), Data:\n      Tag: Key (0x42003F), Type: ByteString (0x08), Data: <redacted>\n      Tag: Recommended Curve (0x420075), Type: Enumeration (0x05), Data: <redacted>\n  Tag: Cryptographic Length (0x42002A), Type: Integer (0x02), Data: 0x000080 (128)\n";
+
+const REDACTED_KEY: &str =
+    "Tag: Key Block (0x420040), Type: Structure (0x01), Data:\n  Tag: Key Format Type (0x420042), Type: Enumeration (0x05), Data: 0x000001 (1) Raw\n  Tag: Key Value (0x420045), Type: Structure (0x01), Data:\n    Tag: Key Material (0x420043), Type: Structure (0x01), Data:\n      Tag: Key (0x42003F), Type: ByteString (0x08), Data: <redacted>\n      Tag: Recommended Curve (0x420075), Type: Enumeration (0x05), Data: 0x000004 (4) P-224\n  Tag: Cryptographic Length (0x42002A), Type: Integer (0x02), Data: <redacted>\n";
+
+const JSON_KEY: &str =
+    "{\"tag\":\"0x420040\",\"type\":\"Structure\",\"value\":[{\"tag\":\"0x420042\",\"type\":\"Enumeration\",\"value\":\"0x00000001\"},{\"tag\":\"0x420045\",\"type\":\"Structure\",\"value\":[{\"tag\":\"0x420043\",\"type\":\"Structure\",\"value\":[{\"tag\":\"0x42003F\",\"type\":\"ByteString\",\"value\":null},{\"tag\":\"0x420075\",\"type\":\"Enumeration\",\"value\":null}]}]},{\"tag\":\"0x42002A\",\"type\":\"Integer\",\"value\":\"0x00000080\"}]}\n";
+
+const SHOWN_OWN: &str =
+    "Tag: 0x540003, Type: Structure (0x01), Data:\n  Tag: 0x540002, Type: ByteString (0x08), Data: <redacted>\n  Tag: Cryptographic Usage Mask (0x42002C), Type: Integer (0x02), Data: 0x000004 (4) Encrypt\n  Tag: 0x540004, Type: ByteString (0x08), Data: 0001020304050607\n";
+
+const NARROW_OWN: &str =
+    "0\tTag: 0x540003, Type: Structure (0x01), Data:\n8\t  Tag: Own Secret (0x540002), Type: ByteString (0x08), Data: 0A0B.. (3 bytes)\n24\t  Tag: Cryptographic Usage Mask (0x42002C), Type: Integer (0x02), Data: 0x000004 (4) Encrypt\n40\t  Tag: 0x540004, Type: ByteString (0x08), Data: 0001.. (8 bytes)\n";
+
+const ONE: &str = "  Tag: 0x540002, Type: ByteString (0x08), Data: 0A0B0C\n";
+
+const COLORED_ONE: &str =
+    "\u{1b}[36m  Tag: 0x540002\u{1b}[0m, Type: ByteString (0x08), Data: \u{1b}[32m0A0B0C\u{1b}[0m\n";
+
+const LEAK_LINES: &str =
+    "Tag: Key Block (0x420040), Type: Structure (0x01), Data:\n  Tag: Key Material (0x420043), Type: Structure (0x01), Data:\n";
+
+const ROWS: [Row; 30] = [
+    ("show --redact=keys key", PLAIN, 0, SHOWN_KEY, ""),
+    ("show --raw --redact=keys key", PLAIN, 0, SHOWN_KEY, ""),
+    ("show --redact key", PLAIN, 0, REDACTED_KEY, ""),
+    ("show --redact=all --raw key", PLAIN, 0, REDACTED_KEY, ""),
+    ("json --redact=keys key", PLAIN, 0, JSON_KEY, ""),
+    (
+        "show --redact=keys --secrets own.txt own",
+        PLAIN,
+        0,
+        SHOWN_OWN,
+        "",
+    ),
+    // A table of secrets names tags alone, and is read as a whole.
+    (
+        "show --redact=keys --secrets values.txt own",
+        PLAIN,
+        2,
+        "",
+        "values.txt: a table of secrets names tags alone, as `540001 Own Secret`\n",
+    ),
+    (
+        "show --redact=keys --secrets none.txt own",
+        PLAIN,
+        2,
+        "",
+        "none.txt: it can't be opened\n",
+    ),
+    (
+        "show --names none.txt own",
+        PLAIN,
+        2,
+        "",
+        "none.txt: it can't be opened\n",
+    ),
+    (
+        "show --names own.txt -o --width 2 own",
+        PLAIN,
+        0,
+        NARROW_OWN,
+        "",
+    ),
+    (
+        "show --names own.txt --offsets --width=2 own",
+        PLAIN,
+        0,
+        NARROW_OWN,
+        "",
+    ),
+    ("show --tag 540002 own", PLAIN, 0, ONE, ""),
+    ("show --tag 0x540002 --color auto own", PLAIN, 0, ONE, ""),
+    (
+        "show --tag nothing own",
+        PLAIN,
+        2,
+        "",
+        "nothing: no tag has this name\n",
+    ),
+    (
+        "show --tag 540002 --color always own",
+        PLAIN,
+        0,
+        COLORED_ONE,
+        "",
+    ),
+    ("show --tag 540002 own", COLORED, 0, COLORED_ONE, ""),
+    ("show --tag 540002 --color never own", COLORED, 0, ONE, ""),
+    (
+        "show --tag 540002 own",
+        Terminal {
+            is_one: true,
+            no_color: Some(""),
+        },
+        0,
+        COLORED_ONE,
+        "",
+    ),
+    (
+        "show --tag 540002 own",
+        Terminal {
+            is_one: true,
+            no_color: Some("1"),
+        },
+        0,
+        ONE,
+        "",
+    ),
+    // What is printed of bytes where an item is due: of a message that is to be redacted nothing, and no tag.
+    (
+        "show leak",
+        PLAIN,
+        1,
+        LEAK_LINES,
+        "leak: byte 16: 0x303132: unknown type\n",
+    ),
+    (
+        "show --strict leak",
+        PLAIN,
+        1,
+        "",
+        "leak: byte 16: no tag: unknown type\n",
+    ),
+    (
+        "show --redact leak",
+        PLAIN,
+        1,
+        "",
+        "leak: byte 16: no tag: unknown type\n",
+    ),
+    (
+        "show --redact=keys leak",
+        PLAIN,
+        1,
+        "",
+        "leak: byte 16: no tag: unknown type\n",
+    ),
+    (
+        "json leak",
+        PLAIN,
+        1,
+        "",
+        "leak: byte 16: 0x303132: unknown type\n",
+    ),
+    (
+        "json --strict leak",
+        PLAIN,
+        1,
+        "",
+        "leak: byte 16: no tag: unknown type\n",
+    ),
+    (
+        "json --redact leak",
+        PLAIN,
+        1,
+        "",
+        "leak: byte 16: no tag: unknown type\n",
+    ),
+    (
+        "json --redact=keys leak",
+        PLAIN,
+        1,
+        "",
+        "leak: byte 16: no tag: unknown type\n",
+    ),
+    (
+        "diag --strict leak",
+        PLAIN,
+        1,
+        "",
+        "leak: byte 16: no tag: unknown type\n",
+    ),
+    (
+        "diag --strict key",
+        PLAIN,
+        0,
+        "420040[420042e1:420045[420043[42003Fo420075e4:]]42002Ai]\n",
+        "",
+    ),
+    ("show --strict --tag 540002 own", PLAIN, 0, ONE, ""),
+];
+
+fn words_of(alloc: Global, line: &str) -> Result<Vec<String>, AllocError> {
+    let mut words = Vec::new(alloc);
+    words.push(String::from_str(alloc, "ttlv")?)?;
+    for word in line.split_whitespace() {
+        words.push(String::from_str(alloc, word)?)?;
+    }
+    Ok(words)
+}
+
+// What a request comes to, with this standard input.
+fn ran(alloc: Global, request: &Request<'_>, terminal: Terminal<'_>, mut stdin: &[u8]) -> Outcome {
+    let mut output = Vec::new(alloc);
+    let mut errors = Vec::new(alloc);
+    let status = run_request(
+        alloc,
+        request,
+        terminal,
+        &mut Folder,
+        &mut Folder,
+        &mut stdin,
+        &mut output,
+        &mut errors,
+    );
+    Outcome {
+        status,
+        output,
+        errors,
+    }
+}
+
+fn prints(alloc: Global, row: Row) -> bool {
+    let (line, terminal, status, output, errors) = row;
+    let Ok(words) = words_of(alloc, line) else {
+        return false;
+    };
+    match request_of(alloc, words.as_slice()) {
+        Ok(request) => ran(alloc, &request, terminal, b"").is(status, output, errors),
+        Err(_) => false,
+    }
+}
+
+#[test]
+fn words_to_lines(rt: HostRuntime) {
+    for row in ROWS {
+        let (line, _, _, _, _) = row;
+        assert!(rt; prints(rt.alloc(), row), "{line}");
+    }
+}
+
+// A message of so many structures, one in the other.
+fn nested(alloc: Global, depth: u32) -> Result<Vec<u8>, AllocError> {
+    let mut bytes = Vec::new(alloc);
+    for above in 0..depth {
+        let below = depth - above - 1;
+        bytes.extend_from_slice(&[0x42, 0x00, 0x69, 0x01])?;
+        bytes.extend_from_slice(&below.wrapping_mul(8).to_be_bytes())?;
+    }
+    Ok(bytes)
+}
+
+// A message of 131,072 open structures is valid.
+#[test]
+fn open_structures(rt: HostRuntime) -> Result<(), AllocError> {
+    let input = nested(rt.alloc(), 131_072)?;
+    let words = words_of(rt.alloc(), "check")?;
+    let Ok(request) = request_of(rt.alloc(), words.as_slice()) else {
+        return Err(AllocError);
+    };
+    let outcome = ran(rt.alloc(), &request, PLAIN, input.as_slice());
+    assert!(rt; outcome.is(0, "", ""));
+    Ok(())
+}
+
+// Words that ask for no run: the status, and what the line has.
+const USAGES: [(&str, u8); 5] = [
+    ("show --secrets own.txt own", 2),
+    ("json --redact --secrets own.txt own", 2),
+    ("json --redact=all --secrets own.txt own", 2),
+    ("shout", 2),
+    ("show --help", 0),
+];
+
+fn ends(rt: &HostRuntime, line: &str, status: u8) -> bool {
+    let Ok(words) = words_of(rt.alloc(), line) else {
+        return false;
+    };
+    match request_of(rt.alloc(), words.as_slice()) {
+        Ok(_) => false,
+        Err(error) => report_usage(rt, &mut rt.stderr(), &error) == status,
+    }
+}
+
+#[test]
+fn usages(rt: HostRuntime) {
+    for (line, status) in USAGES {
+        assert!(rt; ends(&rt, line, status), "{line}");
+    }
+}

@@ -1,0 +1,52 @@
+-- Redacted lines are those of an outline.
+use Rattle.std.proofs.Common.{◌≡◌, ◌∙◌, ℕ, Bool, List, [], ◌∷◌, ◌++◌, drop, get_or, map, Option, None, ap, ap₂, refl, sym}
+use Rattle.std.specs.Prelude.{codes}
+use Rattle.kmip_ttlv_types.specs.declared.typ.TtlvType.{TtlvType}
+use Rattle.kmip_ttlv_types.specs.declared.typ.TtlvType.TheVariants.{Structure, Enumeration}
+use Rattle.kmip_ttlv_util.specs.Lines.{bounded_part, data_part}
+use Rattle.kmip_ttlv_items.specs.{declared.found.FoundItem.FoundItem, ItemWalks.content_at}
+use Rattle.ttlv_run.specs.declared.{job.Values.TheVariants.Hidden, lines.Reach.Reach}
+use Rattle.ttlv_run.specs.Redactions.{redacted, seen_value, seen, outline}
+use Rattle.ttlv_run.specs.Texts.{Names, painted, painted_value, shown, tag_part, value_part, item_line, item_text, reach_after, lines_from}
+
+module _ (names : Names) (width : Option ℕ) (colored : Bool) where
+  -- a line, of what is seen and the content
+  abbrev line : ℕ → ℕ → TtlvType → List ℕ → List ℕ
+  line depth tag typ content = painted colored (27 ∷ codes "[36m") (bounded_part names.tags depth tag)
+      ++ (data_part typ ++ (painted_value colored typ (shown names Hidden width tag typ content) ++ 10 ∷ []))
+
+  line_is : (r : Reach) (at : ℕ) (bytes : List ℕ) (i : FoundItem) → item_text names (redacted width colored) r at bytes i
+      ≡ line i.depth i.tag i.typ (content_at bytes i.offset)
+  unfolding item_text item_line tag_part value_part
+  line_is r at bytes i = refl
+
+  -- of the content only an enumeration's counts
+  content_free : (depth tag : ℕ) (typ : TtlvType) (v w : List ℕ) → seen_value typ v ≡ seen_value typ w → line depth tag typ v ≡ line depth tag typ w
+  unfolding shown
+  content_free depth tag Structure v w e = refl
+  content_free depth tag Enumeration v w e = ap (line depth tag Enumeration) e
+  content_free depth tag typ v w e = refl
+
+  line_same : (d c t u : ℕ) (k l : TtlvType) (v w : List ℕ) → d ≡ c → t ≡ u → k ≡ l → seen_value k v ≡ seen_value l w → line d t k v ≡ line c u l w
+  line_same d c t u k l v w p q o e =
+      let value : seen_value l v ≡ seen_value l w = sym (ap (λ (x : TtlvType). seen_value x v) o) ∙ e in
+      rw (p, q, o) (content_free c u l v w value)
+
+  item_same : (r s : Reach) (at other : ℕ) (a b : List ℕ) (i j : FoundItem) → seen a i ≡ seen b j
+      → item_text names (redacted width colored) r at a i ≡ item_text names (redacted width colored) s other b j
+  item_same r s at other a b i j e =
+      line_is r at a i
+      ∙ line_same i.depth j.depth i.tag j.tag i.typ j.typ (content_at a i.offset) (content_at b j.offset) (ap (λ x. x.depth) e) (ap (λ x. x.tag) e)
+      (ap (λ x. x.typ) e) (ap (λ x. x.value) e)
+      ∙ sym (line_is s other b j)
+
+  pub lines_same : (r s : Reach) (at other : ℕ) (a b : List ℕ) (xs ys : List FoundItem) → outline a xs ≡ outline b ys
+      → lines_from names (redacted width colored) at a r xs ≡ lines_from names (redacted width colored) other b s ys
+  lines_same r s at other a b [] [] e = refl
+  lines_same r s at other a b [] (y ∷ ys) e = absurd (cc)
+  lines_same r s at other a b (x ∷ xs) [] e = absurd (cc)
+  lines_same r s at other a b (x ∷ xs) (y ∷ ys) e =
+      let look = redacted width colored in
+      ap₂ (λ (v w : List ℕ). v ++ w)
+      (item_same (reach_after names look r x) (reach_after names look s y) at other a b x y (ap (λ l. get_or l 0 (seen a x)) e))
+      (lines_same (reach_after names look r x) (reach_after names look s y) at other a b xs ys (ap (λ l. drop 1 l) e))

@@ -1,0 +1,33 @@
+-- What is done with inputs, by names and in a way that are known in other words.
+use Rattle.std.specs.Borrow.{Bor}
+use Rattle.std.proofs.Common.{◌≡◌, ◌∙◌, ℕ, List, Option, ap, subst}
+use Rattle.kmip_ttlv_json.specs.Printings.{is_there}
+use Rattle.ttlv_run.specs.declared.job.Asked.{Asked}
+use Rattle.ttlv_run.specs.Files.{At, Opening}
+use Rattle.ttlv_run.specs.Masks.{value_named, mask_names}
+use Rattle.ttlv_run.specs.Texts.{Names}
+use Rattle.ttlv_words.specs.Tools.{InputsDone}
+
+-- names by what tables give: of tags, of a user's values, and of those of lists and of masks; and the secrets
+abbrev pub Given : Type 0
+Given = ℕ → Option (List ℕ)
+
+abbrev pub names_by : Given → Given → Given → Given → Given → Names
+names_by tags own values masks secrets = record {
+  tags = tags;
+  values = λ tag value. value_named own (values tag) tag value;
+  masks = λ tag mask. mask_names (value_named own (masks tag) tag) mask;
+  secrets = λ tag. is_there (secrets tag);
+}
+
+pub same_names : (t u o p v w m n s r : Given) → t ≡ u → o ≡ p → v ≡ w → m ≡ n → s ≡ r → names_by t o v m s ≡ names_by u p w n r
+same_names t u o p v w m n s r a b c d e =
+    ap (λ (x : Given). names_by x o v m s) a ∙ ap (λ (x : Given). names_by u x v m s) b ∙ ap (λ (x : Given). names_by u p x m s) c
+    ∙ ap (λ (x : Given). names_by u p w x s) d ∙ ap (λ (x : Given). names_by u p w n x) e
+
+pub inputs_as : {O I : Type 0} (how : Opening O I) (n m : Names) (a b : Asked) (f g : List (Bor (List ℕ))) (old new : At O) (l r : Option (List ℕ)) (status : ℕ)
+    → n ≡ m → a ≡ b → f ≡ g → InputsDone how n a f old new l r status → InputsDone how m b g old new l r status
+inputs_as how n m a b f g old new l r status p q o h =
+    subst (λ (x : List (Bor (List ℕ))). InputsDone how m b x old new l r status) o
+    (subst (λ (x : Asked). InputsDone how m x f old new l r status) q
+    (subst (λ (x : Names). InputsDone how x a f old new l r status) p h))

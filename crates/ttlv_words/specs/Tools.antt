@@ -1,0 +1,110 @@
+-- What a request comes to: its tables, the tag and the colours of lines, and what is done with its inputs.
+use Rattle.std.specs.Borrow.{Bor}
+use Rattle.std.specs.Prelude.{◌≡◌, ◌⊎◌, ℕ, Bool, true, false, ◌&&◌, ◌||◌, List, [], ◌∷◌, length, ◌==◌, codes, is_some, Option, Some, None, option_map}
+use Rattle.std.specs.Option.{option_or}
+use Rattle.std.specs.Io.KnownBytes.{Keeps}
+use Rattle.clap.specs.declared.error.kind.ErrorKind.{ErrorKind}
+use Rattle.clap.specs.declared.error.kind.ErrorKind.TheVariants.{DisplayHelp, DisplayVersion, OutOfMemory}
+use Rattle.kmip_ttlv_types.specs.Names.{tag_of}
+use Rattle.kmip_ttlv_names.specs.NameTables.{names_of as tags_in, first_of, bad_line, tag_named}
+use Rattle.kmip_ttlv_names.specs.OwnNames.{value_names_of}
+use Rattle.kmip_ttlv_names.specs.declared.standard.TheConstants.{STANDARD_TAGS}
+use Rattle.kmip_ttlv_names.specs.declared.enumerations.TheConstants.{STANDARD_VALUES}
+use Rattle.kmip_ttlv_names.specs.declared.masks.TheConstants.{STANDARD_MASKS}
+use Rattle.kmip_ttlv_names.specs.declared.secrets.TheConstants.{STANDARD_SECRETS}
+use Rattle.kmip_ttlv_json.specs.Printings.{is_there}
+use Rattle.ttlv_run.specs.declared.job.Asked.{Asked}
+use Rattle.ttlv_run.specs.declared.job.Asked.TheVariants.{Print}
+use Rattle.ttlv_run.specs.declared.job.Strict.TheVariants.{Show as ShowWhole}
+use Rattle.ttlv_run.specs.declared.job.Task.TheVariants.{Show, Whole}
+use Rattle.ttlv_run.specs.Files.{At, Opening, IsDone, FilesDone}
+use Rattle.ttlv_run.specs.Masks.{value_named, mask_names}
+use Rattle.ttlv_run.specs.Tables.{IsJoined}
+use Rattle.ttlv_run.specs.Texts.{Names}
+use Rattle.ttlv_words.specs.declared.request.Color.{Color}
+use Rattle.ttlv_words.specs.declared.request.Color.TheVariants.{Always, Never, Auto}
+use Rattle.ttlv_words.specs.declared.request.Request.{Request}
+use Rattle.ttlv_words.specs.declared.tool.Terminal.{Terminal}
+
+-- lines are coloured: always, never, or on a terminal without a value of NO_COLOR
+abbrev pub is_colored : Color → Bool → Option (List ℕ) → Bool
+is_colored Always is_terminal no_color = true
+is_colored Never is_terminal no_color = false
+is_colored Auto is_terminal None = is_terminal
+is_colored Auto is_terminal (Some value) = is_terminal && (length value == 0)
+
+-- 2 for a mistake, 3 out of memory, and 0 for help and the version, or 3 where they can't be printed
+abbrev pub IsUsage : ErrorKind → ℕ → Type 0
+IsUsage DisplayHelp status = (status ≡ 0) ⊎ (status ≡ 3)
+IsUsage DisplayVersion status = (status ≡ 0) ⊎ (status ≡ 3)
+IsUsage OutOfMemory status = status ≡ 3
+IsUsage kind status = status ≡ 2
+
+-- a run that reads no input ends so: out of memory, or as wrong usage where words name something
+abbrev pub IsRefusal : Bool → ℕ → Type 0
+IsRefusal named status = (status ≡ 3) ⊎ ((status ≡ 2) × (named ≡ true))
+
+-- a table, and behind it that of a file, if one is named: the file was opened, and taken to its end
+abbrev pub IsTable : {T I : Type 0} → Opening T I → List ℕ → T → T → Option (Bor (List ℕ)) → List ℕ → Type 0
+IsTable how standard old new None all = (all ≡ standard) × (new ≡ old)
+IsTable {T} {I} how standard old new (Some path) all =
+    (input : I) × (left : Option (List ℕ)) × how.opens old path.now (Some input) new
+    × IsJoined standard (how.remaining input) left all
+
+-- the tables of a request: the standard's tags and those that it names; the standard's secrets and those that it names,
+-- tags alone
+pub record AreRead
+    {T I : Type 0} (how : Opening T I) (names secrets : Option (Bor (List ℕ))) (old new : T) (tags secret : List ℕ) : Type 0 where
+  pub between : T
+  pub tags_are : IsTable how STANDARD_TAGS.now old between names tags
+  pub secrets_are : IsTable how STANDARD_SECRETS.now between new secrets secret
+
+-- the tag that is asked for, if any: that of a name in a table, or of its digits; none where it is no tag
+abbrev pub tag_asked : List ℕ → Option (List ℕ) → Option (Option ℕ)
+tag_asked table None = Some None
+tag_asked table (Some name) = option_map (λ tag. Some tag) (option_or (tag_named name table) (tag_of name))
+
+-- what is asked, with the colours and the tag of readable lines
+abbrev pub with_look : Asked → Bool → Option ℕ → Asked
+with_look (Print (Show look) encoding) colored only =
+    Print (Show (record look { colored = colored; only = only })) encoding
+with_look (Print (Whole (ShowWhole look)) encoding) colored only =
+    Print (Whole (ShowWhole (record look { colored = colored; only = only }))) encoding
+with_look asked colored only = asked
+
+-- the names of tags and of values, and the tags of secrets, by their tables
+abbrev pub names_for : List ℕ → List ℕ → Names
+names_for tags secret = record {
+  tags = tags_in tags;
+  values = λ tag value. value_named (value_names_of tags) (tags_in STANDARD_VALUES.now tag) tag value;
+  masks = λ tag mask. mask_names (value_named (value_names_of tags) (tags_in STANDARD_MASKS.now tag) tag) mask;
+  secrets = λ tag. is_there (tags_in secret tag);
+}
+
+-- with each input, or with standard input where none is named, what was asked is done
+abbrev pub InputsDone :
+    {O I : Type 0} → Opening O I → Names → Asked → List (Bor (List ℕ)) → At O → At O → Option (List ℕ) → Option (List ℕ)
+    → ℕ → Type 0
+InputsDone how names asked [] old new input input_left status =
+    (name : Bor (List ℕ)) × (name.now ≡ codes "standard input") × IsDone names asked name
+    (record { input = input; input_left = input_left; output = old.output; output_now = new.output })
+    old.errors new.errors status
+InputsDone how names asked (f ∷ fs) old new input input_left status = FilesDone how names asked (f ∷ fs) old new status
+
+-- a request is done: by the tables that it names, with its tag and colours; or it is refused, and nothing is printed
+pub data RequestDone
+    {T J O I : Type 0} (tables : Opening T J) (files : Opening O I) (r : Request) (terminal : Terminal) (old_tables new_tables : T)
+    (old new : At O) (input input_left : Option (List ℕ)) (status : ℕ) : Type 0 where
+  done :
+      (tags secret : List ℕ) (only : Option ℕ) (errors : Option (List ℕ))
+      → AreRead tables r.names r.secrets old_tables new_tables tags secret
+      → bad_line secret ≡ None
+      → tag_asked tags (option_map (λ s. s.now) r.tag) ≡ Some only
+      → InputsDone files (names_for tags secret)
+      (with_look r.asked (is_colored r.color terminal.is_one (option_map (λ s. s.now) terminal.no_color)) only)
+      r.files.items (record { opener = old.opener; output = old.output; errors = errors }) new input input_left status
+      → RequestDone tables files r terminal old_tables new_tables old new input input_left status
+  refused :
+      (status ≡ 2) ⊎ (status ≡ 3)
+      → Keeps old.output new.output
+      → RequestDone tables files r terminal old_tables new_tables old new input input_left status

@@ -1,0 +1,274 @@
+//! What a request comes to: its tables are read, and what it asks for is done with each of its inputs.
+
+ghost use Rattle.std.specs.Prelude.{◌≡◌, ◌||◌, None, IfOk, IfErr, OnOk, is_some, option_map, string_bytes};
+ghost use Rattle.clap.specs.Words.{kind_of};
+ghost use Rattle.kmip_ttlv_names.specs.NameTables.{bad_line};
+ghost use Rattle.ttlv_run.specs.Texts.{names_of};
+ghost use Rattle.ttlv_words.specs.Tools.{is_colored, IsUsage, IsRefusal, IsTable, AreRead, tag_asked, with_look, names_for, InputsDone, RequestDone};
+
+use crate::request::{Color, Request};
+use clap::Error;
+use clap::error::ErrorKind;
+use kmip_ttlv_names::{
+    STANDARD_SECRETS, STANDARD_TAGS, TableError, own_names, standard_masks, standard_values,
+    tag_named, tag_names,
+};
+use kmip_ttlv_types::TtlvTag;
+use std::alloc::{AllocError, Allocator, Global};
+use std::io::{Eprint, Print, Read, Write};
+use ttlv_run::files::{Opener, run_asked, run_files};
+use ttlv_run::run::report_words;
+use ttlv_run::table::own_table;
+use ttlv_run::{Asked, Look, Memory, Names, Strict, Task};
+
+/// The status of wrong usage, and of a table that can't be read.
+const USAGE: u8 = 2;
+
+/// The exit status if memory runs out, or the output can't be written.
+const FAILED: u8 = 3;
+
+/// What is known of where the output goes.
+#[derive(Clone, Copy)]
+pub struct Terminal<'t> {
+    /// Whether it is a terminal.
+    pub is_one: bool,
+    /// The value of the variable NO_COLOR, if it is set.
+    pub no_color: Option<&'t str>,
+}
+
+// Whether lines are coloured.
+fn is_colored(color: Color, terminal: Terminal<'_>) -> bool
+    ensures { result ≡ is_colored color terminal.entry.is_one (option_map (λ s. s.now) terminal.entry.no_color) }
+{
+    match color {
+        Color::Always => true,
+        Color::Never => false,
+        Color::Auto => match terminal.no_color {
+            Some(value) => terminal.is_one && value.is_empty(),
+            None => terminal.is_one,
+        },
+    }
+}
+
+// Reports that memory ran out before an input was read, and returns the exit status.
+fn no_memory<E: Write>(errors: &mut E) -> u8
+    ensures { result ≡ 3 }
+{
+    report_words(errors, "ttlv", "out of memory");
+    FAILED
+}
+
+/// Reports what is wrong with the words, or prints the help or the version that they ask for, and returns the exit status.
+pub fn report_usage<R: Print + Eprint, E: Write>(rt: &R, errors: &mut E, error: &Error) -> u8
+    ensures { IsUsage (kind_of error.now) result }
+{
+    if error.kind() == ErrorKind::OutOfMemory {
+        return no_memory(errors);
+    }
+    let printed = error.print(rt);
+    if error.use_stderr() {
+        return USAGE;
+    }
+    if printed.is_err() { FAILED } else { 0 }
+}
+
+// A table of tags, and behind it that of a file, if one is named; or the status where there is none.
+fn table<T: Opener, E: Write>(
+    alloc: Global,
+    tables: &mut T,
+    standard: &str,
+    path: Option<&str>,
+    errors: &mut E,
+) -> Result<String, u8>
+    ensures ok { IfOk result (λ all. IsTable (record { opens = T.opens; remaining = T.Input.remaining }) standard.now
+        tables.old tables.new path.entry (string_bytes all)) }
+    ensures err { IfErr result (IsRefusal (is_some path.entry)) }
+{
+    let Some(path) = path else {
+        let alone: Result<String, AllocError> = String::from_str(alloc, standard);
+        return match alone {
+            Ok(table) => Ok(table),
+            Err(_) => Err(no_memory(errors)),
+        };
+    };
+    match tables.open(path) {
+        Some(mut input) => own_table(alloc, standard, path, &mut input, errors),
+        None => {
+            report_words(errors, path, "it can't be opened");
+            Err(USAGE)
+        }
+    }
+}
+
+// The tag that is asked for, if any: that of a name in a table, or of its digits; none where it is no tag.
+fn tag_asked(table: &str, name: Option<&str>) -> Option<Option<u32>>
+    ensures { result ≡ tag_asked table.now (option_map (λ s. s.now) name.entry) }
+{
+    let Some(name) = name else {
+        return Some(None);
+    };
+    match tag_named(table, name).or(TtlvTag::from_name(name)) {
+        Some(tag) => Some(Some(*tag)),
+        None => None,
+    }
+}
+
+// What is asked, with the colours and the tag of readable lines.
+fn with_look(asked: Asked<'_>, colored: bool, only: Option<u32>) -> Asked<'_>
+    ensures { result ≡ with_look asked.entry colored only }
+{
+    match asked {
+        Asked::Print {
+            task: Task::Show { look },
+            encoding,
+        } => {
+            let look = Look {
+                colored,
+                only,
+                ..look
+            };
+            let task = Task::Show { look };
+            Asked::Print { task, encoding }
+        }
+        Asked::Print {
+            task: Task::Whole {
+                strict: Strict::Show { look },
+            },
+            encoding,
+        } => {
+            let look = Look {
+                colored,
+                only,
+                ..look
+            };
+            let strict = Strict::Show { look };
+            let task = Task::Whole { strict };
+            Asked::Print { task, encoding }
+        }
+        asked => asked,
+    }
+}
+
+// The names of tags and of values, and the tags of secrets, by their tables.
+fn names_in<'t, B: Allocator + Copy>(
+    alloc: B,
+    tags: &'t str,
+    secrets: &'t str,
+) -> Result<Names<'t, B>, TableError>
+    ensures names { IfOk result (λ names. names_of names ≡ names_for tags.now secrets.now) }
+    ensures tags_alone { OnOk result (bad_line secrets.now ≡ None) }
+{
+    let own = own_names(alloc, tags)?;
+    Ok(Names {
+        tags: own.tags,
+        values: standard_values(alloc)?,
+        masks: standard_masks(alloc)?,
+        own: own.values,
+        secrets: tag_names(alloc, secrets)?,
+    })
+}
+
+// Does with each input what is asked.
+fn run_inputs<B: Allocator + Copy, O: Opener, R: Read, W: Write, E: Write>(
+    memory: Memory<Global, B>,
+    asked: Asked<'_>,
+    files: &[&str],
+    names: &Names<'_, B>,
+    opener: &mut O,
+    stdin: &mut R,
+    output: &mut W,
+    errors: &mut E,
+) -> u8
+    ensures { InputsDone (record { opens = O.opens; remaining = O.Input.remaining })
+        (names_of names.now) asked.entry files.now
+        (record { opener = opener.old; output = W.contents output.old; errors = E.contents errors.old })
+        (record { opener = opener.new; output = W.contents output.new; errors = E.contents errors.new })
+        (R.remaining stdin.old) (R.remaining stdin.new) result }
+{
+    if files.is_empty() {
+        return run_asked(
+            memory,
+            asked,
+            "standard input",
+            names,
+            stdin,
+            output,
+            errors,
+        );
+    }
+    run_files(memory, asked, names, files, opener, output, errors)
+}
+
+// The tables of names and of secrets; or the status where there is none.
+fn tables_of<T: Opener, E: Write>(
+    alloc: Global,
+    tables: &mut T,
+    names: Option<&str>,
+    secrets: Option<&str>,
+    errors: &mut E,
+) -> Result<(String, String), u8>
+    ensures ok { IfOk result (λ r. AreRead (record { opens = T.opens; remaining = T.Input.remaining }) names.entry secrets.entry
+        tables.old tables.new (string_bytes r.0) (string_bytes r.1)) }
+    ensures err { IfErr result (IsRefusal (is_some names.entry || is_some secrets.entry)) }
+{
+    let tags = table(alloc, tables, STANDARD_TAGS, names, errors)?;
+    let secret = table(alloc, tables, STANDARD_SECRETS, secrets, errors)?;
+    Ok((tags, secret))
+}
+
+/// Does what a request asks for, and returns the exit status: those of [`run_asked`] and [`run_files`]; 2 for a table that can't
+/// be read, a table of secrets that names values, and a tag that is none; and 3 when out of memory. Tables are opened by
+/// `tables`, files by `opener`; where none is named, `stdin` is the input.
+pub fn run_request<T: Opener, O: Opener, R: Read, W: Write, E: Write>(
+    alloc: Global,
+    request: &Request<'_>,
+    terminal: Terminal<'_>,
+    tables: &mut T,
+    opener: &mut O,
+    stdin: &mut R,
+    output: &mut W,
+    errors: &mut E,
+) -> u8
+    ensures { RequestDone (record { opens = T.opens; remaining = T.Input.remaining })
+        (record { opens = O.opens; remaining = O.Input.remaining })
+        request.now terminal.entry tables.old tables.new
+        (record { opener = opener.old; output = W.contents output.old; errors = E.contents errors.old })
+        (record { opener = opener.new; output = W.contents output.new; errors = E.contents errors.new })
+        (R.remaining stdin.old) (R.remaining stdin.new) result }
+{
+    let (tags, secret) = match tables_of(alloc, tables, request.names, request.secrets, errors) {
+        Ok(read) => read,
+        Err(status) => return status,
+    };
+    let Some(only) = tag_asked(tags.as_str(), request.tag) else {
+        report_words(errors, request.tag.unwrap_or(""), "no tag has this name");
+        return USAGE;
+    };
+    let names = match names_in(alloc, tags.as_str(), secret.as_str()) {
+        Ok(names) => names,
+        Err(TableError::BadLine(_)) => {
+            report_words(
+                errors,
+                request.secrets.unwrap_or(""),
+                "a table of secrets names tags alone, as `540001 Own Secret`",
+            );
+            return USAGE;
+        }
+        Err(TableError::OutOfMemory) => return no_memory(errors),
+    };
+    let asked = with_look(request.asked, is_colored(request.color, terminal), only);
+    let memory = Memory {
+        input: alloc,
+        rest: alloc,
+    };
+    run_inputs(
+        memory,
+        asked,
+        request.files.as_slice(),
+        &names,
+        opener,
+        stdin,
+        output,
+        errors,
+    )
+}
