@@ -99,11 +99,23 @@ type Row = (&'static [u8], bool, u8, &'static str, &'static str);
 
 const FIRST: &str = "Tag: Protocol Version (0x420069), Type: Structure (0x01), Data:\n";
 
+const TWICE: &str =
+    "Tag: Protocol Version (0x420069), Type: Structure (0x01), Data:\nTag: Protocol Version (0x420069), Type: Structure (0x01), Data: \n  Tag: Protocol Version Major (0x42006A), Type: Structure (0x01), Data:\n";
+
 const UNREAD: &str = "capture: it can't be read\n";
 
 const NO_TEXT: &str = "capture: it is not UTF-8\n";
 
-const BROKEN: [Row; 8] = [
+const BROKEN: [Row; 10] = [
+    // A byte order mark in front of a line isn't part of it.
+    (b"\xEF\xBB\xBF69[]\n\xEF\xBB\xBF", false, 0, FIRST, ""),
+    (
+        b"\xEF\xBB\xBF69[]\n\xEF\xBB\xBF69[6A[]",
+        false,
+        1,
+        TWICE,
+        "capture: byte 18: a structure is not closed\n",
+    ),
     // Reading fails within a line: those before were printed.
     (b"69[]\n6A[", true, 2, FIRST, UNREAD),
     (b"69[]\n", true, 2, FIRST, UNREAD),

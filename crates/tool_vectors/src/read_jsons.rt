@@ -50,8 +50,10 @@ const NO_VALUE: JsonError = JsonError::NotItem(BadMember::Value);
 const NO_MEMBERS: JsonError = JsonError::NotItem(BadMember::Members);
 
 // JSON of no message, with the error.
-const BAD: [(&str, JsonError); 12] = [
+const BAD: [(&str, JsonError); 14] = [
     ("", JsonError::NotJson { line: 1, column: 0 }),
+    ("[\n\n1,2", JsonError::NotJson { line: 3, column: 3 }),
+    ("\n\n{}\n x", JsonError::NotJson { line: 4, column: 2 }),
     ("[]", NO_MEMBERS),
     ("{\"tag\":\"0x420069\",\"type\":\"Structure\"}", NO_MEMBERS),
     (
@@ -209,7 +211,7 @@ fn lines_with(alloc: Global, raw: bool, input: &[u8]) -> Outcome {
 const EMPTY: &str = "{\"tag\":\"0x420069\",\"type\":\"Structure\",\"value\":[]}";
 
 // An input, the status, what is printed, and what on standard error.
-const LINES: [(&str, u8, &str, &str); 7] = [
+const LINES: [(&str, u8, &str, &str); 11] = [
     ("", 0, "", ""),
     ("\n \t\r\n\n", 0, "", ""),
     (EMPTY, 0, "4200690100000000\n", ""),
@@ -232,6 +234,27 @@ const LINES: [(&str, u8, &str, &str); 7] = [
         1,
         "",
         "capture: byte 1: an item without exactly tag, type and value\n",
+    ),
+    // A byte order mark in front of a line, and one that is alone in it.
+    (
+        "\u{feff}{\"tag\":\"0x420069\",\"type\":\"Structure\",\"value\":[]}\n\u{feff}\n",
+        0,
+        "4200690100000000\n",
+        "",
+    ),
+    (
+        "\u{feff}\n\u{feff}[1,2\n",
+        1,
+        "",
+        "capture: byte 4: not JSON, column 4\n",
+    ),
+    // White space of Unicode is none of JSON.
+    ("\u{a0}\n", 1, "", "capture: byte 0: not JSON, column 1\n"),
+    (
+        "{\"tag\":\"0x420069\",\"type\":\"Structure\",\"value\":[]}\u{2028}\n",
+        1,
+        "",
+        "capture: byte 0: not JSON, column 49\n",
     ),
 ];
 

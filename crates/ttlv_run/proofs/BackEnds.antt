@@ -9,7 +9,8 @@ use Rattle.kmip_ttlv_util.specs.Undiag.{Step, reads_on, stops_with, step}
 use Rattle.kmip_ttlv_util.specs.ReadBack.{close_part, item_part, Part, IsPartTail, IsPartAt, StandAll}
 use Rattle.kmip_ttlv_util.proofs.{Longest.StepIs, Longest.step_is, Reading.Shorter, Reading.step_shorter}
 use Rattle.ttlv_run.specs.declared.back.{BackFault.BackFault, BackFaultKind.BackFaultKind, BackFaultKind.TheVariants.NoPart, BackFaultKind.TheVariants.LeftOpen}
-use Rattle.ttlv_run.specs.Backs.{IsWrong, Breaks, Tries, FirstBreak, all_whole, breaks_here, whole_here}
+use Rattle.ttlv_run.specs.Backs.{IsWrong, BreaksText, TriesText, Tries, FirstBreak, all_whole, breaks_here, whole_here}
+use Rattle.ttlv_run.specs.Columns.{mark_length, body}
 
 module _ (prefix : List ℕ) where
   -- the longest list of parts in front of a text, and what is left behind them
@@ -65,9 +66,9 @@ module _ (prefix : List ℕ) where
       by (reads_on w d r) t sh more = more_parts depth s w d r t (more d r (omega (arith, sh.0)))
       by (stops_with w) t sh more = record { parts = []; deep = depth; front = []; rest = s; stand = (refl, refl); split = refl; no_more = t.0 }
 
-  -- a line is whole, or it stops being a diagnostic somewhere
+  -- a text is whole, or it stops being a diagnostic somewhere
   breaks_at : (at : ℕ) (line : List ℕ) (k : Longest 0 (trim_end line)) (kind : BackFaultKind) → IsWrong kind k.deep (length k.rest)
-      → Breaks prefix at line (record { offset = at + length k.front; kind = kind })
+      → BreaksText prefix at line (record { offset = at + length k.front; kind = kind })
   breaks_at at line k kind wrong =
       let left : k.rest ≡ drop (length k.front) (trim_end line) = sym (ap (drop (length k.front)) k.split ∙ drop-append_seam k.front k.rest) in
       record {
@@ -83,16 +84,19 @@ module _ (prefix : List ℕ) where
         offset = refl;
       }
 
-  line_tried : (at : ℕ) (line : List ℕ) → (o : Option BackFault) × Tries prefix at line o
-  line_tried at line = by k.deep k.rest refl refl
+  text_tried : (at : ℕ) (line : List ℕ) → (o : Option BackFault) × TriesText prefix at line o
+  text_tried at line = by k.deep k.rest refl refl
     where
       k : Longest 0 (trim_end line)
       k = longest (suc (length (trim_end line))) 0 (trim_end line) (omega arith)
 
-      by : (deep : ℕ) (rest : List ℕ) → k.deep ≡ deep → k.rest ≡ rest → (o : Option BackFault) × Tries prefix at line o
+      by : (deep : ℕ) (rest : List ℕ) → k.deep ≡ deep → k.rest ≡ rest → (o : Option BackFault) × TriesText prefix at line o
       by zero [] d r = let stand = rw (d, r) at k.stand in (None, (k.parts, stand))
       by (suc deep) [] d r = (Some (record { offset = at + length k.front; kind = LeftOpen }), breaks_at at line k LeftOpen (ap length r, omega (arith, d)))
       by deep (c ∷ rest) d r = (Some (record { offset = at + length k.front; kind = NoPart }), breaks_at at line k NoPart (omega (arith, ap length r)))
+
+  line_tried : (at : ℕ) (line : List ℕ) → (o : Option BackFault) × Tries prefix at line o
+  line_tried at line = text_tried (at + mark_length line) (body line)
 
   first_by : (at : ℕ) (line : List ℕ) (more : List (List ℕ)) (o : Option BackFault) → Tries prefix at line o
       → ((next : ℕ) → (f : Option BackFault) × FirstBreak prefix next more f) → (f : Option BackFault) × FirstBreak prefix at (line ∷ more) f

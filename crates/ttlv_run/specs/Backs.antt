@@ -10,13 +10,18 @@ use Rattle.ttlv_run.specs.declared.back.BackFaultKind.{BackFaultKind}
 use Rattle.ttlv_run.specs.declared.back.BackFaultKind.TheVariants.{NoPart, LeftOpen}
 use Rattle.ttlv_run.specs.declared.back.BackReached.{BackReached}
 use Rattle.ttlv_run.specs.declared.back.BackReached.TheVariants.{Behind, NoText}
+use Rattle.ttlv_run.specs.Columns.{mark_length, body}
 use Rattle.ttlv_run.specs.Escapes.{escaped}
 use Rattle.ttlv_run.specs.Texts.{text_back}
 
--- a line is diagnostics from its first character to its last, but for white space at its end: its parts stand one
+-- a text is diagnostics from its first character to its last, but for white space at its end: its parts stand one
 -- behind the other, nothing is left, and each structure is closed
+abbrev pub IsWholeText : List ℕ → List ℕ → Type 0
+IsWholeText prefix s = (parts : List Part) × StandAll prefix 0 (trim_end s) parts 0 []
+
+-- so is a line, behind its mark
 abbrev pub IsWholeLine : List ℕ → List ℕ → Type 0
-IsWholeLine prefix line = (parts : List Part) × StandAll prefix 0 (trim_end line) parts 0 []
+IsWholeLine prefix line = IsWholeText prefix (body line)
 
 -- what is wrong so deep, where so many bytes are left: some are, or none is and a structure is open
 abbrev pub IsWrong : BackFaultKind → ℕ → ℕ → Type 0
@@ -28,25 +33,32 @@ abbrev pub Stopped : ℕ → ℕ → ℕ → Option BackFault → Type 0
 Stopped offset deep left None = (left ≡ 0) × (deep ≡ 0)
 Stopped offset deep left (Some fault) = (fault.offset ≡ offset) × IsWrong fault.kind deep left
 
--- parts stand in front of a line up to a place, and no part stands there
-pub record Stops (prefix line : List ℕ) (place : ℕ) (kind : BackFaultKind) : Type 0 where
+-- parts stand in front of a text up to a place, and no part stands there
+pub record Stops (prefix s : List ℕ) (place : ℕ) (kind : BackFaultKind) : Type 0 where
   pub parts : List Part
   pub deep : ℕ
-  pub within : place ≤ length (trim_end line)
-  pub stand : StandAll prefix 0 (trim_end line) parts deep (drop place (trim_end line))
-  pub no_more : (p : Part) (more : List ℕ) → IsPartAt prefix deep (drop place (trim_end line)) p more → ⊥
-  pub wrong : IsWrong kind deep (length (drop place (trim_end line)))
+  pub within : place ≤ length (trim_end s)
+  pub stand : StandAll prefix 0 (trim_end s) parts deep (drop place (trim_end s))
+  pub no_more : (p : Part) (more : List ℕ) → IsPartAt prefix deep (drop place (trim_end s)) p more → ⊥
+  pub wrong : IsWrong kind deep (length (drop place (trim_end s)))
 
--- the line that begins at an offset is not whole, and this is where and why
-pub record Breaks (prefix : List ℕ) (at : ℕ) (line : List ℕ) (fault : BackFault) : Type 0 where
+-- the text that begins at an offset is not whole, and this is where and why
+pub record BreaksText (prefix : List ℕ) (at : ℕ) (s : List ℕ) (fault : BackFault) : Type 0 where
   pub place : ℕ
-  pub stops : Stops prefix line place fault.kind
+  pub stops : Stops prefix s place fault.kind
   pub offset : fault.offset ≡ at + place
 
 -- whether it is whole, and if not, where and why
+abbrev pub TriesText : List ℕ → ℕ → List ℕ → Option BackFault → Type 0
+TriesText prefix at s None = IsWholeText prefix s
+TriesText prefix at s (Some fault) = BreaksText prefix at s fault
+
+-- the same of a line, whose text is behind its mark
+abbrev pub Breaks : List ℕ → ℕ → List ℕ → BackFault → Type 0
+Breaks prefix at line fault = BreaksText prefix (at + mark_length line) (body line) fault
+
 abbrev pub Tries : List ℕ → ℕ → List ℕ → Option BackFault → Type 0
-Tries prefix at line None = IsWholeLine prefix line
-Tries prefix at line (Some fault) = Breaks prefix at line fault
+Tries prefix at line fault = TriesText prefix (at + mark_length line) (body line) fault
 
 -- the first of some lines that is not whole, the first of which begins at an offset; none where all are whole
 pub data FirstBreak (prefix : List ℕ) : ℕ → List (List ℕ) → Option BackFault → Type 0 where

@@ -1,9 +1,9 @@
 -- Lines of JSON that are read back as messages.
 use Rattle.std.specs.Prelude.{◌≡◌, ◌≢◌, ◌⊎◌, ℕ, ◌+◌, ◌≤◌, Bool, true, false, List, [], ◌∷◌, ◌++◌, length, take, drop, Option, Some, None, Result, Ok, Err}
-use Rattle.std.specs.Prelude.{codes}
+use Rattle.std.specs.Prelude.{◌==◌, ◌||◌, IsTrue, EachIndex, slice_index, codes}
 use Rattle.std.specs.Fmt.{decimal}
 use Rattle.std.specs.Io.KnownBytes.{Appends, Consumes, Keeps}
-use Rattle.std.specs.Str.{IsUtf8, trim_end}
+use Rattle.std.specs.Str.{IsUtf8}
 use Rattle.hex.specs.Hex.{encode_upper}
 use Rattle.kmip_ttlv_types.specs.Streams.{AppendsFront}
 use Rattle.kmip_ttlv_json.specs.declared.failure.JsonError.{JsonError}
@@ -16,6 +16,7 @@ use Rattle.ttlv_run.specs.declared.run_error.RunError.{RunError}
 use Rattle.ttlv_run.specs.declared.run_error.RunError.TheVariants.{UnreadableInput, NotUtf8}
 use Rattle.ttlv_run.specs.declared.run_error.RunError.TheVariants.{UnwritableOutput, ClosedPipe, NoMemory}
 use Rattle.ttlv_run.specs.Backs.{IsOneLine}
+use Rattle.ttlv_run.specs.Columns.{body}
 use Rattle.ttlv_run.specs.Inputs.{TakesAll, TakesSome}
 use Rattle.ttlv_run.specs.Reasons.{IsOfPrinting, place_report, status_of, error_line}
 use Rattle.ttlv_run.specs.Runs.{Streams}
@@ -25,16 +26,24 @@ abbrev pub shown : Bool → List ℕ → List ℕ
 shown true message = message
 shown false message = encode_upper message ++ 10 ∷ []
 
--- a line, but for white space at its end, is the JSON of a message, and this is printed of it; of an empty line nothing
+-- white space of JSON (RFC 8259, section 2)
+abbrev pub is_space : ℕ → Bool
+is_space b = b == 32 || b == 9 || b == 10 || b == 13
+
+-- a text has nothing else
+abbrev pub IsBlank : List ℕ → Type 0
+IsBlank s = EachIndex s (λ k. IsTrue (is_space (slice_index s k)))
+
+-- a line, behind its mark, is the JSON of a message, and this is printed of it; of a blank line nothing
 abbrev pub GivesLine : Bool → List ℕ → List ℕ → Type 0
 GivesLine raw line text =
-    ((trim_end line ≡ []) × (text ≡ []))
-    ⊎ ((message : List ℕ) × IsReadAs (trim_end line) message × (text ≡ shown raw message))
+    (IsBlank (body line) × (text ≡ []))
+    ⊎ ((message : List ℕ) × IsReadAs (body line) message × (text ≡ shown raw message))
 
--- a line is not empty, and not the JSON of a message, for this reason
+-- a line is not blank, and not the JSON of a message, for this reason
 pub record IsBad (line : List ℕ) (error : JsonError) : Type 0 where
-  pub some : trim_end line ≢ []
-  pub fails : FailsToRead (trim_end line) error
+  pub some : ¬ (IsBlank (body line))
+  pub fails : FailsToRead (body line) error
   pub reported : error ≢ OutOfMemory
 
 -- what was appended to the output of a line, or why it is bad

@@ -28,6 +28,7 @@ use Rattle.ttlv_run.specs.declared.job.Values.{Values}
 use Rattle.ttlv_run.specs.declared.job.Values.TheVariants.{Hidden, Secret, Escaped}
 use Rattle.ttlv_run.specs.declared.job.Look.{Look}
 use Rattle.ttlv_run.specs.declared.lines.Reach.{Reach}
+use Rattle.ttlv_run.specs.Columns.{body}
 use Rattle.ttlv_run.specs.Dates.{date_shown}
 use Rattle.ttlv_run.specs.Escapes.{escaped}
 use Rattle.ttlv_run.specs.Masks.{value_named, mask_names}
@@ -155,14 +156,14 @@ lines_from names look at bytes r (i ∷ is) =
     item_text names look (reach_after names look r i) at bytes i
     ++ lines_from names look at bytes (reach_after names look r i) is
 
--- what a line of diagnostics is read back as, but for white space at its end, each line indented by 64 levels at most; an
+-- what a line of diagnostics is read back as, but for a mark in front of it and white space at its end, each line indented by 64 levels at most; an
 -- empty one as nothing
 abbrev pub trimmed_back : (ℕ → Option (List ℕ)) → List ℕ → List ℕ → List ℕ
 trimmed_back tags prefix [] = []
 trimmed_back tags prefix (c ∷ s) = trim_end (undiag_lines (bounded_part tags) prefix (c ∷ s)) ++ 10 ∷ []
 
 unfoldable pub line_back : (ℕ → Option (List ℕ)) → List ℕ → List ℕ → List ℕ
-line_back tags prefix line = trimmed_back tags prefix (trim_end line)
+line_back tags prefix line = trimmed_back tags prefix (trim_end (body line))
 
 -- what diagnostics are read back as, each in a line of its own
 unfoldable pub text_back : (ℕ → Option (List ℕ)) → List ℕ → List ℕ → List ℕ

@@ -6,6 +6,7 @@ ghost use Rattle.kmip_ttlv_util.specs.TagNames.{name_in};
 ghost use Rattle.ttlv_run.specs.Backs.{Stopped, Tries, IsOneLine, IsLineAt, ReadsBack, ReadsFront, back_words};
 ghost use Rattle.ttlv_run.specs.Texts.{line_back};
 
+use crate::guess::{mark_length, unmarked};
 use kmip_ttlv_util::{Indentation, LentTagMap, TextSink, push_read_back};
 use std::alloc::Allocator;
 use std::str;
@@ -54,8 +55,8 @@ fn stopped_at(offset: usize, depth: usize, left: usize) -> Option<BackFault>
     Some(BackFault { offset, kind })
 }
 
-// Adds what a line, which begins at an offset, is read back as, but for white space at its end, and a
-// line feed; nothing for an empty line. Gives where it stops being a diagnostic, if it does.
+// Adds what a line, which begins at an offset, is read back as, but for a mark in front of it and white space at its end, and
+// a line feed; nothing for an empty line. Gives where it stops being a diagnostic, if it does.
 fn push_back<S: TextSink, A: Allocator + Copy>(
     alloc: A,
     out: &mut S,
@@ -69,13 +70,15 @@ fn push_back<S: TextSink, A: Allocator + Copy>(
     ensures broken { OnErr result (S.breaks out.old (line_back (name_in names.now) prefix.now line.now) out.new) }
     ensures fault { IfOk result (λ fault. Tries prefix.now at line.now fault) }
 {
-    let line = line.trim_end();
-    if line.is_empty() {
+    let mark = mark_length(line.as_bytes());
+    let text = unmarked(line).trim_end();
+    if text.is_empty() {
         return Ok(None);
     }
-    let end = push_read_back(alloc, out, prefix, names, Indentation::Bounded, line)?;
+    let end = push_read_back(alloc, out, prefix, names, Indentation::Bounded, text)?;
     out.push_str("\n")?;
-    Ok(stopped_at(at + end.used, end.depth, line.len() - end.used))
+    let left = text.len() - end.used;
+    Ok(stopped_at(at + mark + end.used, end.depth, left))
 }
 
 /// How far lines of diagnostics were read back.

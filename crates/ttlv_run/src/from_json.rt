@@ -1,12 +1,13 @@
 //! Lines of JSON, each of which is a message, printed as the messages that they are.
 
-ghost use Rattle.std.specs.Prelude.{◌≡◌, ◌≤◌, ◌++◌, ◌⊎◌, ℕ, List, Option, None, IfOk, IfErr, OnOk, OnErr, codes};
+ghost use Rattle.std.specs.Prelude.{◌≡◌, ◌↔◌, IsTrue, ◌≤◌, ◌++◌, ◌⊎◌, ℕ, List, Option, None, IfOk, IfErr, OnOk, OnErr, codes};
 ghost use Rattle.std.specs.Io.KnownBytes.{Appends, Keeps};
 ghost use Rattle.kmip_ttlv_types.specs.Streams.{AppendsFront};
 ghost use Rattle.ttlv_run.specs.Reasons.{IsOfPrinting, Reports};
-ghost use Rattle.ttlv_run.specs.JsonLines.{shown, Prints, Spoils, PrintsBytes, FailsAt, fault_at, bad_line, column_report, RespondsJson, PrintedJson, MalformedJson, AbortedJson, JsonEnds};
+ghost use Rattle.ttlv_run.specs.JsonLines.{shown, IsBlank, Prints, Spoils, PrintsBytes, FailsAt, fault_at, bad_line, column_report, RespondsJson, PrintedJson, MalformedJson, AbortedJson, JsonEnds};
 
 use crate::back::{behind, line_at};
+use crate::guess::unmarked;
 use crate::job::JsonJob;
 use crate::run::{report, report_error, report_place, run_error_of};
 use crate::run_error::RunError;
@@ -58,7 +59,14 @@ fn print_message<W: Write>(
     send(output, text.as_bytes())
 }
 
-// Prints the message that a line is, but for white space at its end, and gives why it is none.
+// Whether a text is white space of JSON alone.
+fn is_blank(text: &[u8]) -> bool
+    ensures { IsTrue result ↔ IsBlank text.now }
+{
+    text.iter().all(|b| *b == b' ' || *b == b'\t' || *b == b'\n' || *b == b'\r')
+}
+
+// Prints the message that a line is, behind its mark, and gives why it is none.
 fn print_line<W: Write>(
     heap: Global,
     raw: bool,
@@ -69,11 +77,11 @@ fn print_line<W: Write>(
     ensures why { IfErr result IsOfPrinting }
     ensures err { OnErr result (Spoils raw line.now (W.contents output.old) (W.contents output.new)) }
 {
-    let line = line.trim_end();
-    if line.is_empty() {
+    let text = unmarked(line);
+    if is_blank(text.as_bytes()) {
         return Ok(None);
     }
-    match from_json(heap, line) {
+    match from_json(heap, text) {
         Ok(message) => {
             print_message(heap, raw, message.as_slice(), output)?;
             Ok(None)

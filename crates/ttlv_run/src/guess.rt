@@ -1,6 +1,6 @@
 //! What an input is taken as, where its encoding isn't named: raw messages, or one of the texts that stand for some.
 
-ghost use Rattle.std.specs.Prelude.{◌≡◌, ◌<◌, ◌≤◌, length, slice_index, take};
+ghost use Rattle.std.specs.Prelude.{◌≡◌, ◌<◌, ◌≤◌, ◌+◌, length, slice_index, take};
 ghost use Rattle.ttlv_run.specs.Columns.{mark_length, body};
 ghost use Rattle.ttlv_run.specs.Guesses.{is_control, has_control, looks_raw, first_byte, zeros, ends_offset, starts_dump};
 ghost use Rattle.ttlv_run.specs.Guesses.{starts_packet, has_packet, has_url_digit, by_first_byte, is_in_hexadecimal, is_hexadecimal, starts_digit, front_found, text_found, front_of, encoding_found};
@@ -212,6 +212,17 @@ pub fn mark_length(input: &[u8]) -> usize
         return 3;
     }
     0
+}
+
+/// A text without the mark that it may begin with.
+pub fn unmarked(text: &str) -> &str
+    ensures is { result.now ≡ body text.now }
+    ensures length { length result.now + mark_length text.now ≡ length text.now }
+{
+    match text.strip_prefix("\u{feff}") {
+        Some(rest) => rest,
+        None => text,
+    }
 }
 
 // The first bytes of an input.
