@@ -8,6 +8,8 @@
 #[cfg(test)]
 mod answer;
 #[cfg(test)]
+mod costs;
+#[cfg(test)]
 mod cuts;
 #[cfg(test)]
 mod enums;
@@ -32,6 +34,8 @@ pub mod selves;
 mod selves_kinds;
 #[cfg(test)]
 mod selves_rows;
+#[cfg(test)]
+mod sizes;
 #[cfg(test)]
 mod stream_faults;
 #[cfg(test)]

@@ -1,9 +1,11 @@
 //! Messages of many stored texts, of a long one that many rules ask for, or of many ignored items. What
-//! is read of them is what the last stored text says. What such messages cost, `ttlv_times` prints.
+//! is read of them is what the last stored text says. A text of four mebibytes that is parsed for each of 16,384
+//! items takes longer than a test may. What such messages cost, `ttlv_times` prints.
 
 use crate::answer::Of;
 use crate::reading::Reading;
 use kmip_ttlv::from_slice;
+use sample_shapes::inputs::asked;
 use sample_shapes::names::{
     IfAtLeastOne, IfAtLeastTwo, IfInteger, IfOtherAtLeastWord, IfStructure, IfText, IfTextB, TagA,
     TagB, TagC, TagD,
@@ -36,7 +38,7 @@ fn check_run<P: Part>(alloc: Global, message: &[u8], count: usize, last: &str) -
 #[test]
 fn many_texts_under_one_tag(rt: HostRuntime) -> Result<(), Fail> {
     type Texts = TwoVariants<IfOtherAtLeastWord, Content<Text>, IfText, Content<Text>>;
-    let count = 1_310u32;
+    let count = 16_384u32;
     let mut message = begun(rt.alloc(), count * 8)?;
     for _ in 0..count {
         message.extend_from_slice(&[0xBB, 0xBB, 0xBB, 7, 0, 0, 0, 0])?;
@@ -44,25 +46,9 @@ fn many_texts_under_one_tag(rt: HostRuntime) -> Result<(), Fail> {
     check_run::<Of<Sequence<Choice<TagB, Texts>>>>(
         rt.alloc(),
         message.as_slice(),
-        1_310,
+        16_384,
         "NewtypeVariant { name: \"0xBBBBBB\", variant: \"if type==TextString\", inner: Text(\"\") }",
     )
-}
-
-// A long text of zeros and 1, and many integers behind it.
-fn asking(alloc: Global) -> Result<Vec<u8>, AllocError> {
-    let zeros = 6_559u32;
-    let count = 410u32;
-    let mut message = begun(alloc, 8 + zeros + 1 + count * 16)?;
-    message.extend_from_slice(&[0xBB, 0xBB, 0xBB, 7, 0, 0, 0x19, 0xA0])?;
-    for _ in 0..zeros {
-        message.push(0x30)?;
-    }
-    message.push(0x31)?;
-    for _ in 0..count {
-        message.extend_from_slice(&[0xCC, 0xCC, 0xCC, 2, 0, 0, 0, 4, 0, 0, 0, 7, 0, 0, 0, 0])?;
-    }
-    Ok(message)
 }
 
 // Two rules ask, for each of many integers, for the number that one long text is.
@@ -70,11 +56,11 @@ fn asking(alloc: Global) -> Result<Vec<u8>, AllocError> {
 fn a_long_text_that_many_rules_ask_for(rt: HostRuntime) -> Result<(), Fail> {
     type Numbers = TwoVariants<IfAtLeastTwo, Content<Number>, IfAtLeastOne, Content<Number>>;
     type Asking = TwoFields<TagB, Text, TagC, Sequence<Choice<TagC, Numbers>>>;
-    let message = asking(rt.alloc())?;
+    let message = asked(rt.alloc(), 4_194_304, 16_384)?;
     check_run::<Structure<TagA, Asking>>(
         rt.alloc(),
         message.as_slice(),
-        410,
+        16_384,
         "NewtypeVariant { name: \"0xCCCCCC\", variant: \"if 0xBBBBBB>=1\", inner: I32(7) }",
     )
 }
@@ -84,7 +70,7 @@ fn a_long_text_that_many_rules_ask_for(rt: HostRuntime) -> Result<(), Fail> {
 fn many_texts_under_many_tags(rt: HostRuntime) -> Result<(), Fail> {
     type Numbers = TwoVariants<IfTextB, Content<Number>, IfInteger, Content<Number>>;
     type Pair = Tuple<Parts<Text, Parts<Choice<TagC, Numbers>, NoParts>>>;
-    let count = 260u32;
+    let count = 4_096u32;
     let mut message = begun(rt.alloc(), count * 40)?;
     for i in 0..count {
         let tag = if i == 0 { 0xBB_BBBB } else { i };
@@ -96,7 +82,7 @@ fn many_texts_under_many_tags(rt: HostRuntime) -> Result<(), Fail> {
     check_run::<Of<Sequence<Choice<TagB, OneVariant<IfStructure, Pair>>>>>(
         rt.alloc(),
         message.as_slice(),
-        260,
+        4_096,
         "TupleVariant { name: \"0xBBBBBB\", variant: \"if type==Structure\", fields: [Text(\"b\"), NewtypeVariant { name: \"0xCCCCCC\", variant: \"if 0xBBBBBB==b\", inner: I32(7) }] }",
     )
 }
@@ -104,8 +90,8 @@ fn many_texts_under_many_tags(rt: HostRuntime) -> Result<(), Fail> {
 type Many<L> = Repeated<TagB, Maybe<Number>, 100, L>;
 
 // Where a structure is an error that has many items behind its fields, of which the last is as given.
-fn place_of<L: FieldList>(alloc: Global, count: u16, last: [u8; 16]) -> Result<String, Fail> {
-    let mut message = begun(alloc, u32::from(count) * 16 + 16)?;
+fn place_of<L: FieldList>(alloc: Global, count: u32, last: [u8; 16]) -> Result<String, Fail> {
+    let mut message = begun(alloc, count.saturating_mul(16).saturating_add(16))?;
     for _ in 0..count {
         message.extend_from_slice(&[0xCC, 0xCC, 0xCC, 2, 0, 0, 0, 4, 0, 0, 0, 7, 0, 0, 0, 0])?;
     }
@@ -126,12 +112,12 @@ fn many_items_behind_many_fields(rt: HostRuntime) -> Result<(), Fail> {
     type Behind = Many<Field<TagD, Maybe<Number>, NoFields>>;
     let ignored = [0xEE, 0xEE, 0xEE, 2, 0, 0, 0, 4, 0, 0, 0, 7, 0, 0, 0, 0];
     let read = [0xDD, 0xDD, 0xDD, 2, 0, 0, 0, 4, 0, 0, 0, 7, 0, 0, 0, 0];
-    let place = "pos: 26220 bytes, parent tags: 0xAAAAAA, tag: 0xAAAAAA, type: Structure (0x01)";
-    let found = place_of::<Before>(rt.alloc(), 1_638, ignored)?;
+    let place = "pos: 131084 bytes, parent tags: 0xAAAAAA, tag: 0xAAAAAA, type: Structure (0x01)";
+    let found = place_of::<Before>(rt.alloc(), 8_192, ignored)?;
     assert_eq!(rt; found.as_str(), "nowhere");
-    let found = place_of::<Before>(rt.alloc(), 1_638, read)?;
+    let found = place_of::<Before>(rt.alloc(), 8_192, read)?;
     assert_eq!(rt; found.as_str(), place);
-    let found = place_of::<Behind>(rt.alloc(), 1_638, read)?;
+    let found = place_of::<Behind>(rt.alloc(), 8_192, read)?;
     assert_eq!(rt; found.as_str(), place);
     Ok(())
 }

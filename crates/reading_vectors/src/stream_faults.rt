@@ -36,6 +36,8 @@ fn each_read_fails(rt: HostRuntime) -> Result<(), Fail> {
         ErrorKind::BrokenPipe,
         ErrorKind::PermissionDenied,
         ErrorKind::ConnectionReset,
+        ErrorKind::OutOfMemory,
+        ErrorKind::WouldBlock,
         ErrorKind::Interrupted,
     ] {
         for count in 0..=24usize {

@@ -193,13 +193,39 @@ fn rows_are_read(rt: HostRuntime) -> Result<(), Fail> {
     Ok(())
 }
 
+// Whether these settings are shown as this text.
+fn is_shown(alloc: Global, limit: Option<u32>, keeps: bool, wanted: &str) -> Result<bool, Fail> {
+    let mut config = Config::new(alloc);
+    if let Some(limit) = limit {
+        config = config.with_max_bytes(limit);
+    }
+    if keeps {
+        config = config.with_read_buf();
+    }
+    let text = format!(in alloc; "{config:?}")?;
+    Ok(text.as_str() == wanted)
+}
+
+// A limit, whether bytes are kept, and how these settings are shown.
+const SHOWN: [(Option<u32>, bool, &str); 4] = [
+    (None, false, "Config { max_bytes: None, has_buf: false }"),
+    (None, true, "Config { max_bytes: None, has_buf: true }"),
+    (
+        Some(0),
+        false,
+        "Config { max_bytes: Some(0), has_buf: false }",
+    ),
+    (
+        Some(24),
+        true,
+        "Config { max_bytes: Some(24), has_buf: true }",
+    ),
+];
+
 #[test]
 fn settings_are_shown_without_bytes(rt: HostRuntime) -> Result<(), Fail> {
-    let config = Config::new(rt.alloc()).with_max_bytes(24).with_read_buf();
-    let text = format!(in rt.alloc(); "{config:?}")?;
-    assert_eq!(rt;
-        text.as_str(),
-        "Config { max_bytes: Some(24), has_buf: true }"
-    );
+    for (limit, keeps, text) in SHOWN {
+        assert!(rt; is_shown(rt.alloc(), limit, keeps, text)?, "{text}");
+    }
     Ok(())
 }
