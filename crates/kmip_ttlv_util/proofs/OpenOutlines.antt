@@ -151,8 +151,13 @@ module _ (prefix w : List ℕ) where
       (filled t ts h.0 h.2) at (omega arith) (ready_root 0 0 false) in
       let second = trees_open all (0 + 8) (0 + 8 + length h.0) n.left [] false h.0 (h.1.pad ++ []) h.2
       (content_at_text w 0 (raw_with tag Structure h.0) w [] h.1 at) (omega (arith, node_length tag all w h)) refl in
-      rw (← text_start (diag_style prefix) false w, n.is, first, second.is,
-      (turn_over (diag_style prefix) false w n.left (0 + 8 + length h.0) 0 second.loose).0) refl
+      rw (
+        ← text_start (diag_style prefix) false w,
+        n.is,
+        first,
+        second.is,
+        (turn_over (diag_style prefix) false w n.left (0 + 8 + length h.0) 0 second.loose).0,
+      ) refl
 
 -- the diagnostic of a well-formed message is a text of its outline
 pub shown_message : (prefix : List ℕ) (closed : Bool) (w : List ℕ) (t : Tree) → IsTreeText t w → IsStructure t

@@ -23,9 +23,11 @@ pub returns-in-Err-clause-ok : goal.returns-in-Err-clause-ok
 returns-in-Err-clause-ok g c =
     let is = c.unmarked-text.ensures.is in
     let some : IsBlank (body c.args.line.now) → ⊥ =
-    λ blank. let h = c.is_blank.ensures.1 (subst IsBlank (sym (c.as_bytes.ensures.value ∙ is)) blank) in cc in
-    (record {
-      some = some;
-      fails = subst (λ (s : List ℕ). FailsToRead s c.in-Err.error) is c.in-Err.ensures.err;
-      reported = search rules;
-    }, Appends-nil _)
+    λ blank. let h = c.is_blank.ensures.1 (subst IsBlank (sym (c.as_bytes.ensures.value ∙ is)) blank) in cc in (
+      record {
+        some = some;
+        fails = subst (λ (s : List ℕ). FailsToRead s c.in-Err.error) is c.in-Err.ensures.err;
+        reported = search rules;
+      },
+      Appends-nil _,
+    )
