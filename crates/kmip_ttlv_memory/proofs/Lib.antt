@@ -1,1 +1,2 @@
 mod LimitCalls
+mod WipeCalls

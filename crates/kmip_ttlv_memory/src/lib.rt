@@ -1,11 +1,15 @@
-//! An allocator with limits: on all memory in use, on each block, and, for tests, on one growth.
+//! An allocator with limits: on all memory in use, on each block, and, for tests, on one growth; and one that
+//! overwrites what it gives back.
 //!
-//! That it is an allocator is proved. When it fails is only tested: the counts are in cells, and no
+//! That they are allocators is proved. When the first fails is only tested: the counts are in cells, and no
 //! contract says what a cell holds, or when an allocator fails.
 #![tactic(auto)]
 
+mod wiping;
+
 use std::alloc::{AllocError, Allocator};
 use std::cell::Cell;
+pub use wiping::Wiping;
 
 /// Passes each call on to another allocator, but fails beyond its limits. Pass it as `&allocator`, which is an
 /// allocator itself. A call that uses it returns out of memory when a limit is reached, and the values that

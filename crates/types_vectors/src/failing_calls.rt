@@ -1,6 +1,6 @@
-//! The allocator that the tests of failing growths use, and its limits.
+//! The allocator that the tests of failing growths use, and its limits; and the one that wipes.
 
-use kmip_ttlv_memory::BoundedAllocator;
+use kmip_ttlv_memory::{BoundedAllocator, Wiping};
 use std::alloc::{AllocError, Allocator, Global};
 use std::test::Fail;
 
@@ -122,4 +122,21 @@ fn refusals_cost_nothing(alloc: Global) -> Option<bool> {
 fn a_budget_counts_what_was_given(rt: HostRuntime) -> Result<(), Fail> {
     assert!(rt; refusals_cost_nothing(rt.alloc()) == Some(true));
     Ok(())
+}
+
+// Whether an allocator that wipes gives what the one below has, keeps what is in a vector that grows, and gives all back.
+fn gives_and_wipes(alloc: Global) -> bool {
+    let below = BoundedAllocator::new(alloc, 100);
+    let memory = Wiping::new(&below);
+    let mut bytes = Vec::new(&memory);
+    let is_kept = takes_ten(&mut bytes)
+        && bytes.as_slice() == [0, 1, 2, 3, 4, 5, 6, 7, 8, 9].as_slice();
+    let is_held = below.left() <= 90 && fails(&memory, 100) && below.has_failed();
+    drop(bytes);
+    is_kept && is_held && below.left() == 100
+}
+
+#[test]
+fn an_allocator_that_wipes_gives_all_back(rt: HostRuntime) {
+    assert!(rt; gives_and_wipes(rt.alloc()));
 }
