@@ -1,14 +1,12 @@
-//! Tests of the printers of the crate `kmip_ttlv` on messages, malformed bytes and diagnostics, and of the
-//! program `hex_to_txt`, with each allocation failing in turn; and of walks over items and tables of
-//! names.
+//! Tests of the printers of the crate `kmip_ttlv` on long and cut messages and diagnostics, and of the program `hex_to_txt`, with
+//! each allocation failing in turn; and of walks over items and tables of names. What is printed of messages, and read back of
+//! diagnostics, are tests that are data (crates/vectors).
 #![tactic(auto)]
 
 #[cfg(test)]
 mod diagnostics;
 #[cfg(test)]
 mod growing;
-#[cfg(test)]
-mod item_faults;
 #[cfg(test)]
 mod item_names;
 #[cfg(test)]

@@ -1,0 +1,81 @@
+//! What a file of tests holds. A value that a test doesn't have is not tried.
+
+use serde::Deserialize;
+
+/// A file: what it is about, where the expected values come from, and its tests, by what they begin with.
+#[derive(Drop, Deserialize)]
+#[serde(deny_unknown_fields)]
+pub struct File {
+    pub description: String,
+    pub source: String,
+    #[serde(default)]
+    pub messages: Vec<Message>,
+    #[serde(default)]
+    pub diagnostics: Vec<Diagnostic>,
+    #[serde(default)]
+    pub jsons: Vec<Json>,
+}
+
+/// The bytes of a message, in hexadecimal, and what is made of them.
+#[derive(Drop, Deserialize)]
+#[serde(deny_unknown_fields)]
+pub struct Message {
+    pub name: String,
+    pub comment: String,
+    pub bytes: String,
+    /// Why they are not one whole message, unless they are.
+    pub fault: Option<Fault>,
+    /// How many items stand before the fault, or at all.
+    pub items: Option<u64>,
+    /// The readable text, and that with closed empty structures.
+    pub text: Option<String>,
+    pub closed_text: Option<String>,
+    #[serde(default)]
+    pub diagnostics: Vec<Shown>,
+    /// The JSON, and that with hidden values.
+    pub json: Option<String>,
+    pub hidden_json: Option<String>,
+    /// The bytes that the JSON is read back as.
+    pub canonical: Option<String>,
+}
+
+/// The first fault, and the offset of its item.
+#[derive(Drop, Deserialize)]
+#[serde(deny_unknown_fields)]
+pub struct Fault {
+    pub kind: String,
+    pub offset: u64,
+}
+
+/// A diagnostic without this prefix of tags, in which empty structures are closed or stay open, and how many items the
+/// printer tries to read.
+#[derive(Drop, Deserialize)]
+#[serde(deny_unknown_fields)]
+pub struct Shown {
+    pub prefix: String,
+    pub closed: bool,
+    pub text: String,
+    pub read: u64,
+}
+
+/// A diagnostic without this prefix of tags, and the lines that it is read back as.
+#[derive(Drop, Deserialize)]
+#[serde(deny_unknown_fields)]
+pub struct Diagnostic {
+    pub name: String,
+    pub comment: String,
+    pub prefix: String,
+    pub diagnostic: String,
+    pub lines: String,
+}
+
+/// JSON, and the message that it is read back as, in hexadecimal, or what is wrong with it.
+#[derive(Drop, Deserialize)]
+#[serde(deny_unknown_fields)]
+pub struct Json {
+    pub name: String,
+    pub comment: String,
+    pub json: String,
+    pub bytes: Option<String>,
+    pub error: Option<String>,
+}
