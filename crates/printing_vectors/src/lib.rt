@@ -6,6 +6,8 @@
 #[cfg(test)]
 mod checked;
 #[cfg(test)]
+mod costs;
+#[cfg(test)]
 mod diagnostics;
 #[cfg(test)]
 mod growing;
@@ -23,6 +25,8 @@ mod program;
 mod program_faults;
 #[cfg(test)]
 mod reading_back;
+#[cfg(test)]
+mod sizes;
 #[cfg(test)]
 mod texts;
 #[cfg(test)]
