@@ -37,7 +37,7 @@ const KEY_MATERIAL: Look = Look {
     ..Look::PLAIN
 };
 
-const ROWS: [Row; 7] = [
+const ROWS: [Row; 8] = [
     (
         OFFSETS,
         VERSION,
@@ -72,6 +72,12 @@ const ROWS: [Row; 7] = [
         WIDTH,
         "42009101000000284200430800000004010203AB000000004200430800000005010203AB050000004200430800000000",
         "Tag: Template-Attribute (0x420091), Type: Structure (0x01), Data:\n  Tag: Key Material (0x420043), Type: ByteString (0x08), Data: 010203AB\n  Tag: Key Material (0x420043), Type: ByteString (0x08), Data: 010203AB.. (5 bytes)\n  Tag: Key Material (0x420043), Type: ByteString (0x08), Data: \n",
+    ),
+    // A key whose numbers stand behind a Key Material of no length, and behind the Key Value around that.
+    (
+        SECRETS,
+        "420040010000005042004205000000040000000A00000000420045010000000842004301000000004200630400000008000000000000001142005E0400000008000000000000000D42003F08000000030102030000000000",
+        "Tag: Key Block (0x420040), Type: Structure (0x01), Data:\n  Tag: Key Format Type (0x420042), Type: Enumeration (0x05), Data: 0x00000A (10) Transparent RSA Private Key\n  Tag: Key Value (0x420045), Type: Structure (0x01), Data:\n    Tag: Key Material (0x420043), Type: Structure (0x01), Data:\n  Tag: Private Exponent (0x420063), Type: BigInteger (0x04), Data: <redacted>\n  Tag: P (0x42005E), Type: BigInteger (0x04), Data: <redacted>\n  Tag: Key (0x42003F), Type: ByteString (0x08), Data: <redacted>\n",
     ),
     // All values in a key, beside it in its Key Value, and in a credential are hidden.
     (
