@@ -104,7 +104,8 @@ module _ {M : Type 1} {𝓤 : Ura M} (𝓛 : Logic 𝓤) (at_mem : Memory → SP
     exits : ent 𝓤 (els b o (replicate n nought)) (Post vunit)
     exits =
         qed 𝓛 (raw (els b o (replicate n nought)) ∷ []) ∵
-        use1 𝓛 (‵ (fat full_share (ty_array τ (length (replicate n nought))) b o (array_val (replicate n nought)))) (𝓛.laws.elems_at full_share τ b o (replicate n nought)) $
+        use1 𝓛 (‵ (fat full_share (ty_array τ (length (replicate n nought))) b o (array_val (replicate n nought))))
+        (𝓛.laws.elems_at full_share τ b o (replicate n nought)) $
         rewrite ! 0 (λ (k : ℕ). ‵ (fat full_share (ty_array τ k) b o (array_val (replicate n nought)))) (counted n) refl $
         suffices ! _ (ends_at 𝓛 W.ended stayed held (bound (block_ptr b o) n) vunit tt (tt, (tt, tt)) (tt, (tt, tt))) $
         feq_i ! (List Val) (vunit ∷ []) (vunit ∷ []) refl $ nothing ! $ nothing ! $ fjoin ! $ nothing ! $ fjoin ! $ join ! $ nothing ! $ join ! $ done !
@@ -119,7 +120,8 @@ module _ {M : Type 1} {𝓤 : Ura M} (𝓛 : Logic 𝓤) (at_mem : Memory → SP
           ∷ holding 𝓛 En ((1, vptr b o) ∷ (2, vint w64 n) ∷ (3, vint w64 t.0) ∷ [])
 
       abbrev Turned : Left → Out → SProp 𝓤
-      Turned t = after_turn 𝓤 H (Below 𝓛 Nearer Now t) (after_block 𝓤 H (after_seq 𝓤 H (Wp 𝓤 H 𝓣.C 𝓣.Λ En rest (at_return 𝓤 H En Post)) (at_return 𝓤 H En Post)))
+      Turned t = after_turn 𝓤 H (Below 𝓛 Nearer Now t)
+          (after_block 𝓤 H (after_seq 𝓤 H (Wp 𝓤 H 𝓣.C 𝓣.Λ En rest (at_return 𝓤 H En Post)) (at_return 𝓤 H En Post)))
 
       turns : (t : Left) → Sq 𝓛 (Now t) (runs 𝓣.C 𝓣.Λ En turn (any_q (Turned t)))
       unfolding after_turn
@@ -143,7 +145,8 @@ module _ {M : Type 1} {𝓤 : Ura M} (𝓛 : Logic 𝓤) (at_mem : Memory → SP
           rewrite ! 0 (λ (k : ℕ). ‵ (fat full_share τ b k nought)) (sym here) refl $ move ! (2 ∷ 0 ∷ []) $
           use2 𝓛 (raw (els b o (replicate (suc i) nought))) (grows b o i) $ move ! (1 ∷ 0 ∷ []) $
           rewrite ! 0 (λ (k : ℕ). ‵ (froom (ty_array τ (n - suc i)) b k)) next refl $
-          forget_but ! En (1 ∷ 2 ∷ 3 ∷ []) refl $ take_at ! 3 $ rewrite ! 0 (λ (k : ℕ). ‵ (fat full_share (ty_int w64) (l 3) zero (vint w64 k))) (one_more i) refl $
+          forget_but ! En (1 ∷ 2 ∷ 3 ∷ []) refl $ take_at ! 3 $
+          rewrite ! 0 (λ (k : ℕ). ‵ (fat full_share (ty_int w64) (l 3) zero (vint w64 k))) (one_more i) refl $
           give_at ! 3 $
           again ! Nearer Now t (suc i, omega arith) (omega arith))
           (λ over.
@@ -165,7 +168,8 @@ module _ {M : Type 1} {𝓤 : Ura M} (𝓛 : Logic 𝓤) (at_mem : Memory → SP
 
   each : (p : Ptr) (n : ℕ) → n < 2 ^ 64 → ent 𝓤 ((walk_of 𝓛 W.ended stayed held).pre (bound p n)) (Goes p n)
   each (block_ptr b o) n fn =
-      qed 𝓛 ((‵ ftrue ⊛ ‵ (owns (RawPtr ∷ usize ∷ []) (block_ptr b o, (n, tt)) (bound (block_ptr b o) n).0.4)) ∷ ‵ (room_at (Array u8 n) (block_ptr b o)) ∷ []) ∵
+      qed 𝓛 ((‵ ftrue ⊛ ‵ (owns (RawPtr ∷ usize ∷ []) (block_ptr b o, (n, tt)) (bound (block_ptr b o) n).0.4))
+      ∷ ‵ (room_at (Array u8 n) (block_ptr b o)) ∷ []) ∵
       keep ! (1 ∷ []) $ by ! (runs_by b o n fn)
   each null_ptr n fn =
       qed 𝓛 ((‵ ftrue ⊛ ‵ (owns (RawPtr ∷ usize ∷ []) (null_ptr, (n, tt)) (bound null_ptr n).0.4)) ∷ ‵ (room_at (Array u8 n) null_ptr) ∷ []) ∵
