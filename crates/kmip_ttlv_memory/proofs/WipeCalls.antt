@@ -13,7 +13,8 @@ use prog.Align.{dv_one}
 use prog.Routine.{Routine}
 use types.Logic.{Logic, sem}
 use contract.Monad.{Fun}
-use types.Kit.{‵, raw, ◌⊛◌, some, later, ◌$◌, ◌∵◌, !, qed, by, move, keep, drop, use1, use2, split, join, pick, frame, assume, rewrite, fjoin, feq_i, flt_i, feq_l}
+use types.Kit.{‵, raw, ◌⊛◌, some, later, ◌$◌, ◌∵◌, !, qed, by, move, keep}
+use types.Kit.{drop, use1, use2, split, join, pick, frame, assume, rewrite, fjoin, feq_i, flt_i, feq_l}
 use types.Kit.{check, await, updating, now as at_once, done}
 use denote.Array.{array_val}
 use denote.Builtin.{unit}

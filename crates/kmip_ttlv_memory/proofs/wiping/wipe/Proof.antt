@@ -85,7 +85,8 @@ module _ {M : Type 1} {𝓤 : Ura M} (𝓛 : Logic 𝓤) (at_mem : Memory → SP
   grows : (b o i : ℕ) → ent 𝓤 (sep 𝓤 (els b o (replicate i nought)) (H.at full_share τ b (o + i) nought)) (els b o (replicate (suc i) nought))
   grows b o zero =
       let e : o + 0 ≡ o = omega arith in
-      qed 𝓛 (‵ ftrue ∷ ‵ (fat full_share τ b (o + 0) nought) ∷ []) ∵ rewrite ! 1 (λ (k : ℕ). ‵ (fat full_share τ b k nought)) e refl $ move ! (1 ∷ 0 ∷ []) $ done !
+      qed 𝓛 (‵ ftrue ∷ ‵ (fat full_share τ b (o + 0) nought) ∷ []) ∵ rewrite ! 1 (λ (k : ℕ). ‵ (fat full_share τ b k nought)) e refl $
+      move ! (1 ∷ 0 ∷ []) $ done !
   grows b o (suc i) =
       let e : o + suc i ≡ o + 1 + i = omega arith in
       qed 𝓛 ((‵ (fat full_share τ b o nought) ⊛ raw (els b (o + 1) (replicate i nought))) ∷ ‵ (fat full_share τ b (o + suc i) nought) ∷ []) ∵
