@@ -14,7 +14,7 @@ pub mod de;
 pub mod shape;
 
 pub use kmip_ttlv_base::{error, parts, types, visit};
-pub use kmip_ttlv_de::{ByShape, Decode, Deserialize, from_slice};
+pub use kmip_ttlv_de::{ByShape, Decode, Deserialize, from_slice, from_slice_by_shape};
 pub use kmip_ttlv_items as items;
 pub use kmip_ttlv_laws as laws;
 pub use kmip_ttlv_memory as memory;

@@ -10,8 +10,8 @@
 ghost use Rattle.std.specs.Prelude.{◌≡◌, ◌+◌, ◌≤◌, ◌++◌, List, ℕ, length, IfOk, IfErr};
 ghost use Rattle.kmip_ttlv_types.specs.Items.{Raw, Splits};
 ghost use Rattle.kmip_ttlv_types.specs.Places.{ItemsAt};
-ghost use Rattle.kmip_ttlv_base.specs.Values.{Value};
-ghost use Rattle.kmip_ttlv_base.specs.Forms.{Form};
+ghost use Rattle.kmip_ttlv_base.specs.Values.{Value, view};
+ghost use Rattle.kmip_ttlv_base.specs.Forms.{Form, form_of};
 ghost use Rattle.kmip_ttlv_base.specs.Gives.{Gives};
 ghost use Rattle.kmip_ttlv_reader.specs.TagValues.{TagValue};
 ghost use Rattle.kmip_ttlv_reader.specs.Reads.{Reads, Begins};
@@ -32,8 +32,10 @@ mod rows;
 mod variant;
 
 pub use crate::deserialize::{ByShape, Decode, Deserialize};
+use crate::root::read_root;
 pub use crate::rows::small_messages;
 use kmip_ttlv_base::error::Result;
+use kmip_ttlv_base::shape::{Data, Shape};
 use std::alloc::Allocator;
 
 /// The value with which the bytes begin: one Structure, padding included, by the form of `T`
@@ -84,6 +86,32 @@ pub fn from_slice<T: Decode<A>, A: Allocator + Copy>(alloc: A, bytes: &[u8]) -> 
     ensures whole { IfErr result (λ e. BeginsWhole bytes.now → sort_of e ≡ early_end → ⊥) }
 {
     T::decode(alloc, bytes)
+}
+
+/// The data with which the bytes begin, by a shape that may be made at run time: one Structure, padding included
+/// (KMIP 1.0, section 9.1). Bytes after that item are not read. It has the errors of `from_slice`.
+///
+/// ```
+/// let mut fields = Vec::new(alloc);
+/// fields.push(FieldShape { name: "0xBBBBBB", shape: Shape::I32 })?;
+/// let shape = Shape::Struct { name: "0xAAAAAA", fields, deny_unknown: false };
+/// let data = from_slice_by_shape(alloc, &shape, bytes)?; // Data::Struct { .. }
+/// ```
+pub fn from_slice_by_shape<A: Allocator + Copy>(
+    alloc: A,
+    shape: &Shape<A>,
+    bytes: &[u8],
+) -> Result<Data<A>, A>
+    // Which data comes, or which error and where: unless memory runs out, what the shape reads the bytes as.
+    ensures equals { IsReadAs (λ v d. v ≡ view d) (root_outcome (form_of shape.now) bytes.now) result }
+    // The bytes begin with what is returned.
+    ensures found { IfOk result (λ d. Begins (form_of shape.now) bytes.now (view d)) }
+    // Bytes with an error begin with no data; but for an early end, whatever bytes follow.
+    ensures refused { IfErr result (λ e. ErrorStands (form_of shape.now) bytes.now e) }
+    // A Structure that is split into items at every depth never ends too early.
+    ensures whole { IfErr result (λ e. BeginsWhole bytes.now → sort_of e ≡ early_end → ⊥) }
+{
+    read_root(alloc, shape, bytes)
 }
 
 /// What a form reads by its rules, that comes of the bytes, and nothing else.

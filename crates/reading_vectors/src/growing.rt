@@ -4,8 +4,10 @@ use crate::answer::{Single, answer};
 use crate::reading::Reading;
 use crate::response::{RESPONSE, Response};
 use kmip_ttlv::error::{Error, ErrorKind};
-use kmip_ttlv::from_slice;
+use kmip_ttlv::shape::Data;
+use kmip_ttlv::{from_slice, from_slice_by_shape};
 use kmip_ttlv_memory::BoundedAllocator;
+use sample_shapes::parts::Part;
 use std::alloc::{AllocError, Allocator, Global};
 use std::test::Fail;
 
@@ -48,6 +50,35 @@ fn a_response_that_is_read_grows(rt: HostRuntime) -> Result<(), Fail> {
             before,
         );
         assert!(rt; is_whole || has_failed && is_short, "at {before}");
+        if !has_failed {
+            return Ok(());
+        }
+    }
+    Err(Fail::new("it grows without end"))
+}
+
+// What the response is read as by its shape, which takes its memory here too.
+fn read_by_shape<A: Allocator + Copy>(alloc: A, bytes: &[u8]) -> Result<Data<A>, Error<A>> {
+    let shape = Response::shape(alloc)?;
+    from_slice_by_shape(alloc, &shape, bytes)
+}
+
+// The same as `response_after` by the shape; of data only that it is a struct.
+fn by_shape_after(alloc: Global, bytes: &[u8], before: u64) -> (bool, bool, bool) {
+    let heap = BoundedAllocator::failing_after(alloc, before);
+    let (is_read, is_short) = match &read_by_shape(&heap, bytes) {
+        Ok(data) => (matches!(data, Data::Struct { .. }), false),
+        Err(error) => (false, is_memory(error)),
+    };
+    (is_read, is_short, heap.has_failed())
+}
+
+#[test]
+fn data_that_is_read_by_a_shape_grows(rt: HostRuntime) -> Result<(), Fail> {
+    let bytes = hex::decode(rt.alloc(), RESPONSE)?;
+    for before in 0..1000u64 {
+        let (is_read, is_short, has_failed) = by_shape_after(rt.alloc(), bytes.as_slice(), before);
+        assert!(rt; is_read || has_failed && is_short, "at {before}");
         if !has_failed {
             return Ok(());
         }
