@@ -173,7 +173,8 @@ def main(words):
     for path in sorted(glob.glob(f"{os.path.dirname(os.path.abspath(__file__))}/data/*.json")):
         with open(path, encoding="utf-8") as it:
             held = json.load(it)
-        for tests in (held.get(it, []) for it in ("messages", "diagnostics", "jsons")):
+        decodings = [test for group in held.get("decodings", []) for test in group["tests"]]
+        for tests in (*(held.get(it, []) for it in ("messages", "diagnostics", "jsons", "encodings")), decodings):
             names = [it["name"] for it in tests]
             for name in {it for it in names if names.count(it) > 1}:
                 print(f"{os.path.basename(path)}: {name}: two tests have this name")

@@ -45,29 +45,3 @@ pub fn compare(found: &str, message: &str, wanted: &str) -> Result<(), Fail> {
     }
     Err(Fail::new(format_args!("{message}: {found}")))
 }
-
-/// Fails unless the message is answered as is wanted.
-pub fn check<P: Part>(alloc: Global, message: &str, wanted: &str) -> Result<(), Fail> {
-    let found = answer::<P>(alloc, message)?;
-    compare(found.as_str(), message, wanted)
-}
-
-/// Fails unless the message is an error at this place, for another cause, which is said in words of
-/// our own.
-pub fn check_place<P: Part>(alloc: Global, message: &str, place: &str) -> Result<(), Fail> {
-    let found = answer::<P>(alloc, message)?;
-    let text = found.as_str();
-    if text.starts_with("SerdeError(Other(") && text.ends_with(place) {
-        return Ok(());
-    }
-    Err(Fail::new(format_args!("{message}: {found}")))
-}
-
-/// Fails unless each message is answered as the text beside it says.
-pub fn check_rows<P: Part>(alloc: Global, rows: &[(&str, &str)]) -> Result<(), Fail> {
-    for row in rows {
-        let (message, wanted) = *row;
-        check::<P>(alloc, message, wanted)?;
-    }
-    Ok(())
-}

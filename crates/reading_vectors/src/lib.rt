@@ -1,5 +1,5 @@
-//! What bytes are read as by shapes made by hand, and which errors they are, as tests of the crate
-//! `kmip_ttlv`.
+//! Tests of reading that no data can say: of long messages, of types that read themselves, of readers, and of memory that runs out.
+//! (What bytes are read as by a shape is tested by the data of the program `vectors`.)
 //!
 //! A shape is put together from the types of `sample_shapes`. `Reading` reads by such a shape, and keeps the data that was read
 //! as text; `Run` keeps of a sequence its length. In `streams`, and the modules whose names begin so, a message comes from a reader.
@@ -10,25 +10,13 @@ mod answer;
 #[cfg(test)]
 mod costs;
 #[cfg(test)]
-mod cuts;
-#[cfg(test)]
-mod enums;
-#[cfg(test)]
 mod growing;
 #[cfg(test)]
-mod kinds;
-#[cfg(test)]
-mod leaves;
-#[cfg(test)]
 mod many;
-#[cfg(test)]
-mod nested;
 #[cfg(test)]
 mod reading;
 #[cfg(test)]
 mod response;
-#[cfg(test)]
-mod roots;
 pub mod selves;
 #[cfg(test)]
 mod selves_kinds;

@@ -1,6 +1,5 @@
 //! The response to a request that created a key (KMIP 1.0, section 4.1).
 
-use crate::answer::check;
 use sample_shapes::names::{
     BatchCount, BatchItem, MajorVersion, MinorVersion, ObjectType, One, Operation, ProtocolVersion,
     ResponseHeader, ResponseMessage, ResponsePayload, ResultStatus, TimeStamp, Two,
@@ -9,7 +8,6 @@ use sample_shapes::names::{
 use sample_shapes::parts::{
     Choice, LongNumber, NoContent, Number, OneVariant, Structure, Text, ThreeFields, TwoFields,
 };
-use std::test::Fail;
 
 type Version = Structure<ProtocolVersion, TwoFields<MajorVersion, Number, MinorVersion, Number>>;
 
@@ -42,21 +40,3 @@ pub type Response = Structure<ResponseMessage, TwoFields<ResponseHeader, Header,
 
 pub const RESPONSE: &str =
     "42007B01000000C042007A0100000048420069010000002042006A0200000004000000010000000042006B020000000400000000000000004200920900000008000000004AFBE7C242000D0200000004000000010000000042000F010000006842005C0500000004000000010000000042007F0500000004000000000000000042007C010000004042005705000000040000000200000000420094070000002466633838333364652D373064322D346563652D623036332D66656465336133633539666500000000";
-
-#[test]
-fn the_whole_response(rt: HostRuntime) -> Result<(), Fail> {
-    check::<Response>(
-        rt.alloc(),
-        RESPONSE,
-        "Struct { name: \"0x42007B\", fields: [Struct { name: \"0x42007A\", fields: [Struct { name: \"0x420069\", fields: [I32(1), I32(0)] }, I64(1258022850), I32(1)] }, Struct { name: \"0x42000F\", fields: [UnitVariant { name: \"0x42005C\", variant: \"0x00000001\" }, UnitVariant { name: \"0x42007F\", variant: \"0x00000000\" }, Struct { name: \"0x42007C\", fields: [UnitVariant { name: \"0x420057\", variant: \"0x00000002\" }, Text(\"fc8833de-70d2-4ece-b063-fede3a3c59fe\")] }] }] }",
-    )
-}
-
-#[test]
-fn the_response_cut_anywhere(rt: HostRuntime) -> Result<(), Fail> {
-    for count in 0..200usize {
-        let text = RESPONSE.get(..2 * count).unwrap_or(RESPONSE);
-        check::<Response>(rt.alloc(), text, "UnexpectedEof")?;
-    }
-    Ok(())
-}

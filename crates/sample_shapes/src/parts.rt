@@ -2,7 +2,7 @@
 
 ghost use Rattle.std.specs.Prelude.{◌≡◌, List, ℕ, IfOk};
 ghost use Rattle.kmip_ttlv.specs.Forms.{Form, struct, option, seq, newtype, enum, int32, int64, boolean, text, octets};
-ghost use Rattle.kmip_ttlv.specs.Forms.{date_time, interval, big_integer, any_number, Fields, no_fields, field, Variants, no_variants};
+ghost use Rattle.kmip_ttlv.specs.Forms.{interval, big_integer, any_number, Fields, no_fields, field, Variants, no_variants};
 ghost use Rattle.kmip_ttlv.specs.Forms.{variant, Content, unit, wrapped, tuple, Forms, no_forms, form, form_of};
 ghost use Rattle.kmip_ttlv.specs.Forms.{forms_of, content_of, fields_of, variants_of};
 ghost use Rattle.sample_shapes.specs.ManyFields.{many};
@@ -123,17 +123,6 @@ impl Part for Octets {
 
     fn shape<A: Allocator + Copy>(_alloc: A) -> Result<Shape<A>, AllocError> {
         Ok(Shape::Bytes)
-    }
-}
-
-/// A date.
-pub struct Date;
-
-impl Part for Date {
-    ghost part = { date_time };
-
-    fn shape<A: Allocator + Copy>(_alloc: A) -> Result<Shape<A>, AllocError> {
-        Ok(Shape::DateTime)
     }
 }
 
@@ -346,15 +335,6 @@ impl<L: PartList> Contained for Tuple<L> {
         Ok(VariantContent::Tuple(shapes))
     }
 }
-
-/// One number.
-pub type OneNumber = Tuple<Parts<Number, NoParts>>;
-
-/// Two numbers.
-pub type TwoNumbers = Tuple<Parts<Number, Parts<Number, NoParts>>>;
-
-/// Three numbers.
-pub type ThreeNumbers = Tuple<Parts<Number, Parts<Number, Parts<Number, NoParts>>>>;
 
 /// An enum of this name.
 pub struct Choice<N, L>(PhantomData<N>, PhantomData<L>);

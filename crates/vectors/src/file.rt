@@ -1,5 +1,7 @@
 //! What a file of tests holds. A value that a test doesn't have is not tried.
 
+use crate::decoding::Decodings;
+use crate::encoding::Encoding;
 use serde::Deserialize;
 
 /// A file: what it is about, where the expected values come from, and its tests, by what they begin with.
@@ -14,6 +16,10 @@ pub struct File {
     pub diagnostics: Vec<Diagnostic>,
     #[serde(default)]
     pub jsons: Vec<Json>,
+    #[serde(default)]
+    pub decodings: Vec<Decodings>,
+    #[serde(default)]
+    pub encodings: Vec<Encoding>,
 }
 
 /// The bytes of a message, in hexadecimal, and what is made of them.

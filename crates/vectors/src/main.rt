@@ -1,14 +1,22 @@
 //! Runs tests that are data: each file that an argument names holds messages, diagnostics and JSON, with what the library is to make
 //! of them (docs/VECTORS.md). Prints a line for each value that differs, and a count for each file; the status is 1 if one differs.
 //!
-//! `file` is what a file holds, `messages` and `readings` try its tests, and `tally` counts and prints.
+//! `file` is what a file holds, `messages`, `readings`, `decoding` and `encoding` try its tests, and `tally` counts and prints. `shapes`,
+//! `values` and `errors` are what those of decoding and encoding are made of.
 #![tactic(auto)]
 
+mod decoding;
+mod encoding;
+mod errors;
 mod file;
 mod messages;
 mod readings;
+mod shapes;
 mod tally;
+mod values;
 
+use crate::decoding::try_decodings;
+use crate::encoding::try_encoding;
 use crate::file::File;
 use crate::messages::try_message;
 use crate::readings::{try_diagnostic, try_json};
@@ -26,6 +34,12 @@ fn try_all(tally: &mut Tally<'_>, file: &File) -> io::Result<()> {
     }
     for json in &file.jsons {
         try_json(tally, json)?;
+    }
+    for decodings in &file.decodings {
+        try_decodings(tally, decodings)?;
+    }
+    for encoding in &file.encodings {
+        try_encoding(tally, encoding)?;
     }
     Ok(())
 }
