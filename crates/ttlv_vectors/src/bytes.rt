@@ -1,7 +1,7 @@
 //! Bytes of parts, in hexadecimal, as KMIP 1.0, section 9.1 has them.
 
+use hex::FromHexError;
 use std::alloc::Global;
-use std::test::Fail;
 
 /// Numbers: -2, and the greatest of 64 bits.
 pub const NUMBERS: &str =
@@ -63,10 +63,10 @@ pub const WHOLE: &str = "54006001000001A8";
 pub const SMALL: &str = "54006001000000E0";
 
 /// The bytes of texts in hexadecimal, one after the other.
-pub fn joined(alloc: Global, texts: &[&str]) -> Result<Vec<u8>, Fail> {
+pub fn joined(alloc: Global, texts: &[&str]) -> Result<Vec<u8>, FromHexError> {
     let mut text = String::new(alloc);
     for one in texts {
         text.push_str(one)?;
     }
-    Ok(hex::decode(alloc, text.as_str())?)
+    hex::decode(alloc, text.as_str())
 }

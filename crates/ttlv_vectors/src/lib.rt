@@ -33,9 +33,7 @@ pub mod numbers;
 #[cfg(test)]
 mod object_rereads;
 #[cfg(test)]
-mod parts_read;
-#[cfg(test)]
-mod parts_written;
+mod parts;
 #[cfg(test)]
 mod queries;
 pub mod query;

@@ -1,8 +1,10 @@
-//! Values nested deep, and long sequences, by every call that writes.
+//! A value that is nested deep, by every call that writes.
 
 use crate::data::tagged_number;
-use crate::writing::writes;
-use kmip_ttlv::shape::Data;
+use crate::low_level::are_bytes;
+use kmip_ttlv::ser::TtlvSerializer;
+use kmip_ttlv::shape::{Data, Serialize};
+use kmip_ttlv::{to_vec, to_writer};
 use std::alloc::{AllocError, Global};
 use std::test::Fail;
 
@@ -32,36 +34,27 @@ fn nested_text(alloc: Global, depth: u32) -> Result<String, Fail> {
     Ok(text)
 }
 
+// Whether the data is written as these bytes, in hexadecimal: by a serializer, by itself, and to a writer.
+fn is_written(alloc: Global, data: &Data, text: &str) -> bool {
+    let mut serializer = TtlvSerializer::new(alloc);
+    let mut writer = Vec::new(alloc);
+    serializer.serialize(data).is_ok()
+        && matches!(&serializer.into_vec(), Ok(bytes) if are_bytes(alloc, bytes, text))
+        && matches!(&to_vec(alloc, data), Ok(bytes) if are_bytes(alloc, bytes, text))
+        && to_writer(alloc, data, &mut writer).is_ok()
+        && are_bytes(alloc, &writer, text)
+}
+
+// Data of what this data tells is the same.
+fn is_made_again(alloc: Global, data: &Data) -> bool {
+    matches!(&data.to_data(alloc), Ok(again) if again == data)
+}
+
 #[test]
 fn values_nested_deep(rt: HostRuntime) -> Result<(), Fail> {
-    for depth in [1, 12, 13, 14, 64] {
-        let text = nested_text(rt.alloc(), depth)?;
-        assert!(rt;
-            writes(rt.alloc(), nested(rt.alloc(), depth), text.as_str()),
-            "{depth}"
-        );
-    }
-    Ok(())
-}
-
-// A sequence of so many numbers in a structure.
-fn numbers(alloc: Global, count: u32) -> Result<Data, AllocError> {
-    let mut elements = Vec::new(alloc);
-    for _ in 0..count {
-        elements.push(tagged_number(alloc, "Transparent:0xAABBCC", 3)?)?;
-    }
-    let mut fields = Vec::new(alloc);
-    fields.push(Data::Seq(elements))?;
-    let name = "0xBBBBBB";
-    Ok(Data::Struct { name, fields })
-}
-
-#[test]
-fn a_sequence_of_a_hundred(rt: HostRuntime) -> Result<(), Fail> {
-    let mut text = String::from_str(rt.alloc(), "BBBBBB0100000640")?;
-    for _ in 0..100 {
-        text.push_str(LEAF)?;
-    }
-    assert!(rt; writes(rt.alloc(), numbers(rt.alloc(), 100), text.as_str()));
+    let text = nested_text(rt.alloc(), 64)?;
+    let data = nested(rt.alloc(), 64)?;
+    let is_right = is_written(rt.alloc(), &data, text.as_str()) && is_made_again(rt.alloc(), &data);
+    assert!(rt; is_right);
     Ok(())
 }
