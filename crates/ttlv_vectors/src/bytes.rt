@@ -1,6 +1,10 @@
-//! Bytes of parts, in hexadecimal, as KMIP 1.0, section 9.1 has them.
+//! Bytes of parts, in hexadecimal, as KMIP 1.0, section 9.1 has them; and whether a value is written as bytes, and read of them.
 
 use hex::FromHexError;
+use kmip_ttlv::error::Result;
+use kmip_ttlv::reader::{ReadStructure, read_message};
+use kmip_ttlv::shape::Serialize;
+use kmip_ttlv::to_vec;
 use std::alloc::Global;
 
 /// Numbers: -2, and the greatest of 64 bits.
@@ -63,10 +67,34 @@ pub const WHOLE: &str = "54006001000001A8";
 pub const SMALL: &str = "54006001000000E0";
 
 /// The bytes of texts in hexadecimal, one after the other.
-pub fn joined(alloc: Global, texts: &[&str]) -> Result<Vec<u8>, FromHexError> {
+pub fn joined(alloc: Global, texts: &[&str]) -> std::result::Result<Vec<u8>, FromHexError> {
     let mut text = String::new(alloc);
     for one in texts {
         text.push_str(one)?;
     }
     hex::decode(alloc, text.as_str())
+}
+
+/// Whether a value is written as these bytes.
+pub fn is_written<T: Serialize>(alloc: Global, value: &T, bytes: &[u8]) -> bool {
+    matches!(&to_vec(alloc, value), Ok(found) if found.as_slice() == bytes)
+}
+
+/// Whether this value is what was read.
+pub fn is_found<T: PartialEq>(found: &Result<T>, value: &T) -> bool {
+    matches!(found, Ok(found) if *found == *value)
+}
+
+/// Whether a part is written as the bytes of texts in hexadecimal, and read of them.
+pub fn is_both_ways<T: Serialize + ReadStructure<Global> + PartialEq + Drop>(
+    alloc: Global,
+    value: &T,
+    texts: &[&str],
+) -> bool {
+    match &joined(alloc, texts) {
+        Ok(bytes) => {
+            is_written(alloc, value, bytes) && is_found(&read_message(alloc, bytes), value)
+        }
+        Err(_) => false,
+    }
 }

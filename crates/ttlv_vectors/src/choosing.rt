@@ -4,7 +4,6 @@ use crate::chosen::{Chosen, Count, Line, Named, Said, Word};
 use crate::rereads::{comes_back, decoded};
 use kmip_ttlv::laws::{Sound, reread};
 use std::alloc::Global;
-use std::test::Fail;
 
 // Messages, made of items by hand.
 const MESSAGES: [(&str, &str); 4] = [
@@ -31,17 +30,20 @@ const NOTHING_CHOSEN: &str =
     "54007401000000305400700700000005506C6163650000005400710200000004000000000000000054007202000000040000000200000000";
 
 #[test]
-fn choices_come_back(rt: HostRuntime) -> Result<(), Fail> {
+fn choices_come_back(rt: HostRuntime) {
     for (what, digits) in MESSAGES {
-        assert!(rt; comes_back::<Chosen>(rt.alloc(), digits), "{what}");
+        let is_right = comes_back::<Chosen>(rt.alloc(), digits);
+        assert!(rt; is_right, "{what}");
     }
-    assert!(rt; decoded::<Chosen>(rt.alloc(), NOTHING_CHOSEN).is_none());
-    Ok(())
+    let is_right = decoded::<Chosen>(rt.alloc(), NOTHING_CHOSEN).is_none();
+    assert!(rt; is_right);
 }
 
-// Whether a message with this word and number is sound, and whether it comes back equal.
-fn judged(alloc: Global, word: &str) -> Result<(bool, bool), Fail> {
-    let text = String::from_str(alloc, word)?;
+// Whether a message with this word and a number is sound and comes back equal, or neither.
+fn is_judged(alloc: Global, word: &str, wanted: bool) -> bool {
+    let Ok(text) = String::from_str(alloc, word) else {
+        return false;
+    };
     let message = Chosen {
         word: Word { text },
         said: Said::Line(Line {
@@ -51,16 +53,14 @@ fn judged(alloc: Global, word: &str) -> Result<(bool, bool), Fail> {
         more: None,
         places: Vec::new(alloc),
     };
-    let is_back = match reread(alloc, &message) {
-        Ok(other) => message == other,
-        Err(_) => false,
-    };
-    Ok((message.is_sound(), is_back))
+    let is_back = matches!(&reread(alloc, &message), Ok(other) if message == *other);
+    message.is_sound() == wanted && is_back == wanted
 }
 
 #[test]
-fn the_word_chooses(rt: HostRuntime) -> Result<(), Fail> {
-    assert!(rt; judged(rt.alloc(), "Number")? == (true, true));
-    assert!(rt; judged(rt.alloc(), "Label")? == (false, false));
-    Ok(())
+fn the_word_chooses(rt: HostRuntime) {
+    for (word, wanted) in [("Number", true), ("Label", false)] {
+        let is_right = is_judged(rt.alloc(), word, wanted);
+        assert!(rt; is_right, "{word}");
+    }
 }

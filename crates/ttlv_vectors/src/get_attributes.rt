@@ -10,7 +10,6 @@ use kmip_ttlv::shape::Serialize;
 use kmip_ttlv::to_vec;
 use kmip_ttlv::visit::Visitor;
 use std::alloc::{AllocError, Global};
-use std::test::Fail;
 
 /// What names an object that the server keeps.
 #[derive(Clone, Copy, Debug)]
@@ -85,22 +84,38 @@ fn asks(
     }
 }
 
+// What is asked for, and its bytes, in hexadecimal.
+const ASKED: [(Option<&str>, &[AttributeName<'static>], &str); 4] = [
+    (
+        Some("49a1ca88"),
+        &NAMES,
+        "420079010000003842009407000000083439613163613838\
+42000A070000000C4F626A6563742047726F75700000000042000A07000000055374617465000000",
+    ),
+    (
+        Some("49a1ca88"),
+        &[],
+        "420079010000001042009407000000083439613163613838",
+    ),
+    (
+        None,
+        &NAMES,
+        "420079010000002842000A070000000C4F626A6563742047726F75700000000042000A07000000055374617465000000",
+    ),
+    (None, &[], "4200790100000000"),
+];
+
+const NAMES: [AttributeName<'static>; 2] = [
+    AttributeName {
+        text: "Object Group",
+    },
+    AttributeName { text: "State" },
+];
+
 #[test]
-fn attributes_are_asked_for(rt: HostRuntime) -> Result<(), Fail> {
-    let names = [
-        AttributeName {
-            text: "Object Group",
-        },
-        AttributeName { text: "State" },
-    ];
-    let identifier = "42009407000000083439613163613838";
-    let named = "42000A070000000C4F626A6563742047726F75700000000042000A07000000055374617465000000";
-    let whole = format!(in rt.alloc(); "4200790100000038{identifier}{named}")?;
-    assert!(rt; asks(rt.alloc(), Some("49a1ca88"), &names, &whole));
-    let all = format!(in rt.alloc(); "4200790100000010{identifier}")?;
-    assert!(rt; asks(rt.alloc(), Some("49a1ca88"), &[], &all));
-    let last_used = format!(in rt.alloc(); "4200790100000028{named}")?;
-    assert!(rt; asks(rt.alloc(), None, &names, &last_used));
-    assert!(rt; asks(rt.alloc(), None, &[], "4200790100000000"));
-    Ok(())
+fn attributes_are_asked_for(rt: HostRuntime) {
+    for (identifier, names, text) in ASKED {
+        let is_right = asks(rt.alloc(), identifier, names, text);
+        assert!(rt; is_right, "{text}");
+    }
 }

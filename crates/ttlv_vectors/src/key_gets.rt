@@ -11,7 +11,7 @@ use kmip_messages::request_payload::RequestPayload;
 use kmip_messages::response::Response;
 use kmip_messages::response_payload::{GetResponse, ResponsePayload};
 use kmip_messages::values::{BlockCipherMode, HashingAlgorithm, KeyRoleType, PaddingMethod};
-use std::test::Fail;
+use std::alloc::Global;
 
 const REQUEST: &str = "420078010000009042007701000000384200690100000020\
 42006A0200000004000000010000000042006B02000000040000000000000000\
@@ -235,21 +235,33 @@ fn is_wrapped(response: &Response) -> bool {
             == [160, 161, 162, 163, 164, 165, 166, 167, 168, 169, 170, 171].as_slice()
 }
 
-#[test]
-fn a_request_there_and_back(rt: HostRuntime) -> Result<(), Fail> {
-    assert!(rt; comes_back::<Request>(rt.alloc(), REQUEST));
-    assert!(rt; is_encoded_again::<Request>(rt.alloc(), REQUEST));
-    let is_it = match decoded::<Request>(rt.alloc(), REQUEST) {
-        Some(request) => gets(&request, IDENTIFIER),
+// Whether the request is read as what it is, comes back, and is no response.
+fn is_the_request(alloc: Global) -> bool {
+    let is_it = match &decoded::<Request>(alloc, REQUEST) {
+        Some(request) => gets(request, IDENTIFIER),
         None => false,
     };
-    assert!(rt; is_it);
-    assert!(rt; decoded::<Response>(rt.alloc(), REQUEST).is_none());
-    Ok(())
+    is_it
+        && comes_back::<Request>(alloc, REQUEST)
+        && is_encoded_again::<Request>(alloc, REQUEST)
+        && decoded::<Response>(alloc, REQUEST).is_none()
 }
 
 #[test]
-fn responses_there_and_back(rt: HostRuntime) -> Result<(), Fail> {
+fn a_request_there_and_back(rt: HostRuntime) {
+    let is_right = is_the_request(rt.alloc());
+    assert!(rt; is_right);
+}
+
+// Whether a response comes back, and is no request.
+fn is_a_response(alloc: Global, digits: &str) -> bool {
+    comes_back::<Response>(alloc, digits)
+        && is_encoded_again::<Response>(alloc, digits)
+        && decoded::<Request>(alloc, digits).is_none()
+}
+
+#[test]
+fn responses_there_and_back(rt: HostRuntime) {
     for digits in [
         RESPONSE,
         WRAPPED,
@@ -257,67 +269,67 @@ fn responses_there_and_back(rt: HostRuntime) -> Result<(), Fail> {
         WITH_ALL_PARAMETERS,
         ENCRYPTED,
     ] {
-        assert!(rt; comes_back::<Response>(rt.alloc(), digits));
-        assert!(rt; is_encoded_again::<Response>(rt.alloc(), digits));
+        let is_right = is_a_response(rt.alloc(), digits);
+        assert!(rt; is_right);
     }
-    assert!(rt; decoded::<Request>(rt.alloc(), RESPONSE).is_none());
-    Ok(())
+}
+
+// Whether the key is read, and what wraps it, or nothing that does.
+fn key_is_read(alloc: Global, digits: &str, has_wrapping: bool) -> bool {
+    match &decoded::<Response>(alloc, digits) {
+        Some(response) => {
+            is_the_key(response, IDENTIFIER)
+                && wrapping(response).is_some() == has_wrapping
+                && is_wrapped(response) == has_wrapping
+        }
+        None => false,
+    }
 }
 
 // A plain key has nothing that wraps it.
 #[test]
-fn keys_are_read(rt: HostRuntime) -> Result<(), Fail> {
+fn keys_are_read(rt: HostRuntime) {
     for (digits, has_wrapping) in [(RESPONSE, false), (WRAPPED, true)] {
-        let is_read = match decoded::<Response>(rt.alloc(), digits) {
-            Some(response) => {
-                is_the_key(&response, IDENTIFIER) && wrapping(&response).is_some() == has_wrapping
-            }
-            None => false,
-        };
-        assert!(rt; is_read);
+        let is_right = key_is_read(rt.alloc(), digits, has_wrapping);
+        assert!(rt; is_right);
     }
-    Ok(())
 }
 
-#[test]
-fn what_wraps_is_read(rt: HostRuntime) -> Result<(), Fail> {
-    let is_read = match decoded::<Response>(rt.alloc(), WRAPPED) {
-        Some(response) => is_wrapped(&response),
+const MODE: WrappingParameters = WrappingParameters {
+    block_cipher_mode: Some(BlockCipherMode::Gcm),
+    padding_method: None,
+    hashing_algorithm: None,
+    key_role_type: None,
+};
+
+const ALL: WrappingParameters = WrappingParameters {
+    block_cipher_mode: Some(BlockCipherMode::Gcm),
+    padding_method: Some(PaddingMethod::Pkcs5),
+    hashing_algorithm: Some(HashingAlgorithm::Sha256),
+    key_role_type: Some(KeyRoleType::Kek),
+};
+
+// Whether the MAC was made with a key that is used so.
+fn has_parameters(alloc: Global, digits: &str, wanted: &WrappingParameters) -> bool {
+    match &decoded::<Response>(alloc, digits) {
+        Some(response) => mac_parameters(response) == Some(*wanted),
         None => false,
-    };
-    assert!(rt; is_read);
-    Ok(())
+    }
 }
 
 #[test]
-fn parameters_are_read(rt: HostRuntime) -> Result<(), Fail> {
-    let mode = WrappingParameters {
-        block_cipher_mode: Some(BlockCipherMode::Gcm),
-        padding_method: None,
-        hashing_algorithm: None,
-        key_role_type: None,
-    };
-    let all = WrappingParameters {
-        block_cipher_mode: Some(BlockCipherMode::Gcm),
-        padding_method: Some(PaddingMethod::Pkcs5),
-        hashing_algorithm: Some(HashingAlgorithm::Sha256),
-        key_role_type: Some(KeyRoleType::Kek),
-    };
-    for (digits, wanted) in [(WITH_PARAMETERS, mode), (WITH_ALL_PARAMETERS, all)] {
-        let found = match decoded::<Response>(rt.alloc(), digits) {
-            Some(response) => mac_parameters(&response),
-            None => None,
-        };
-        assert!(rt; found == Some(wanted));
-    }
-    Ok(())
+fn parameters_are_read(rt: HostRuntime) {
+    let alloc = rt.alloc();
+    let is_right = has_parameters(alloc, WITH_PARAMETERS, &MODE)
+        && has_parameters(alloc, WITH_ALL_PARAMETERS, &ALL);
+    assert!(rt; is_right);
 }
 
 // An item that no part takes would be lost as the message is encoded again.
 #[test]
-fn what_would_be_lost_is_an_error(rt: HostRuntime) -> Result<(), Fail> {
+fn what_would_be_lost_is_an_error(rt: HostRuntime) {
     for digits in [FOLLOWED, FOLLOWED_WITHIN, FOLLOWED_PARAMETERS] {
-        assert!(rt; decoded::<Response>(rt.alloc(), digits).is_none());
+        let is_right = decoded::<Response>(rt.alloc(), digits).is_none();
+        assert!(rt; is_right);
     }
-    Ok(())
 }

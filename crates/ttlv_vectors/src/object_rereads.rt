@@ -11,8 +11,7 @@ use kmip_messages::request_payload::{LocateRequest, RequestPayload};
 use kmip_messages::response::{Response, ResultStatus};
 use kmip_messages::values::{ObjectType, State};
 use kmip_ttlv::laws::{Message, Sound, reread};
-use std::alloc::Global;
-use std::test::Fail;
+use std::alloc::{AllocError, Global};
 
 // Requests.
 const REQUESTS: [(&str, &str); 6] = [
@@ -90,14 +89,15 @@ const NO_OBJECT: &str =
     "42007801000000A04200770100000038420069010000002042006A0200000004000000010000000042006B0200000004000000000000000042000D0200000004000000010000000042000F010000005842005C050000000400000003000000004200790100000040420057050000000400000002000000004200910100000028420008010000002042000A0700000005537461746500000042000B05000000040000000100000000";
 
 #[test]
-fn messages_come_back(rt: HostRuntime) -> Result<(), Fail> {
+fn messages_come_back(rt: HostRuntime) {
     for (what, digits) in REQUESTS {
-        assert!(rt; comes_back::<Request>(rt.alloc(), digits), "{what}");
+        let is_right = comes_back::<Request>(rt.alloc(), digits);
+        assert!(rt; is_right, "{what}");
     }
     for (what, digits) in RESPONSES {
-        assert!(rt; comes_back::<Response>(rt.alloc(), digits), "{what}");
+        let is_right = comes_back::<Response>(rt.alloc(), digits);
+        assert!(rt; is_right, "{what}");
     }
-    Ok(())
 }
 
 // Whether a message is decoded, and is not sound.
@@ -109,16 +109,12 @@ fn is_unsound<T: Message<Global>>(alloc: Global, digits: &str) -> bool {
 }
 
 #[test]
-fn one_object_is_registered(rt: HostRuntime) -> Result<(), Fail> {
-    assert!(rt; is_unsound::<Request>(rt.alloc(), TWO_OBJECTS));
-    assert!(rt; is_unsound::<Request>(rt.alloc(), NO_OBJECT));
-    Ok(())
-}
-
-#[test]
-fn a_payload_has_its_operation(rt: HostRuntime) -> Result<(), Fail> {
-    assert!(rt; is_unsound::<Response>(rt.alloc(), NO_OPERATION));
-    Ok(())
+fn messages_that_are_not_sound(rt: HostRuntime) {
+    let alloc = rt.alloc();
+    let is_right = is_unsound::<Request>(alloc, TWO_OBJECTS)
+        && is_unsound::<Request>(alloc, NO_OBJECT)
+        && is_unsound::<Response>(alloc, NO_OPERATION);
+    assert!(rt; is_right);
 }
 
 // How many items failed, without a payload.
@@ -131,14 +127,19 @@ fn failures(response: &Response) -> usize {
         .count()
 }
 
+// Whether a response has so many such items.
+fn has_failures(alloc: Global, digits: &str, count: usize) -> bool {
+    match &decoded::<Response>(alloc, digits) {
+        Some(response) => failures(response) == count,
+        None => false,
+    }
+}
+
 #[test]
-fn a_failed_item_has_no_payload(rt: HostRuntime) -> Result<(), Fail> {
+fn a_failed_item_has_no_payload(rt: HostRuntime) {
     let (_, digits) = RESPONSES[5];
-    let Some(response) = decoded::<Response>(rt.alloc(), digits) else {
-        return Err(Fail::new("no response"));
-    };
-    assert!(rt; failures(&response) == 1);
-    Ok(())
+    let is_right = has_failures(rt.alloc(), digits, 1);
+    assert!(rt; is_right);
 }
 
 // Whether a key is so many bytes.
@@ -168,19 +169,21 @@ fn registers_a_key(request: &Request) -> bool {
     }
 }
 
+// Whether a request lends a symmetric key, or not.
+fn lends_a_key(alloc: Global, digits: &str, wanted: bool) -> bool {
+    match &decoded::<Request>(alloc, digits) {
+        Some(request) => registers_a_key(request) == wanted,
+        None => false,
+    }
+}
+
 #[test]
-fn the_object_is_lent(rt: HostRuntime) -> Result<(), Fail> {
-    let (_, digits) = REQUESTS[0];
-    let Some(request) = decoded::<Request>(rt.alloc(), digits) else {
-        return Err(Fail::new("no request"));
-    };
-    assert!(rt; registers_a_key(&request));
-    let (_, digits) = REQUESTS[1];
-    let Some(request) = decoded::<Request>(rt.alloc(), digits) else {
-        return Err(Fail::new("no request"));
-    };
-    assert!(rt; !registers_a_key(&request));
-    Ok(())
+fn the_object_is_lent(rt: HostRuntime) {
+    for (place, wanted) in [(0usize, true), (1, false)] {
+        let (_, digits) = REQUESTS[place];
+        let is_right = lends_a_key(rt.alloc(), digits, wanted);
+        assert!(rt; is_right, "{place}");
+    }
 }
 
 // A request of one search, for objects with this attribute.
@@ -189,7 +192,7 @@ fn search(
     operation: Operation,
     name: &str,
     value: AttributeValue,
-) -> Result<Request, Fail> {
+) -> Result<Request, AllocError> {
     let name = String::from_str(alloc, name)?;
     let mut attributes = Vec::new(alloc);
     attributes.push(Attribute {
@@ -208,40 +211,51 @@ fn search(
     Ok(Request { header, items })
 }
 
-// Whether such a search is sound, and whether it comes back equal.
-fn judged(
-    alloc: Global,
-    operation: Operation,
-    name: &str,
-    value: AttributeValue,
-) -> Result<(bool, bool), Fail> {
-    let request = search(alloc, operation, name, value)?;
-    let is_back = match reread(alloc, &request) {
+// Whether a search is sound and comes back equal, or neither.
+fn is_judged(alloc: Global, search: &Result<Request, AllocError>, wanted: bool) -> bool {
+    let Ok(request) = search else {
+        return false;
+    };
+    let is_back = match &reread(alloc, request) {
         Ok(other) => request == other,
         Err(_) => false,
     };
-    Ok((request.is_sound(), is_back))
+    request.is_sound() == wanted && is_back == wanted
+}
+
+// Whether that is so of a search for active objects.
+fn active_is_judged(alloc: Global, operation: Operation, name: &str, wanted: bool) -> bool {
+    let active = AttributeValue::State(State::Active);
+    is_judged(alloc, &search(alloc, operation, name, active), wanted)
 }
 
 #[test]
-fn what_chooses_agrees(rt: HostRuntime) -> Result<(), Fail> {
-    let heap = rt.alloc();
-    let active = AttributeValue::State(State::Active);
-    assert!(rt; judged(heap, Operation::Locate, "State", active)? == (true, true));
-    let active = AttributeValue::State(State::Active);
-    assert!(rt; judged(heap, Operation::Locate, "Object Type", active)? == (false, false));
-    let active = AttributeValue::State(State::Active);
-    assert!(rt; judged(heap, Operation::Query, "State", active)? == (false, false));
-    Ok(())
+fn what_chooses_agrees(rt: HostRuntime) {
+    for (operation, name, wanted) in [
+        (Operation::Locate, "State", true),
+        (Operation::Locate, "Object Type", false),
+        (Operation::Query, "State", false),
+    ] {
+        let is_right = active_is_judged(rt.alloc(), operation, name, wanted);
+        assert!(rt; is_right, "{name}");
+    }
 }
 
 // Encoded as its number, and decoded by its name, to which it is equal.
-#[test]
-fn a_number_with_a_name_comes_back(rt: HostRuntime) -> Result<(), Fail> {
+fn a_number_is_judged(alloc: Global) -> bool {
     let other = AttributeValue::ObjectType(ObjectType::Other(2));
-    assert!(rt; judged(rt.alloc(), Operation::Locate, "Object Type", other)? == (true, true));
+    is_judged(
+        alloc,
+        &search(alloc, Operation::Locate, "Object Type", other),
+        true,
+    )
+}
+
+#[test]
+fn a_number_with_a_name_comes_back(rt: HostRuntime) {
+    let is_right = a_number_is_judged(rt.alloc());
+    assert!(rt; is_right);
     assert!(rt; ObjectType::Other(2) == ObjectType::SymmetricKey);
     assert!(rt; ObjectType::Other(2) != ObjectType::PublicKey);
     assert!(rt; matches!(ObjectType::from_number(2), ObjectType::SymmetricKey));
-    Ok(())
 }

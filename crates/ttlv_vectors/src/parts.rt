@@ -3,44 +3,20 @@
 
 use crate::bytes::{
     CONSTANT, CONTENTS, MANY, MOMENTS, NAMED, NUMBERS, OPTIONAL_CONTENTS, OPTIONAL_NUMBERS, PAIR,
-    REASONS, SECOND, SMALL, TEXT, THREE, WHOLE, joined,
+    REASONS, SECOND, SMALL, TEXT, THREE, WHOLE, is_both_ways, is_found, is_written, joined,
 };
 use crate::choice::Choice;
 use crate::leaves::{Contents, Kind, Moments, Numbers, OptionalContents};
 use crate::message::Every;
 use crate::numbers::{Many, Named, OptionalNumbers, Reasons};
 use kmip_ttlv::error::{ErrorKind, Result};
-use kmip_ttlv::reader::{ReadStructure, read_message};
+use kmip_ttlv::from_slice;
 use kmip_ttlv::shape::{Decode, Serialize};
-use kmip_ttlv::{from_slice, to_vec};
 use kmip_ttlv_memory::BoundedAllocator;
 use std::alloc::{AllocError, Allocator, Global};
 use std::test::Fail;
 
-// Whether a value is written as these bytes.
-fn is_written<T: Serialize>(alloc: Global, value: &T, bytes: &[u8]) -> bool {
-    matches!(&to_vec(alloc, value), Ok(found) if found.as_slice() == bytes)
-}
-
-// Whether this value is what was read.
-fn is_found<T: PartialEq>(found: &Result<T>, value: &T) -> bool {
-    matches!(found, Ok(found) if *found == *value)
-}
-
-// Whether a part is written as these bytes, in hexadecimal, and read of them.
-fn is_both_ways<T: Serialize + ReadStructure<Global> + PartialEq + Drop>(
-    alloc: Global,
-    value: &T,
-    text: &str,
-) -> bool {
-    match &hex::decode(alloc, text) {
-        Ok(bytes) => is_written(alloc, value, bytes)
-            && is_found(&read_message(alloc, bytes), value),
-        Err(_) => false,
-    }
-}
-
-// The same of a message.
+// Whether a message is written as these bytes, in hexadecimal, and read of them.
 fn comes_back<T: Serialize + Decode<Global> + PartialEq>(
     alloc: Global,
     value: &T,
@@ -96,8 +72,8 @@ const LEAVES: Many = Many {
 
 // Parts and messages that own no memory.
 fn numbers_come_back(alloc: Global) -> bool {
-    is_both_ways(alloc, &FULL_NUMBERS, NUMBERS)
-        && is_both_ways(alloc, &FULL_MOMENTS, MOMENTS)
+    is_both_ways(alloc, &FULL_NUMBERS, &[NUMBERS])
+        && is_both_ways(alloc, &FULL_MOMENTS, &[MOMENTS])
         && comes_back(alloc, &ALL_NUMBERS, OPTIONAL_NUMBERS)
         && comes_back(alloc, &NO_NUMBERS, "5400100100000000")
         && comes_back(alloc, &BOTH_REASONS, REASONS)
@@ -165,12 +141,12 @@ fn a_large_number_is_extended(alloc: Global) -> bool {
 }
 
 fn contents_come_back(alloc: Global) -> bool {
-    matches!(&contents(alloc, &BIG), Ok(contents) if is_both_ways(alloc, contents, CONTENTS))
+    matches!(&contents(alloc, &BIG), Ok(contents) if is_both_ways(alloc, contents, &[CONTENTS]))
 }
 
 fn optional_contents_come_back(alloc: Global) -> bool {
     match &optional_contents(alloc) {
-        Ok(contents) => is_both_ways(alloc, contents, OPTIONAL_CONTENTS),
+        Ok(contents) => is_both_ways(alloc, contents, &[OPTIONAL_CONTENTS]),
         Err(_) => false,
     }
 }
@@ -185,7 +161,7 @@ fn texts_and_bytes(rt: HostRuntime) {
     let is_right = a_large_number_is_extended(alloc)
         && contents_come_back(alloc)
         && optional_contents_come_back(alloc)
-        && is_both_ways(alloc, &no_contents(), "5400300100000000")
+        && is_both_ways(alloc, &no_contents(), &["5400300100000000"])
         && a_text_comes_back(alloc);
     assert!(rt; is_right);
 }

@@ -1,17 +1,16 @@
 //! Payloads with sequences that may be empty, a search (Locate) and what a server can do (Query), and items that failed, with
 //! Enumerations of any number: read and written. The bytes are those of KMIP 1.0, sections 4.8, 4.24, 7 and 9.1.
 
-use crate::bytes::joined;
+use crate::bytes::{is_both_ways, is_written, joined};
+use crate::low_level::is_text;
 use crate::query::{
     ApplicationNamespace, FailedItem, LocateRequestPayload, MaximumItems, ObjectType, Operation,
     QueryResponsePayload, ResultReason, ResultStatus, TextAttribute,
 };
 use kmip_ttlv::error::ErrorKind;
 use kmip_ttlv::reader::{ReadStructure, read_message};
-use kmip_ttlv::shape::Serialize;
-use kmip_ttlv::to_vec;
 use kmip_ttlv_memory::BoundedAllocator;
-use std::alloc::Global;
+use std::alloc::{AllocError, Global};
 use std::test::Fail;
 
 // Ten at most; the group of an object.
@@ -34,7 +33,7 @@ const ACME: &str = "42009D070000000441434D4500000000";
 const SSL: &str = "420003070000000373736C0000000000";
 
 // So many attributes.
-fn groups(alloc: Global, count: usize) -> Result<Vec<TextAttribute>, Fail> {
+fn groups(alloc: Global, count: usize) -> Result<Vec<TextAttribute>, AllocError> {
     let mut attributes = Vec::new(alloc);
     for _ in 0..count {
         attributes.push(TextAttribute {
@@ -45,24 +44,6 @@ fn groups(alloc: Global, count: usize) -> Result<Vec<TextAttribute>, Fail> {
     Ok(attributes)
 }
 
-// Whether a value is written as these bytes, and these are read as it.
-fn is_both_ways<T: Serialize + ReadStructure<Global> + PartialEq + Drop>(
-    alloc: Global,
-    value: &T,
-    parts: &[&str],
-) -> Result<bool, Fail> {
-    let wanted = joined(alloc, parts)?;
-    let is_written = match to_vec(alloc, value) {
-        Ok(bytes) => bytes == wanted,
-        Err(_) => false,
-    };
-    let found: kmip_ttlv::error::Result<T> = read_message(alloc, wanted.as_slice());
-    match &found {
-        Ok(read) => Ok(is_written && *read == *value),
-        Err(_) => Ok(false),
-    }
-}
-
 // Searches: at most ten or as many as there are, with so many attributes.
 const SEARCHES: [(bool, usize, [&str; 5]); 4] = [
     (false, 0, ["4200790100000000", "", "", "", ""]),
@@ -71,85 +52,128 @@ const SEARCHES: [(bool, usize, [&str; 5]); 4] = [
     (true, 3, ["42007901000000A0", TEN, GROUP, GROUP, GROUP]),
 ];
 
-#[test]
-fn searches(rt: HostRuntime) -> Result<(), Fail> {
-    for (is_bounded, count, parts) in &SEARCHES {
-        let payload = LocateRequestPayload {
-            maximum_items: if *is_bounded {
-                Some(MaximumItems { count: 10 })
-            } else {
-                None
-            },
-            attributes: groups(rt.alloc(), *count)?,
-        };
-        assert!(rt; is_both_ways(rt.alloc(), &payload, parts)?, "{count}");
-    }
-    Ok(())
+// Whether such a search is both ways.
+fn search_is_both_ways(alloc: Global, is_bounded: bool, count: usize, parts: &[&str]) -> bool {
+    let Ok(attributes) = groups(alloc, count) else {
+        return false;
+    };
+    let payload = LocateRequestPayload {
+        maximum_items: if is_bounded {
+            Some(MaximumItems { count: 10 })
+        } else {
+            None
+        },
+        attributes,
+    };
+    is_both_ways(alloc, &payload, parts)
 }
 
-// An answer with all that a server has, of each as much as is listed.
-fn answer(
-    alloc: Global,
-    operations: &[Operation],
-    types: &[ObjectType],
-    vendor: Option<&str>,
-    namespaces: usize,
-) -> Result<QueryResponsePayload, Fail> {
+#[test]
+fn searches(rt: HostRuntime) {
+    for (is_bounded, count, parts) in SEARCHES {
+        let is_right = search_is_both_ways(rt.alloc(), is_bounded, count, &parts);
+        assert!(rt; is_right, "{count}");
+    }
+}
+
+// What a server has: operations, types of objects, a vendor, and so many namespaces; and the bytes of such an answer.
+type AnswerRow = (
+    &'static [Operation],
+    &'static [ObjectType],
+    Option<&'static str>,
+    usize,
+    [&'static str; 7],
+);
+
+const ANSWERS: [AnswerRow; 4] = [
+    (
+        &[],
+        &[],
+        None,
+        0,
+        ["42007C0100000000", "", "", "", "", "", ""],
+    ),
+    (
+        &[Operation::Get],
+        &[],
+        None,
+        0,
+        ["42007C0100000010", GET, "", "", "", "", ""],
+    ),
+    (
+        &[],
+        &[ObjectType::SymmetricKey],
+        None,
+        3,
+        ["42007C0100000040", KEY, SSL, SSL, SSL, "", ""],
+    ),
+    (
+        &[Operation::Locate, Operation::Get, Operation::Query],
+        &[ObjectType::SymmetricKey],
+        Some("ACME"),
+        1,
+        ["42007C0100000060", LOCATE, GET, QUERY, KEY, ACME, SSL],
+    ),
+];
+
+// So many namespaces.
+fn namespaces(alloc: Global, count: usize) -> Result<Vec<ApplicationNamespace>, AllocError> {
     let mut names = Vec::new(alloc);
-    for _ in 0..namespaces {
+    for _ in 0..count {
         names.push(ApplicationNamespace {
             name: String::from_str(alloc, "ssl")?,
         })?;
     }
+    Ok(names)
+}
+
+// A text that may be absent.
+fn text(alloc: Global, text: Option<&str>) -> Result<Option<String>, AllocError> {
+    match text {
+        Some(text) => Ok(Some(String::from_str(alloc, text)?)),
+        None => Ok(None),
+    }
+}
+
+// An answer of these.
+fn answer(alloc: Global, row: &AnswerRow) -> Result<QueryResponsePayload, AllocError> {
     Ok(QueryResponsePayload {
-        operations: Vec::from_slice(alloc, operations)?,
-        object_types: Vec::from_slice(alloc, types)?,
-        vendor: match vendor {
-            Some(text) => Some(String::from_str(alloc, text)?),
-            None => None,
-        },
-        namespaces: names,
+        operations: Vec::from_slice(alloc, row.0)?,
+        object_types: Vec::from_slice(alloc, row.1)?,
+        vendor: text(alloc, row.2)?,
+        namespaces: namespaces(alloc, row.3)?,
     })
 }
 
-#[test]
-fn answers(rt: HostRuntime) -> Result<(), Fail> {
-    let heap = rt.alloc();
-    let none = answer(heap, &[], &[], None, 0)?;
-    assert!(rt; is_both_ways(heap, &none, &["42007C0100000000"])?);
-    let one = answer(heap, &[Operation::Get], &[], None, 0)?;
-    assert!(rt; is_both_ways(heap, &one, &["42007C0100000010", GET])?);
-    let last = answer(heap, &[], &[ObjectType::SymmetricKey], None, 3)?;
-    assert!(rt; is_both_ways(heap, &last, &["42007C0100000040", KEY, SSL, SSL, SSL])?);
-    Ok(())
+// Whether it is both ways.
+fn answer_is_both_ways(alloc: Global, row: &AnswerRow) -> bool {
+    match &answer(alloc, row) {
+        Ok(payload) => is_both_ways(alloc, payload, &row.4),
+        Err(_) => false,
+    }
 }
 
 #[test]
-fn a_whole_answer(rt: HostRuntime) -> Result<(), Fail> {
-    let heap = rt.alloc();
-    let operations = [Operation::Locate, Operation::Get, Operation::Query];
-    let whole = answer(
-        heap,
-        &operations,
-        &[ObjectType::SymmetricKey],
-        Some("ACME"),
-        1,
-    )?;
-    let parts = ["42007C0100000060", LOCATE, GET, QUERY, KEY, ACME, SSL];
-    assert!(rt; is_both_ways(heap, &whole, &parts)?);
-    Ok(())
+fn answers(rt: HostRuntime) {
+    for row in &ANSWERS {
+        let is_right = answer_is_both_ways(rt.alloc(), row);
+        assert!(rt; is_right);
+    }
 }
 
-// What is said of bytes that are no such payload; "read" of one.
-fn error_of<T: ReadStructure<Global> + Drop>(alloc: Global, text: &str) -> Result<String, Fail> {
-    let bytes = joined(alloc, &[text])?;
-    let found: kmip_ttlv::error::Result<T> = read_message(alloc, bytes.as_slice());
-    let Err(error) = &found else {
-        return Ok(String::from_str(alloc, "read")?);
+// Whether bytes are no such payload, for this error and place.
+fn is_error<T: ReadStructure<Global> + Drop>(alloc: Global, text: &str, wanted: &str) -> bool {
+    let Ok(bytes) = &hex::decode(alloc, text) else {
+        return false;
     };
-    let place = error.location();
-    let kind = error.kind();
-    Ok(format!(in alloc; "{kind:?}; {place}")?)
+    let found: kmip_ttlv::error::Result<T> = read_message(alloc, bytes);
+    match &found {
+        Ok(_) => false,
+        Err(error) => is_text(
+            &format!(in alloc; "{:?}; {}", error.kind(), error.location()),
+            wanted,
+        ),
+    }
 }
 
 // Searches whose first attribute is no Structure, or has another part, and one with an attribute behind another item.
@@ -197,42 +221,16 @@ const NO_ANSWERS: [(&str, &str); 6] = [
     ),
 ];
 
-fn check_rows<T: ReadStructure<Global> + Drop>(
-    alloc: Global,
-    rows: &[(&str, &str)],
-) -> Result<(), Fail> {
-    for row in rows {
-        let (message, wanted) = *row;
-        let found = error_of::<T>(alloc, message)?;
-        if found.as_str() != wanted {
-            return Err(Fail::new(format_args!("{message}: {found}")));
-        }
-    }
-    Ok(())
-}
-
 #[test]
-fn elements_that_are_errors(rt: HostRuntime) -> Result<(), Fail> {
-    check_rows::<LocateRequestPayload>(rt.alloc(), &NO_SEARCHES)?;
-    check_rows::<QueryResponsePayload>(rt.alloc(), &NO_ANSWERS)
-}
-
-// An item that failed.
-fn failed(
-    alloc: Global,
-    operation: Operation,
-    reason: Option<ResultReason>,
-    message: Option<&str>,
-) -> Result<FailedItem, Fail> {
-    Ok(FailedItem {
-        operation,
-        status: ResultStatus::Failed,
-        reason,
-        message: match message {
-            Some(text) => Some(String::from_str(alloc, text)?),
-            None => None,
-        },
-    })
+fn elements_that_are_errors(rt: HostRuntime) {
+    for (message, wanted) in NO_SEARCHES {
+        let is_right = is_error::<LocateRequestPayload>(rt.alloc(), message, wanted);
+        assert!(rt; is_right, "{message}");
+    }
+    for (message, wanted) in NO_ANSWERS {
+        let is_right = is_error::<QueryResponsePayload>(rt.alloc(), message, wanted);
+        assert!(rt; is_right, "{message}");
+    }
 }
 
 // The status of such an item, an operation and a reason without a name here, a reason with one, and a message.
@@ -246,43 +244,77 @@ const GENERAL: &str = "42007E05000000040000010000000000";
 
 const NO: &str = "42007D07000000024E6F000000000000";
 
-#[test]
-fn any_number_is_read_and_written(rt: HostRuntime) -> Result<(), Fail> {
-    let heap = rt.alloc();
-    let both = failed(
-        heap,
+// An item that failed: its operation, reason and message, and its bytes.
+type FailedRow = (
+    Operation,
+    Option<ResultReason>,
+    Option<&'static str>,
+    [&'static str; 5],
+);
+
+const FAILURES: [FailedRow; 3] = [
+    (
         Operation::Other(9),
         Some(ResultReason::Other(0x8000_0001)),
         Some("No"),
-    )?;
-    assert!(rt;
-        is_both_ways(
-            heap,
-            &both,
-            &["42000F0100000040", CHECK, FAILED, VENDORS, NO]
-        )?
-    );
-    let listed = failed(
-        heap,
+        ["42000F0100000040", CHECK, FAILED, VENDORS, NO],
+    ),
+    (
         Operation::Query,
         Some(ResultReason::GeneralFailure),
         None,
-    )?;
-    assert!(rt; is_both_ways(heap, &listed, &["42000F0100000030", QUERY, FAILED, GENERAL])?);
-    let few = failed(heap, Operation::Get, None, None)?;
-    assert!(rt; is_both_ways(heap, &few, &["42000F0100000020", GET, FAILED])?);
-    Ok(())
+        ["42000F0100000030", QUERY, FAILED, GENERAL, ""],
+    ),
+    (
+        Operation::Get,
+        None,
+        None,
+        ["42000F0100000020", GET, FAILED, "", ""],
+    ),
+];
+
+// Whether such an item is both ways.
+fn failure_is_both_ways(alloc: Global, row: &FailedRow) -> bool {
+    let Ok(message) = text(alloc, row.2) else {
+        return false;
+    };
+    let item = FailedItem {
+        operation: row.0,
+        status: ResultStatus::Failed,
+        reason: row.1,
+        message,
+    };
+    is_both_ways(alloc, &item, &row.3)
 }
 
 #[test]
-fn a_number_with_a_name_is_read_as_that(rt: HostRuntime) -> Result<(), Fail> {
-    let heap = rt.alloc();
-    let wanted = joined(heap, &["42000F0100000020", LOCATE, FAILED])?;
-    let item = failed(heap, Operation::Other(8), None, None)?;
-    assert!(rt; matches!(&to_vec(heap, &item), Ok(bytes) if *bytes == wanted));
-    let found: kmip_ttlv::error::Result<FailedItem> = read_message(heap, wanted.as_slice());
-    assert!(rt; matches!(&found, Ok(item) if item.operation == Operation::Locate));
-    Ok(())
+fn any_number_is_read_and_written(rt: HostRuntime) {
+    for row in &FAILURES {
+        let is_right = failure_is_both_ways(rt.alloc(), row);
+        assert!(rt; is_right);
+    }
+}
+
+// Whether an item of a number that has a name is written, and read as that.
+fn a_name_is_read(alloc: Global) -> bool {
+    let Ok(bytes) = &joined(alloc, &["42000F0100000020", LOCATE, FAILED]) else {
+        return false;
+    };
+    let item: FailedItem = FailedItem {
+        operation: Operation::Other(8),
+        status: ResultStatus::Failed,
+        reason: None,
+        message: None,
+    };
+    let found: kmip_ttlv::error::Result<FailedItem> = read_message(alloc, bytes);
+    is_written(alloc, &item, bytes)
+        && matches!(&found, Ok(item) if item.operation == Operation::Locate)
+}
+
+#[test]
+fn a_number_with_a_name_is_read_as_that(rt: HostRuntime) {
+    let is_right = a_name_is_read(rt.alloc());
+    assert!(rt; is_right);
 }
 
 // Numbers, and what they name.
@@ -303,21 +335,35 @@ fn names_of_numbers(rt: HostRuntime) -> Result<(), Fail> {
     Ok(())
 }
 
-// Fails unless reading and writing this search runs out of memory at each growth that fails.
+// Whether a search with three attributes is read if the growth after so many fails, whether memory runs out, and whether one failed.
+fn search_after(alloc: Global, bytes: &[u8], before: u64) -> (bool, bool, bool) {
+    let heap = BoundedAllocator::failing_after(alloc, before);
+    let read: kmip_ttlv::error::Result<LocateRequestPayload<_>, _> = read_message(&heap, bytes);
+    match &read {
+        Ok(payload) => (payload.attributes.len() == 3, false, heap.has_failed()),
+        Err(error) => (
+            false,
+            matches!(error.kind(), ErrorKind::OutOfMemory),
+            heap.has_failed(),
+        ),
+    }
+}
+
 #[test]
 fn each_growth_fails(rt: HostRuntime) -> Result<(), Fail> {
     let bytes = joined(rt.alloc(), &["42007901000000A0", TEN, GROUP, GROUP, GROUP])?;
+    let mut is_read = false;
     for before in 0..100u64 {
-        let heap = BoundedAllocator::failing_after(rt.alloc(), before);
-        let read: kmip_ttlv::error::Result<LocateRequestPayload<_>, _> = read_message(
-            &heap,
-            bytes.as_slice(),
+        let (is_whole, is_short, has_failed) = search_after(rt.alloc(), bytes.as_slice(), before);
+        assert!(rt;
+            is_whole && !has_failed || is_short && has_failed,
+            "at {before}"
         );
-        match &read {
-            Ok(payload) if payload.attributes.len() == 3 && !heap.has_failed() => return Ok(()),
-            Err(e) if matches!(e.kind(), ErrorKind::OutOfMemory) && heap.has_failed() => {}
-            _ => return Err(Fail::new(format_args!("at {before}"))),
+        if !has_failed {
+            is_read = true;
+            break;
         }
     }
-    Err(Fail::new("it grows without end"))
+    assert!(rt; is_read);
+    Ok(())
 }

@@ -85,23 +85,19 @@ fn registered_type(alloc: Global, digits: &str) -> u32 {
     }
 }
 
+// Whether a request comes back, and lends an object of this type.
+fn is_registered(alloc: Global, object_type: u32, digits: &str) -> bool {
+    comes_back::<Request>(alloc, digits)
+        && is_encoded_again::<Request>(alloc, digits)
+        && registered_type(alloc, digits) == object_type
+}
+
 #[test]
-fn each_type_of_object_is_registered(rt: HostRuntime) -> Result<(), Fail> {
+fn each_type_of_object_is_registered(rt: HostRuntime) {
     for (what, object_type, digits) in OBJECTS {
-        assert!(rt;
-            comes_back::<Request>(rt.alloc(), digits),
-            "{what} comes back"
-        );
-        assert!(rt;
-            is_encoded_again::<Request>(rt.alloc(), digits),
-            "{what} is encoded"
-        );
-        assert!(rt;
-            registered_type(rt.alloc(), digits) == object_type,
-            "{what} is lent"
-        );
+        let is_right = is_registered(rt.alloc(), object_type, digits);
+        assert!(rt; is_right, "{what}");
     }
-    Ok(())
 }
 
 // Whether bytes end too early.
@@ -148,11 +144,18 @@ fn growths(alloc: Global, bytes: &[u8]) -> Option<u64> {
     None
 }
 
-#[test]
-fn a_request_fails_at_each_growth(rt: HostRuntime) -> Result<(), Fail> {
-    for (what, _, digits) in OBJECTS {
-        let bytes = hex::decode(rt.alloc(), digits)?;
-        assert!(rt; growths(rt.alloc(), bytes.as_slice()) > Some(3), "{what}");
+// Whether a request that comes back takes more than three.
+fn takes_several(alloc: Global, digits: &str) -> bool {
+    match &hex::decode(alloc, digits) {
+        Ok(bytes) => growths(alloc, bytes) > Some(3),
+        Err(_) => false,
     }
-    Ok(())
+}
+
+#[test]
+fn a_request_fails_at_each_growth(rt: HostRuntime) {
+    for (what, _, digits) in OBJECTS {
+        let is_right = takes_several(rt.alloc(), digits);
+        assert!(rt; is_right, "{what}");
+    }
 }

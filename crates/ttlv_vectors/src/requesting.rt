@@ -1,6 +1,7 @@
 //! The request to create a key: in pieces on one serializer, over writers that fail, and with each growth
 //! failing in turn. And how many growths a serializer asks for.
 
+use crate::bytes::joined;
 use crate::data::tagged_number;
 use crate::request::CreateRequest;
 use crate::samples::Single;
@@ -33,17 +34,8 @@ const REQUEST: CreateRequest = CreateRequest {
     usage: 12,
 };
 
-// The bytes of the whole request: its header and its item in one structure.
-fn whole(alloc: Global) -> Result<Vec<u8>, Fail> {
-    let text = format!(in alloc; "4200780100000120{HEADER}{ITEM}")?;
-    Ok(hex::decode(alloc, text.as_str())?)
-}
-
-// The bytes of its header and its item alone.
-fn parts(alloc: Global) -> Result<Vec<u8>, Fail> {
-    let text = format!(in alloc; "{HEADER}{ITEM}")?;
-    Ok(hex::decode(alloc, text.as_str())?)
-}
+// The parts of the whole request: its header and its item in one structure.
+const WHOLE: [&str; 3] = ["4200780100000120", HEADER, ITEM];
 
 fn is_memory<A: Allocator>(error: &Error<A>) -> bool {
     matches!(error.kind(), ErrorKind::OutOfMemory) && error.location().is_unknown()
@@ -88,12 +80,18 @@ fn is_in_pieces(alloc: Global, data: &Data, expected: &[u8]) -> bool {
     takes_each(&mut serializer, fields) && gives(serializer, expected)
 }
 
+// Whether the request is, in two pieces.
+fn request_is_in_pieces(alloc: Global) -> bool {
+    match (&joined(alloc, &[HEADER, ITEM]), &REQUEST.to_data(alloc)) {
+        (Ok(expected), Ok(request)) => is_in_pieces(alloc, request, expected),
+        _ => false,
+    }
+}
+
 #[test]
-fn a_request_in_pieces_on_one_serializer(rt: HostRuntime) -> Result<(), Fail> {
-    let expected = parts(rt.alloc())?;
-    let request = REQUEST.to_data(rt.alloc())?;
-    assert!(rt; is_in_pieces(rt.alloc(), &request, &expected));
-    Ok(())
+fn a_request_in_pieces_on_one_serializer(rt: HostRuntime) {
+    let is_right = request_is_in_pieces(rt.alloc());
+    assert!(rt; is_right);
 }
 
 // What a call answered.
@@ -176,23 +174,20 @@ fn grows(heap: Global, call: Call, request: &Data, expected: &[u8]) -> bool {
     false
 }
 
+// Whether that is so of the request.
+fn request_grows(alloc: Global, call: Call) -> bool {
+    match (&joined(alloc, &WHOLE), &REQUEST.to_data(alloc)) {
+        (Ok(expected), Ok(request)) => grows(alloc, call, request, expected),
+        _ => false,
+    }
+}
+
 #[test]
-fn a_request_grows(rt: HostRuntime) -> Result<(), Fail> {
-    let expected = whole(rt.alloc())?;
-    let request = REQUEST.to_data(rt.alloc())?;
-    assert!(rt;
-        grows(rt.alloc(), Call::ToVec, &request, &expected),
-        "to_vec"
-    );
-    assert!(rt;
-        grows(rt.alloc(), Call::ToWriter, &request, &expected),
-        "to_writer"
-    );
-    assert!(rt;
-        grows(rt.alloc(), Call::Serialize, &request, &expected),
-        "serialize"
-    );
-    Ok(())
+fn a_request_grows(rt: HostRuntime) {
+    for call in [Call::ToVec, Call::ToWriter, Call::Serialize] {
+        let is_right = request_grows(rt.alloc(), call);
+        assert!(rt; is_right);
+    }
 }
 
 // Takes one byte a call, is interrupted before each, and fails once its room is used up.
@@ -267,26 +262,27 @@ fn is_taken_anywhere<T: Serialize>(
     true
 }
 
+// Whether that is so of the request, and of a structure of a number.
+fn writers_have_beginnings(alloc: Global, kind: io::ErrorKind) -> bool {
+    match (&joined(alloc, &WHOLE), &hex::decode(alloc, NUMBER)) {
+        (Ok(request), Ok(number)) => {
+            is_taken_anywhere(alloc, &REQUEST, kind, request)
+                && is_taken_anywhere(alloc, &Single { number: 3 }, kind, number)
+        }
+        _ => false,
+    }
+}
+
 #[test]
-fn writers_that_fail(rt: HostRuntime) -> Result<(), Fail> {
-    let request = whole(rt.alloc())?;
-    let number = hex::decode(rt.alloc(), NUMBER)?;
-    let single = Single { number: 3 };
+fn writers_that_fail(rt: HostRuntime) {
     for kind in [
         io::ErrorKind::BrokenPipe,
         io::ErrorKind::PermissionDenied,
         io::ErrorKind::TimedOut,
     ] {
-        assert!(rt;
-            is_taken_anywhere(rt.alloc(), &REQUEST, kind, &request),
-            "{kind:?}"
-        );
-        assert!(rt;
-            is_taken_anywhere(rt.alloc(), &single, kind, &number),
-            "{kind:?}"
-        );
+        let is_right = writers_have_beginnings(rt.alloc(), kind);
+        assert!(rt; is_right, "{kind:?}");
     }
-    Ok(())
 }
 
 // Takes no byte.
@@ -303,14 +299,18 @@ impl Write for Full {
     }
 }
 
+// Whether such a writer is an error.
+fn nothing_is_written(alloc: Global) -> bool {
+    match &to_writer(alloc, &REQUEST, &mut Full {}) {
+        Ok(()) => false,
+        Err(error) => is_io_error(error, io::ErrorKind::WriteZero),
+    }
+}
+
 #[test]
-fn a_writer_that_takes_nothing(rt: HostRuntime) -> Result<(), Fail> {
-    let written = to_writer(rt.alloc(), &REQUEST, &mut Full {});
-    let Err(error) = &written else {
-        return Err(Fail::new("it is written"));
-    };
-    assert!(rt; is_io_error(error, io::ErrorKind::WriteZero));
-    Ok(())
+fn a_writer_that_takes_nothing(rt: HostRuntime) {
+    let is_right = nothing_is_written(rt.alloc());
+    assert!(rt; is_right);
 }
 
 // Whether a new serializer with this memory gives bytes or runs out of it; none on any other error.
