@@ -5,7 +5,9 @@ use crate::selves::{
     Detail, Lists, Mark, Maybes, Order, Point, Sorts, Task, read_lists, read_maybes, read_sorts,
     read_task,
 };
-use crate::selves_rows::{NUMBER, POINT, PointShape, TEXT, agree_nearby, check_rows};
+use crate::selves_rows::{
+    NUMBER, POINT, PointShape, TEXT, agree_nearby, check_rows, is_read_as, joined,
+};
 use kmip_ttlv::error::{Error, ErrorKind};
 use kmip_ttlv_memory::BoundedAllocator;
 use sample_shapes::names::{
@@ -15,7 +17,7 @@ use sample_shapes::parts::{
     AnyNumber, BigNumber, Choice, Content, Field, Maybe, NoContent, Number, Octets, OneField,
     Sequence, Span, Structure, Text, Truth, TwoVariants, Variant,
 };
-use std::alloc::{Allocator, Global};
+use std::alloc::{AllocError, Allocator, Global};
 use std::test::Fail;
 
 // Shapes of the same forms, without the wrappers around leaves.
@@ -79,80 +81,105 @@ const SEVEN: &str = "BBBBBB05000000040000000700000000";
 const THREE: &str = "CCCCCC07000000033078330000000000";
 
 // Messages of each kind, with and without what may be absent.
-fn lists(alloc: Global) -> Result<String, Fail> {
-    Ok(format!(in alloc; "AAAAAA0100000060{NUMBER}{OTHER}{NUMBER}{NUMBER}{TEXT}{TEXT}")?)
+const LISTED: [&str; 7] = [
+    "AAAAAA0100000060",
+    NUMBER,
+    OTHER,
+    NUMBER,
+    NUMBER,
+    TEXT,
+    TEXT,
+];
+
+const SHORTEST: [&str; 4] = ["AAAAAA0100000030", NUMBER, NUMBER, TEXT];
+
+const ALL_MAYBES: [&str; 6] = ["AAAAAA0100000060", NUMBER, TEXT, TEXT, POINT, POINT];
+
+const TASK_OF_POINT: [&str; 3] = ["AAAAAA0100000028", ONE, POINT];
+
+const TASK_OF_NUMBER: [&str; 4] = [
+    "AAAAAA0100000030",
+    SEVEN,
+    THREE,
+    "DDDDDD05000000040000000900000000",
+];
+
+const TASK_OF_TEXT: [&str; 3] = [
+    "AAAAAA0100000020",
+    SEVEN,
+    "DDDDDD07000000016100000000000000",
+];
+
+const TASK_OF_MARK: [&str; 4] = [
+    "AAAAAA0100000030",
+    SEVEN,
+    TEXT,
+    "DDDDDD02000000040000000300000000",
+];
+
+// Two texts.
+fn texts(alloc: Global) -> Result<Vec<String>, AllocError> {
+    let mut texts = Vec::new(alloc);
+    for _ in 0..2u8 {
+        texts.push(String::from_str(alloc, "a")?)?;
+    }
+    Ok(texts)
 }
 
-fn shortest(alloc: Global) -> Result<String, Fail> {
-    Ok(format!(in alloc; "AAAAAA0100000030{NUMBER}{NUMBER}{TEXT}")?)
-}
-
-fn maybes(alloc: Global) -> Result<String, Fail> {
-    Ok(format!(in alloc; "AAAAAA0100000060{NUMBER}{TEXT}{TEXT}{POINT}{POINT}")?)
-}
-
-fn task_of_point(alloc: Global) -> Result<String, Fail> {
-    Ok(format!(in alloc; "AAAAAA0100000028{ONE}{POINT}")?)
-}
-
-fn task_of_number(alloc: Global) -> Result<String, Fail> {
-    Ok(format!(in alloc; "AAAAAA0100000030{SEVEN}{THREE}DDDDDD05000000040000000900000000")?)
-}
-
-fn task_of_text(alloc: Global) -> Result<String, Fail> {
-    Ok(format!(in alloc; "AAAAAA0100000020{SEVEN}DDDDDD07000000016100000000000000")?)
-}
-
-fn task_of_mark(alloc: Global) -> Result<String, Fail> {
-    Ok(format!(in alloc; "AAAAAA0100000030{SEVEN}{TEXT}DDDDDD02000000040000000300000000")?)
-}
-
-#[test]
-fn lists_are_read(rt: HostRuntime) -> Result<(), Fail> {
-    let bytes = hex::decode(rt.alloc(), lists(rt.alloc())?.as_str())?;
-    let mut marks = Vec::new(rt.alloc());
-    marks.push(Mark { number: 7 })?;
-    marks.push(Mark { number: 7 })?;
-    let mut texts = Vec::new(rt.alloc());
-    texts.push(String::from_str(rt.alloc(), "a")?)?;
-    texts.push(String::from_str(rt.alloc(), "a")?)?;
-    let wanted = Lists {
+fn lists(alloc: Global) -> Result<Lists, AllocError> {
+    Ok(Lists {
         mark: Mark { number: 7 },
         other: Some(Mark { number: 3 }),
-        marks,
-        texts,
-    };
-    match read_lists(rt.alloc(), bytes.as_slice()) {
-        Ok(found) => assert!(rt; found == wanted),
-        Err(_) => return Err(Fail::new("it is not read")),
-    }
-    Ok(())
-}
-
-// Whether a message of sequences that may be empty is read as so many marks, texts and points.
-fn are_maybes(alloc: Global, text: &str, wanted: (usize, usize, usize)) -> Result<bool, Fail> {
-    let bytes = hex::decode(alloc, text)?;
-    match read_maybes(alloc, bytes.as_slice()) {
-        Ok(found) => Ok(
-            found.marks.iter().all(|mark| mark.number == 7)
-                && found.texts.iter().all(|text| text.as_str() == "a")
-                && found.points.iter().all(|point| point.number == 3)
-                && (found.marks.len(), found.texts.len(), found.points.len()) == wanted,
-        ),
-        Err(_) => Ok(false),
-    }
+        marks: Vec::from_slice(alloc, &[Mark { number: 7 }, Mark { number: 7 }])?,
+        texts: texts(alloc)?,
+    })
 }
 
 #[test]
-fn optional_lists_are_read(rt: HostRuntime) -> Result<(), Fail> {
-    let heap = rt.alloc();
-    assert!(rt; are_maybes(heap, maybes(heap)?.as_str(), (1, 2, 2))?);
-    assert!(rt; are_maybes(heap, "AAAAAA0100000000", (0, 0, 0))?);
-    let text = format!(in heap; "AAAAAA0100000010{TEXT}")?;
-    assert!(rt; are_maybes(heap, text.as_str(), (0, 1, 0))?);
-    let points = format!(in heap; "AAAAAA0100000058{NUMBER}{POINT}{POINT}{POINT}")?;
-    assert!(rt; are_maybes(heap, points.as_str(), (1, 0, 3))?);
-    Ok(())
+fn lists_are_read(rt: HostRuntime) {
+    let is_right = is_read_as(rt.alloc(), &lists(rt.alloc()), &LISTED);
+    assert!(rt; is_right);
+}
+
+// Whether these are so many marks, texts and points.
+fn is_of(found: &Maybes, wanted: (usize, usize, usize)) -> bool {
+    found.marks.iter().all(|mark| mark.number == 7)
+        && found.texts.iter().all(|text| text.as_str() == "a")
+        && found.points.iter().all(|point| point.number == 3)
+        && (found.marks.len(), found.texts.len(), found.points.len()) == wanted
+}
+
+// Whether a message of sequences that may be empty is read as so many.
+fn are_maybes(alloc: Global, text: &str, wanted: (usize, usize, usize)) -> bool {
+    match &hex::decode(alloc, text) {
+        Ok(bytes) => matches!(&read_maybes(alloc, bytes), Ok(found) if is_of(found, wanted)),
+        Err(_) => false,
+    }
+}
+
+// Sequences, and how many marks, texts and points they are.
+const COUNTED: [(&str, (usize, usize, usize)); 4] = [
+    (
+        "AAAAAA0100000060BBBBBB02000000040000000700000000CCCCCC07000000016100000000000000CCCCCC07000000016100000000000000DDDDDD0100000010BBBBBB02000000040000000300000000DDDDDD0100000010BBBBBB02000000040000000300000000",
+        (1, 2, 2),
+    ),
+    ("AAAAAA0100000000", (0, 0, 0)),
+    (
+        "AAAAAA0100000010CCCCCC07000000016100000000000000",
+        (0, 1, 0),
+    ),
+    (
+        "AAAAAA0100000058BBBBBB02000000040000000700000000DDDDDD0100000010BBBBBB02000000040000000300000000DDDDDD0100000010BBBBBB02000000040000000300000000DDDDDD0100000010BBBBBB02000000040000000300000000",
+        (1, 0, 3),
+    ),
+];
+
+#[test]
+fn optional_lists_are_read(rt: HostRuntime) {
+    for (text, wanted) in COUNTED {
+        let is_right = are_maybes(rt.alloc(), text, wanted);
+        assert!(rt; is_right, "{text}");
+    }
 }
 
 // Truth, an hour, a vendor's number, two bytes, and the number 257.
@@ -160,75 +187,90 @@ const SORTS: &str =
     "AAAAAA0100000050BBBBBB06000000080000000000000001CCCCCC0A0000000400000E1000000000\
 DDDDDD05000000048000000100000000EEEEEE0800000002FFFE000000000000BBBBBB04000000080000000000000101";
 
-#[test]
-fn leaves_are_read(rt: HostRuntime) -> Result<(), Fail> {
-    let bytes = hex::decode(rt.alloc(), SORTS)?;
-    let wanted = Sorts {
+fn sorts(alloc: Global) -> Result<Sorts, AllocError> {
+    Ok(Sorts {
         truth: true,
         seconds: 3600,
         reason: Some(0x8000_0001),
-        bytes: Vec::from_slice(rt.alloc(), &[0xFF, 0xFE])?,
-        big: Some(Vec::from_slice(rt.alloc(), &[0, 0, 0, 0, 0, 0, 1, 1])?),
-    };
-    match read_sorts(rt.alloc(), bytes.as_slice()) {
-        Ok(found) => assert!(rt; found == wanted),
-        Err(_) => return Err(Fail::new("it is not read")),
+        bytes: Vec::from_slice(alloc, &[0xFF, 0xFE])?,
+        big: Some(Vec::from_slice(alloc, &[0, 0, 0, 0, 0, 0, 1, 1])?),
+    })
+}
+
+fn sorts_are_read(alloc: Global) -> bool {
+    match (&sorts(alloc), &hex::decode(alloc, SORTS)) {
+        (Ok(wanted), Ok(bytes)) => {
+            matches!(&read_sorts(alloc, bytes), Ok(found) if found == wanted)
+        }
+        _ => false,
     }
-    Ok(())
 }
 
 #[test]
-fn leaves_are_read_as_the_shape_does(rt: HostRuntime) -> Result<(), Fail> {
-    agree_nearby::<Sorts, SortsShape>(rt.alloc(), SORTS)?;
-    agree_nearby::<Sorts, SortsShape>(
-        rt.alloc(),
-        "AAAAAA0100000028BBBBBB06000000080000000000000000CCCCCC0A0000000400000E1000000000EEEEEE0800000000",
+fn leaves_are_read(rt: HostRuntime) {
+    let is_right = sorts_are_read(rt.alloc());
+    assert!(rt; is_right);
+}
+
+#[test]
+fn leaves_are_read_as_the_shape_does(rt: HostRuntime) {
+    let few =
+        "AAAAAA0100000028BBBBBB06000000080000000000000000CCCCCC0A0000000400000E1000000000EEEEEE0800000000";
+    for text in [SORTS, few] {
+        let is_right = agree_nearby::<Sorts, SortsShape>(rt.alloc(), &[text]);
+        assert!(rt; is_right, "{text}");
+    }
+}
+
+// A task of this order, text and detail.
+fn task(
+    alloc: Global,
+    order: Order,
+    text: Option<&str>,
+    detail: Detail,
+) -> Result<Task, AllocError> {
+    Ok(Task {
+        order,
+        text: match text {
+            Some(text) => Some(String::from_str(alloc, text)?),
+            None => None,
+        },
+        detail,
+    })
+}
+
+fn task_of_text(alloc: Global) -> Result<Task, AllocError> {
+    task(
+        alloc,
+        Order::Seven,
+        None,
+        Detail::Text(String::from_str(alloc, "a")?),
     )
 }
 
-// Whether the message is read as this task.
-fn is_task(alloc: Global, text: String, wanted: Task) -> Result<bool, Fail> {
-    let bytes = hex::decode(alloc, text.as_str())?;
-    match read_task(alloc, bytes.as_slice()) {
-        Ok(found) => Ok(found == wanted),
-        Err(_) => Ok(false),
-    }
+fn tasks_are_read(alloc: Global) -> bool {
+    let point = Detail::Point(Point { number: 3 });
+    is_read_as(alloc, &task(alloc, Order::One, None, point), &TASK_OF_POINT)
+        && is_read_as(
+            alloc,
+            &task(alloc, Order::Seven, Some("0x3"), Detail::Number(9)),
+            &TASK_OF_NUMBER,
+        )
+}
+
+fn tasks_by_type_are_read(alloc: Global) -> bool {
+    let mark = Detail::Mark(Mark { number: 3 });
+    is_read_as(
+        alloc,
+        &task(alloc, Order::Seven, Some("a"), mark),
+        &TASK_OF_MARK,
+    ) && is_read_as(alloc, &task_of_text(alloc), &TASK_OF_TEXT)
 }
 
 #[test]
-fn choices_are_read(rt: HostRuntime) -> Result<(), Fail> {
-    let heap = rt.alloc();
-    let point = Task {
-        order: Order::One,
-        text: None,
-        detail: Detail::Point(Point { number: 3 }),
-    };
-    assert!(rt; is_task(heap, task_of_point(heap)?, point)?);
-    let number = Task {
-        order: Order::Seven,
-        text: Some(String::from_str(heap, "0x3")?),
-        detail: Detail::Number(9),
-    };
-    assert!(rt; is_task(heap, task_of_number(heap)?, number)?);
-    Ok(())
-}
-
-#[test]
-fn choices_by_type_are_read(rt: HostRuntime) -> Result<(), Fail> {
-    let heap = rt.alloc();
-    let text = Task {
-        order: Order::Seven,
-        text: None,
-        detail: Detail::Text(String::from_str(heap, "a")?),
-    };
-    assert!(rt; is_task(heap, task_of_text(heap)?, text)?);
-    let mark = Task {
-        order: Order::Seven,
-        text: Some(String::from_str(heap, "a")?),
-        detail: Detail::Mark(Mark { number: 3 }),
-    };
-    assert!(rt; is_task(heap, task_of_mark(heap)?, mark)?);
-    Ok(())
+fn choices_are_read(rt: HostRuntime) {
+    let is_right = tasks_are_read(rt.alloc()) && tasks_by_type_are_read(rt.alloc());
+    assert!(rt; is_right);
 }
 
 // Items and sequences of them.
@@ -333,18 +375,25 @@ fn errors_have_their_places(rt: HostRuntime) -> Result<(), Fail> {
 }
 
 #[test]
-fn lists_are_read_as_the_shape_does(rt: HostRuntime) -> Result<(), Fail> {
-    agree_nearby::<Lists, ListsShape>(rt.alloc(), lists(rt.alloc())?.as_str())?;
-    agree_nearby::<Lists, ListsShape>(rt.alloc(), shortest(rt.alloc())?.as_str())?;
-    agree_nearby::<Maybes, MaybesShape>(rt.alloc(), maybes(rt.alloc())?.as_str())
+fn lists_are_read_as_the_shape_does(rt: HostRuntime) {
+    let is_right = agree_nearby::<Lists, ListsShape>(rt.alloc(), &LISTED)
+        && agree_nearby::<Lists, ListsShape>(rt.alloc(), &SHORTEST)
+        && agree_nearby::<Maybes, MaybesShape>(rt.alloc(), &ALL_MAYBES);
+    assert!(rt; is_right);
 }
 
 #[test]
-fn choices_are_read_as_the_shape_does(rt: HostRuntime) -> Result<(), Fail> {
-    agree_nearby::<Task, TaskShape>(rt.alloc(), task_of_point(rt.alloc())?.as_str())?;
-    agree_nearby::<Task, TaskShape>(rt.alloc(), task_of_number(rt.alloc())?.as_str())?;
-    agree_nearby::<Task, TaskShape>(rt.alloc(), task_of_text(rt.alloc())?.as_str())?;
-    agree_nearby::<Task, TaskShape>(rt.alloc(), task_of_mark(rt.alloc())?.as_str())
+fn choices_are_read_as_the_shape_does(rt: HostRuntime) {
+    let tasks: [&[&str]; 4] = [
+        &TASK_OF_POINT,
+        &TASK_OF_NUMBER,
+        &TASK_OF_TEXT,
+        &TASK_OF_MARK,
+    ];
+    for texts in tasks {
+        let is_right = agree_nearby::<Task, TaskShape>(rt.alloc(), texts);
+        assert!(rt; is_right);
+    }
 }
 
 // Whether a message was read, and whether memory ran out.
@@ -380,11 +429,7 @@ fn grows(alloc: Global, lists: &[u8], task: &[u8]) -> Result<(), Fail> {
 
 #[test]
 fn it_may_run_out_of_memory(rt: HostRuntime) -> Result<(), Fail> {
-    let lists = hex::decode(rt.alloc(), lists(rt.alloc())?.as_str())?;
-    let number = hex::decode(rt.alloc(), task_of_number(rt.alloc())?.as_str())?;
-    let maybes = hex::decode(rt.alloc(), maybes(rt.alloc())?.as_str())?;
-    match read_maybes(rt.alloc(), maybes.as_slice()) {
-        Ok(_) => grows(rt.alloc(), lists.as_slice(), number.as_slice()),
-        Err(_) => Err(Fail::new("it is not read")),
-    }
+    let lists = joined(rt.alloc(), &LISTED)?;
+    let number = joined(rt.alloc(), &TASK_OF_NUMBER)?;
+    grows(rt.alloc(), lists.as_slice(), number.as_slice())
 }

@@ -3,6 +3,7 @@
 
 use crate::reading::Reading;
 use crate::selves::{Closed, Moment, Point, Whole, read_whole};
+use hex::FromHexError;
 use kmip_ttlv::error::{Error, ErrorKind};
 use kmip_ttlv::reader::{ReadStructure, read_message};
 use kmip_ttlv::shape::Decode;
@@ -12,7 +13,7 @@ use sample_shapes::names::{TagA, TagB, TagC, TagD, TagE};
 use sample_shapes::parts::{
     ClosedStructure, Field, LongNumber, Maybe, Number, OneField, Part, Sequence, Structure, Text,
 };
-use std::alloc::{Allocator, Global};
+use std::alloc::{AllocError, Allocator, Global};
 use std::test::Fail;
 
 // Shapes of the same forms, without the wrappers around leaves.
@@ -50,86 +51,98 @@ const MOMENT: &str = "EEEEEE0100000010BBBBBB0300000008FFFFFFFFFFFFFFFE";
 const DATE: &str = "EEEEEE0100000010BBBBBB09000000080000000000000009";
 
 // What an error says; "read" of a value.
-fn error_of<T>(alloc: Global, found: &Result<T, Error>) -> Result<String, Fail> {
+fn error_of<T>(alloc: Global, found: &Result<T, Error>) -> Result<String, AllocError> {
     let Err(error) = found else {
-        return Ok(String::from_str(alloc, "read")?);
+        return String::from_str(alloc, "read");
     };
-    let place = error.location();
     match error.kind() {
-        ErrorKind::IoError(cause) => {
-            let kind = cause.kind();
-            Ok(format!(in alloc; "{kind:?}")?)
-        }
-        kind => Ok(format!(in alloc; "{kind:?}; {place}")?),
+        ErrorKind::IoError(cause) => format!(in alloc; "{:?}", cause.kind()),
+        kind => format!(in alloc; "{kind:?}; {}", error.location()),
     }
 }
 
-fn read_text<T: ReadStructure<Global>>(alloc: Global, text: &str) -> Result<String, Fail> {
-    let bytes = hex::decode(alloc, text)?;
-    let found: Result<T, Error> = read_message(alloc, bytes.as_slice());
-    error_of(alloc, &found)
+/// The bytes of texts in hexadecimal, one after the other.
+pub fn joined(alloc: Global, texts: &[&str]) -> Result<Vec<u8>, FromHexError> {
+    let mut text = String::new(alloc);
+    for one in texts {
+        text.push_str(one)?;
+    }
+    hex::decode(alloc, text.as_str())
 }
 
+// Whether what was found is this error, or "read".
+fn is_said<T>(alloc: Global, found: &Result<T, Error>, wanted: &str) -> bool {
+    matches!(&error_of(alloc, found), Ok(text) if text.as_str() == wanted)
+}
+
+// Whether the bytes are read, or are this error.
+fn is_row<T: ReadStructure<Global>>(alloc: Global, text: &str, wanted: &str) -> bool {
+    match &hex::decode(alloc, text) {
+        Ok(bytes) => is_said(alloc, &read_message::<T, _>(alloc, bytes), wanted),
+        Err(_) => false,
+    }
+}
+
+/// Fails unless each message is read, or the error that stands beside it.
 pub fn check_rows<T: ReadStructure<Global>>(
     alloc: Global,
     rows: &[(&str, &str)],
 ) -> Result<(), Fail> {
     for row in rows {
         let (message, wanted) = *row;
-        let found = read_text::<T>(alloc, message)?;
-        if found.as_str() != wanted {
-            return Err(Fail::new(format_args!("{message}: {found}")));
+        if !is_row::<T>(alloc, message, wanted) {
+            return Err(Fail::new(format_args!("{message}: not {wanted}")));
         }
     }
     Ok(())
 }
 
-// A message with each part, and one without those that may be absent.
-fn whole(alloc: Global) -> Result<String, Fail> {
-    Ok(format!(in alloc; "AAAAAA0100000080{NUMBER}{TEXT}{POINT}{MOMENT}{DATE}{POINT}")?)
-}
-
-fn fewest(alloc: Global) -> Result<String, Fail> {
-    Ok(format!(in alloc; "AAAAAA0100000040{NUMBER}{MOMENT}{POINT}")?)
-}
-
-#[test]
-fn each_part_is_read(rt: HostRuntime) -> Result<(), Fail> {
-    let bytes = hex::decode(rt.alloc(), whole(rt.alloc())?.as_str())?;
-    let mut moments = Vec::new(rt.alloc());
-    moments.push(Moment { seconds: -2 })?;
-    moments.push(Moment { seconds: 9 })?;
-    let wanted = Whole {
-        number: 7,
-        text: Some(String::from_str(rt.alloc(), "a")?),
-        first: Some(Point { number: 3 }),
-        moments,
-        last: Point { number: 3 },
-    };
-    match read_whole(rt.alloc(), bytes.as_slice()) {
-        Ok(found) => assert!(rt; found == wanted),
-        Err(_) => return Err(Fail::new("it is not read")),
+/// Whether the bytes of these texts are read as this value, where memory was there for it.
+pub fn is_read_as<T: ReadStructure<Global> + PartialEq>(
+    alloc: Global,
+    wanted: &Result<T, AllocError>,
+    texts: &[&str],
+) -> bool {
+    match (wanted, &joined(alloc, texts)) {
+        (Ok(wanted), Ok(bytes)) => {
+            matches!(&read_message::<T, _>(alloc, bytes), Ok(found) if *found == *wanted)
+        }
+        _ => false,
     }
-    Ok(())
 }
 
-#[test]
-fn optional_parts_may_be_absent(rt: HostRuntime) -> Result<(), Fail> {
-    let bytes = hex::decode(rt.alloc(), fewest(rt.alloc())?.as_str())?;
-    let mut moments = Vec::new(rt.alloc());
-    moments.push(Moment { seconds: -2 })?;
-    let wanted = Whole {
+// A message with each part, and one without those that may be absent.
+const WHOLE: [&str; 7] = ["AAAAAA0100000080", NUMBER, TEXT, POINT, MOMENT, DATE, POINT];
+
+const FEWEST: [&str; 4] = ["AAAAAA0100000040", NUMBER, MOMENT, POINT];
+
+// What they are read as.
+fn whole(alloc: Global) -> Result<Whole, AllocError> {
+    Ok(Whole {
+        number: 7,
+        text: Some(String::from_str(alloc, "a")?),
+        first: Some(Point { number: 3 }),
+        moments: Vec::from_slice(alloc, &[Moment { seconds: -2 }, Moment { seconds: 9 }])?,
+        last: Point { number: 3 },
+    })
+}
+
+fn fewest(alloc: Global) -> Result<Whole, AllocError> {
+    Ok(Whole {
         number: 7,
         text: None,
         first: None,
-        moments,
+        moments: Vec::from_slice(alloc, &[Moment { seconds: -2 }])?,
         last: Point { number: 3 },
-    };
-    match read_whole(rt.alloc(), bytes.as_slice()) {
-        Ok(found) => assert!(rt; found == wanted),
-        Err(_) => return Err(Fail::new("it is not read")),
-    }
-    Ok(())
+    })
+}
+
+#[test]
+fn parts_are_read_or_absent(rt: HostRuntime) {
+    let alloc = rt.alloc();
+    let is_right = is_read_as(alloc, &whole(alloc), &WHOLE)
+        && is_read_as(alloc, &fewest(alloc), &FEWEST);
+    assert!(rt; is_right);
 }
 
 // What may be wrong with a structure of one number that allows no other item.
@@ -204,53 +217,60 @@ fn errors_have_their_places(rt: HostRuntime) -> Result<(), Fail> {
     check_rows::<Whole>(rt.alloc(), &NESTED)
 }
 
-// Fails unless both ways of reading have one error, or both a value.
-fn agree<T: ReadStructure<Global>, P: Part>(alloc: Global, bytes: &[u8]) -> Result<(), Fail> {
-    let itself: Result<T, Error> = read_message(alloc, bytes);
+// Whether both ways of reading have one error, or both a value.
+fn agree<T: ReadStructure<Global>, P: Part>(alloc: Global, bytes: &[u8]) -> bool {
     let shaped: Result<Reading<P>, Error> = from_slice(alloc, bytes);
-    let found = error_of(alloc, &itself)?;
-    let wanted = error_of(alloc, &shaped)?;
-    if found == wanted {
-        return Ok(());
+    match &error_of(alloc, &shaped) {
+        Ok(wanted) => is_said(alloc, &read_message::<T, _>(alloc, bytes), wanted.as_str()),
+        Err(_) => false,
     }
-    Err(Fail::new(format_args!("{bytes:?}: {found}, by the shape {wanted}")))
 }
 
-// The same of each beginning of a message, and of it with each byte changed in several ways.
-pub fn agree_nearby<T: ReadStructure<Global>, P: Part>(
-    alloc: Global,
-    text: &str,
-) -> Result<(), Fail> {
-    let mut bytes = hex::decode(alloc, text)?;
+// Whether they do for each beginning of a message, and for it with each byte changed in several ways.
+fn agree_near<T: ReadStructure<Global>, P: Part>(alloc: Global, bytes: &mut [u8]) -> bool {
     for end in 0..=bytes.len() {
-        agree::<T, P>(alloc, &bytes[..end])?;
+        if !agree::<T, P>(alloc, &bytes[..end]) {
+            return false;
+        }
     }
     for at in 0..bytes.len() {
         let byte = bytes[at];
         for other in [0x00, 0x01, 0x03, 0x07, 0x0C, 0x18, 0xBB, 0xDD, 0xFF] {
             bytes[at] = other;
-            agree::<T, P>(alloc, bytes.as_slice())?;
+            if !agree::<T, P>(alloc, bytes) {
+                return false;
+            }
         }
         bytes[at] = byte;
     }
-    Ok(())
+    true
 }
 
-#[test]
-fn it_reads_as_the_shape_does(rt: HostRuntime) -> Result<(), Fail> {
-    agree_nearby::<Whole, WholeShape>(rt.alloc(), whole(rt.alloc())?.as_str())?;
-    agree_nearby::<Whole, WholeShape>(rt.alloc(), fewest(rt.alloc())?.as_str())
-}
-
-#[test]
-fn it_reads_what_follows_as_the_shape_does(rt: HostRuntime) -> Result<(), Fail> {
-    for row in CLOSED {
-        agree_nearby::<Closed, ClosedShape>(rt.alloc(), row.0)?;
+/// Whether they do for the bytes of these texts.
+pub fn agree_nearby<T: ReadStructure<Global>, P: Part>(alloc: Global, texts: &[&str]) -> bool {
+    match &mut joined(alloc, texts) {
+        Ok(bytes) => agree_near::<T, P>(alloc, bytes.as_mut_slice()),
+        Err(_) => false,
     }
-    agree_nearby::<Whole, WholeShape>(
-        rt.alloc(),
-        "AAAAAA0100000058BBBBBB02000000040000000700000000EEEEEE0100000010BBBBBB09000000080000000000000009DDDDDD0100000010BBBBBB02000000040000000300000000FFFFFF08000000050102030405000000FFFFFF0100000000",
-    )
+}
+
+#[test]
+fn it_reads_as_the_shape_does(rt: HostRuntime) {
+    let is_right = agree_nearby::<Whole, WholeShape>(rt.alloc(), &WHOLE)
+        && agree_nearby::<Whole, WholeShape>(rt.alloc(), &FEWEST);
+    assert!(rt; is_right);
+}
+
+#[test]
+fn it_reads_what_follows_as_the_shape_does(rt: HostRuntime) {
+    for (text, _) in CLOSED {
+        let is_right = agree_nearby::<Closed, ClosedShape>(rt.alloc(), &[text]);
+        assert!(rt; is_right, "{text}");
+    }
+    let followed =
+        "AAAAAA0100000058BBBBBB02000000040000000700000000EEEEEE0100000010BBBBBB09000000080000000000000009DDDDDD0100000010BBBBBB02000000040000000300000000FFFFFF08000000050102030405000000FFFFFF0100000000";
+    let is_right = agree_nearby::<Whole, WholeShape>(rt.alloc(), &[followed]);
+    assert!(rt; is_right);
 }
 
 // Whether a message was read, and whether memory ran out.
@@ -261,17 +281,25 @@ fn ending<A: Allocator>(found: Result<Whole<A>, Error<A>>) -> (bool, bool) {
     }
 }
 
+// Whether a message is read if the growth after so many fails, whether memory runs out, and whether a growth failed.
+fn whole_after(alloc: Global, bytes: &[u8], before: u64) -> (bool, bool, bool) {
+    let heap = BoundedAllocator::failing_after(alloc, before);
+    let (is_read, is_short) = ending(read_whole(&heap, bytes));
+    (is_read, is_short, heap.has_failed())
+}
+
 #[test]
 fn it_may_run_out_of_memory(rt: HostRuntime) -> Result<(), Fail> {
-    let bytes = hex::decode(rt.alloc(), whole(rt.alloc())?.as_str())?;
+    let bytes = joined(rt.alloc(), &WHOLE)?;
     for before in 0..100u64 {
-        let heap = BoundedAllocator::failing_after(rt.alloc(), before);
-        let (is_read, is_short) = ending(read_whole(&heap, bytes.as_slice()));
-        if !heap.has_failed() {
-            assert!(rt; is_read, "at {before}");
+        let (is_read, is_short, has_failed) = whole_after(rt.alloc(), bytes.as_slice(), before);
+        assert!(rt;
+            is_read && !has_failed || is_short && has_failed,
+            "at {before}"
+        );
+        if !has_failed {
             return Ok(());
         }
-        assert!(rt; is_short, "at {before}");
     }
     Err(Fail::new("it grows without end"))
 }
@@ -285,33 +313,33 @@ const CALLS: [(&str, &str); 2] = [
     ),
 ];
 
-fn from_bytes<T: Decode<Global>>(alloc: Global, bytes: &[u8]) -> Result<String, Fail> {
-    let found: Result<T, Error> = from_slice(alloc, bytes);
-    error_of(alloc, &found)
+fn from_bytes<T: Decode<Global>>(alloc: Global, bytes: &[u8], wanted: &str) -> bool {
+    is_said(alloc, &from_slice::<T, _>(alloc, bytes), wanted)
 }
 
-fn from_stream<T: Decode<Global>>(alloc: Global, bytes: &[u8]) -> Result<String, Fail> {
+fn from_stream<T: Decode<Global>>(alloc: Global, bytes: &[u8], wanted: &str) -> bool {
     let mut reader = bytes;
     let found: Result<T, Error> = from_reader(alloc, &mut reader, &mut Config::new(alloc));
-    error_of(alloc, &found)
+    is_said(alloc, &found, wanted)
 }
 
-fn check_calls<T: Decode<Global>>(alloc: Global) -> Result<(), Fail> {
-    for row in CALLS {
-        let bytes = hex::decode(alloc, row.0)?;
-        let found = from_bytes::<T>(alloc, bytes.as_slice())?;
-        let streamed = from_stream::<T>(alloc, bytes.as_slice())?;
-        if found.as_str() != row.1 || streamed.as_str() != row.1 {
-            return Err(Fail::new(format_args!("{found}, from a stream {streamed}")));
+// Whether both are so.
+fn calls_say<T: Decode<Global>>(alloc: Global, text: &str, wanted: &str) -> bool {
+    match &hex::decode(alloc, text) {
+        Ok(bytes) => {
+            from_bytes::<T>(alloc, bytes, wanted) && from_stream::<T>(alloc, bytes, wanted)
         }
+        Err(_) => false,
     }
-    Ok(())
 }
 
 #[test]
-fn calls_return_what_the_shape_does(rt: HostRuntime) -> Result<(), Fail> {
-    check_calls::<Closed>(rt.alloc())?;
-    check_calls::<Reading<ClosedShape>>(rt.alloc())
+fn calls_return_what_the_shape_does(rt: HostRuntime) {
+    for (text, wanted) in CALLS {
+        let is_right = calls_say::<Closed>(rt.alloc(), text, wanted)
+            && calls_say::<Reading<ClosedShape>>(rt.alloc(), text, wanted);
+        assert!(rt; is_right, "{text}");
+    }
 }
 
 #[test]

@@ -10,6 +10,10 @@ use std::alloc::Global;
 use std::io::ErrorKind;
 use std::test::Fail;
 
+// That message twice.
+const TWICE: &str =
+    "AAAAAA0100000010BBBBBB02000000040000000300000000AAAAAA0100000010BBBBBB02000000040000000300000000";
+
 // What one failed growth comes to.
 #[derive(Clone, Copy, PartialEq, Eq)]
 enum Outcome {
@@ -19,32 +23,32 @@ enum Outcome {
 }
 
 // A message, where the growth after the first `before` fails.
-fn with_failed_growth(alloc: Global, keeps: bool, before: u64) -> Result<Outcome, Fail> {
-    let stream = hex::decode(alloc, MESSAGE)?;
+fn with_failed_growth(alloc: Global, stream: &[u8], keeps: bool, before: u64) -> Outcome {
     let heap = BoundedAllocator::failing_after(alloc, before);
     let mut config = Config::new(&heap);
     if keeps {
         config = config.with_read_buf();
     }
-    let mut reader = slow(stream.as_slice());
+    let mut reader = slow(stream);
     let found = from_reader::<Closed, _, _>(&heap, &mut reader, &mut config);
     let is_same = is_wanted(&found, Wanted::Number(3)) && reader.bytes.is_empty();
     if config.has_buf() != keeps || !(is_same || heap.has_failed() && is_memory(&found)) {
-        return Ok(Outcome::Wrong);
+        return Outcome::Wrong;
     }
     if heap.has_failed() {
-        Ok(Outcome::OutOfMemory)
+        Outcome::OutOfMemory
     } else {
-        Ok(Outcome::Ample)
+        Outcome::Ample
     }
 }
 
 #[test]
 fn each_growth_fails(rt: HostRuntime) -> Result<(), Fail> {
+    let stream = hex::decode(rt.alloc(), MESSAGE)?;
     for keeps in [false, true] {
         let mut last = Outcome::OutOfMemory;
         for before in 0..1000u64 {
-            last = with_failed_growth(rt.alloc(), keeps, before)?;
+            last = with_failed_growth(rt.alloc(), stream.as_slice(), keeps, before);
             if last != Outcome::OutOfMemory {
                 break;
             }
@@ -56,33 +60,32 @@ fn each_growth_fails(rt: HostRuntime) -> Result<(), Fail> {
 
 // Two messages, one after the other, into a buffer of which the growth after the first `before`
 // fails: after the first message took all that was granted, the second takes none.
-fn second_after(alloc: Global, before: u64) -> Result<Outcome, Fail> {
-    let one = hex::decode(alloc, MESSAGE)?;
-    let mut two = hex::decode(alloc, MESSAGE)?;
-    two.extend_from_slice(one.as_slice())?;
+fn second_after(alloc: Global, one: &[u8], two: &[u8], before: u64) -> Outcome {
     let heap = BoundedAllocator::failing_after(alloc, before);
     let ample = BoundedAllocator::failing_after(alloc, 1_000_000);
     let mut config = Config::new(&heap).with_read_buf();
-    let mut reader = slow(two.as_slice());
+    let mut reader = slow(two);
     let first = from_reader::<Closed, _, _>(&ample, &mut reader, &mut config);
     if heap.has_failed() {
-        return Ok(Outcome::OutOfMemory);
+        return Outcome::OutOfMemory;
     }
-    let is_first = is_wanted(&first, Wanted::Number(3)) && is_kept(&config, one.as_slice());
+    let is_first = is_wanted(&first, Wanted::Number(3)) && is_kept(&config, one);
     let second = from_reader::<Closed, _, _>(&ample, &mut reader, &mut config);
-    let is_second = is_wanted(&second, Wanted::Number(3)) && is_kept(&config, one.as_slice());
+    let is_second = is_wanted(&second, Wanted::Number(3)) && is_kept(&config, one);
     if is_first && is_second && reader.bytes.is_empty() && !heap.has_failed() {
-        Ok(Outcome::Ample)
+        Outcome::Ample
     } else {
-        Ok(Outcome::Wrong)
+        Outcome::Wrong
     }
 }
 
 #[test]
 fn a_second_message_takes_no_growth(rt: HostRuntime) -> Result<(), Fail> {
+    let one = hex::decode(rt.alloc(), MESSAGE)?;
+    let two = hex::decode(rt.alloc(), TWICE)?;
     let mut last = Outcome::OutOfMemory;
     for before in 0..1000u64 {
-        last = second_after(rt.alloc(), before)?;
+        last = second_after(rt.alloc(), one.as_slice(), two.as_slice(), before);
         if last != Outcome::OutOfMemory {
             break;
         }
