@@ -18,23 +18,30 @@ fn place_prints(heap: Global, place: Result<ErrorLocation, AllocError>, text: &s
     }
 }
 
-#[test]
-fn texts_of_places(rt: HostRuntime) -> Result<(), Fail> {
-    let alloc = rt.alloc();
-    assert!(rt; place_prints(alloc, Ok(ErrorLocation::unknown()), "Unknown"));
-    assert!(rt;
-        place_prints(
-            alloc,
-            whole_place(alloc),
-            "pos: 16 bytes, parent tags: 0xAAAAAA > 0xBBBBBB, tag: 0xCCCCCC, type: Integer (0x02)",
-        )
-    );
-    let typ = ErrorLocation::at(None, None, None, Some(TtlvType::Boolean));
-    assert!(rt; place_prints(alloc, Ok(typ), "type: Boolean (0x06)"));
+// A place of which only the tag is known, within no structures.
+fn place_of_tag(alloc: Global) -> ErrorLocation {
     let one = Some(TtlvTag::from([0, 0, 1]));
-    let tag = ErrorLocation::at(None, Some(Vec::new(alloc)), one, None);
-    assert!(rt; place_prints(alloc, Ok(tag), "tag: 0x000001"));
-    Ok(())
+    ErrorLocation::at(None, Some(Vec::new(alloc)), one, None)
+}
+
+fn places_print(alloc: Global) -> bool {
+    let whole =
+        "pos: 16 bytes, parent tags: 0xAAAAAA > 0xBBBBBB, tag: 0xCCCCCC, type: Integer (0x02)";
+    let typ = Some(TtlvType::Boolean);
+    place_prints(alloc, Ok(ErrorLocation::unknown()), "Unknown")
+        && place_prints(alloc, whole_place(alloc), whole)
+        && place_prints(
+            alloc,
+            Ok(ErrorLocation::at(None, None, None, typ)),
+            "type: Boolean (0x06)",
+        )
+        && prints(alloc, place_of_tag(alloc), "tag: 0x000001")
+}
+
+#[test]
+fn texts_of_places(rt: HostRuntime) {
+    let is_right = places_print(rt.alloc());
+    assert!(rt; is_right);
 }
 
 // Whether the place is this offset alone.
@@ -97,12 +104,15 @@ fn has_parents(place: &Result<ErrorLocation, AllocError>, tags: &[TtlvTag]) -> b
     }
 }
 
+fn place_is_cloned(alloc: Global) -> bool {
+    let copy = cloned_place(alloc);
+    has_parents(&copy, &[outer()]) && place_prints(alloc, copy, "parent tags: 0xAAAAAA")
+}
+
 #[test]
-fn clones_of_places(rt: HostRuntime) -> Result<(), Fail> {
-    let copy = cloned_place(rt.alloc());
-    assert!(rt; has_parents(&copy, &[outer()]));
-    assert!(rt; place_prints(rt.alloc(), copy, "parent tags: 0xAAAAAA"));
-    Ok(())
+fn clones_of_places(rt: HostRuntime) {
+    let is_right = place_is_cloned(rt.alloc());
+    assert!(rt; is_right);
 }
 
 // Whether the low-level error becomes a SerdeError in these words.
@@ -129,16 +139,27 @@ fn is_malformed(heap: Global, low: types::Error, wanted: MalformedTtlvError) -> 
     }
 }
 
-#[test]
-fn kinds_of_low_errors(rt: HostRuntime) -> Result<(), Fail> {
-    let alloc = rt.alloc();
+// A text where memory is there for it, and an empty one where it isn't.
+fn made(alloc: Global, text: &str) -> String {
+    String::from_str(alloc, text).unwrap_or_else(|_| String::new(alloc))
+}
+
+fn low_errors_are_kinds(alloc: Global) -> bool {
     let words = "Internal error: invalid state machine operaiton";
-    assert!(rt; is_in_words(alloc, types::Error::InvalidStateMachineOperation, words));
-    let name = String::from_str(alloc, "XYZ")?;
-    assert!(rt; is_of_name(alloc, types::Error::InvalidTtlvTag(name), "XYZ"));
     let wanted = MalformedTtlvError::UnsupportedType(10);
-    assert!(rt; is_malformed(alloc, types::Error::UnsupportedTtlvType(10), wanted));
-    Ok(())
+    is_in_words(alloc, types::Error::InvalidStateMachineOperation, words)
+        && is_of_name(
+            alloc,
+            types::Error::InvalidTtlvTag(made(alloc, "XYZ")),
+            "XYZ",
+        )
+        && is_malformed(alloc, types::Error::UnsupportedTtlvType(10), wanted)
+}
+
+#[test]
+fn kinds_of_low_errors(rt: HostRuntime) {
+    let is_right = low_errors_are_kinds(rt.alloc());
+    assert!(rt; is_right);
 }
 
 #[test]
@@ -161,26 +182,42 @@ fn error_prints(heap: Global, kind: ErrorKind, text: &str) -> bool {
     prints(heap, Error::new(kind, ErrorLocation::from(3u8)), text)
 }
 
-#[test]
-fn texts_of_errors(rt: HostRuntime) -> Result<(), Fail> {
-    let alloc = rt.alloc();
-    let kind = ErrorKind::from(io::Error::from(io::ErrorKind::BrokenPipe));
-    assert!(rt; error_prints(alloc, kind, "IO error broken pipe (at pos: 3 bytes)"));
-    let kind = ErrorKind::ResponseSizeExceedsLimit(24);
-    assert!(rt; error_prints(alloc, kind, "Response size 24 exceeds the configured limit"));
+// Errors that own nothing, at offset 3, and their texts.
+fn errors_print(alloc: Global) -> bool {
     let malformed = MalformedTtlvError::UnexpectedTtlvField {
         expected: FieldType::Typ,
         actual: FieldType::Tag,
     };
-    let text = "Malformed TTLV: field Tag where Type is expected (at pos: 3 bytes)";
-    assert!(rt; error_prints(alloc, ErrorKind::from(malformed), text));
-    let text = "Serde error : the variant Create is no number (at pos: 3 bytes)";
-    let kind = ErrorKind::from(SerdeError::InvalidVariant("Create"));
-    assert!(rt; error_prints(alloc, kind, text));
-    assert!(rt; error_prints(alloc, ErrorKind::OutOfMemory, "Out of memory"));
-    let text = "Length overflow (at pos: 3 bytes)";
-    assert!(rt; error_prints(alloc, ErrorKind::LengthOverflow, text));
-    Ok(())
+    let broken = io::Error::from(io::ErrorKind::BrokenPipe);
+    let create = SerdeError::InvalidVariant("Create");
+    error_prints(
+        alloc,
+        ErrorKind::from(broken),
+        "IO error broken pipe (at pos: 3 bytes)",
+    ) && error_prints(
+        alloc,
+        ErrorKind::ResponseSizeExceedsLimit(24),
+        "Response size 24 exceeds the configured limit",
+    ) && error_prints(
+        alloc,
+        ErrorKind::from(malformed),
+        "Malformed TTLV: field Tag where Type is expected (at pos: 3 bytes)",
+    ) && error_prints(
+        alloc,
+        ErrorKind::from(create),
+        "Serde error : the variant Create is no number (at pos: 3 bytes)",
+    ) && error_prints(alloc, ErrorKind::OutOfMemory, "Out of memory")
+        && error_prints(
+            alloc,
+            ErrorKind::LengthOverflow,
+            "Length overflow (at pos: 3 bytes)",
+        )
+}
+
+#[test]
+fn texts_of_errors(rt: HostRuntime) {
+    let is_right = errors_print(rt.alloc());
+    assert!(rt; is_right);
 }
 
 // Whether an error of this kind without a place is printed so.
@@ -250,31 +287,56 @@ fn says(heap: Global, kind: SerdeError, text: &str) -> bool {
     prints(heap, kind, text)
 }
 
-#[test]
-fn texts_of_disagreements(rt: HostRuntime) -> Result<(), Fail> {
-    let alloc = rt.alloc();
-    let kind = SerdeError::InvalidVariant("Create");
-    assert!(rt; says(alloc, kind, "the variant Create is no number"));
-    let kind = SerdeError::InvalidVariantMatcherSyntax(String::from_str(alloc, "if x")?);
-    assert!(rt; says(alloc, kind, "the variant if x is no rule"));
-    let kind = SerdeError::InvalidTag(String::from_str(alloc, "XYZ")?);
-    assert!(rt; says(alloc, kind, "the name XYZ is no tag"));
-    let kind = SerdeError::MissingIdentifier;
-    assert!(rt; says(alloc, kind, "an item in a struct without fields"));
-    let kind = SerdeError::Other(String::from_str(alloc, "in words")?);
-    assert!(rt; says(alloc, kind, "in words"));
-    let kind = SerdeError::UnexpectedTag {
-        expected: TtlvTag::from([0xAA, 0xAA, 0xAA]),
+// Those that own a text, and those that don't.
+fn disagreements_print(alloc: Global) -> bool {
+    let rule = SerdeError::InvalidVariantMatcherSyntax(made(alloc, "if x"));
+    says(alloc, rule, "the variant if x is no rule")
+        && says(
+            alloc,
+            SerdeError::InvalidTag(made(alloc, "XYZ")),
+            "the name XYZ is no tag",
+        )
+        && says(
+            alloc,
+            SerdeError::Other(made(alloc, "in words")),
+            "in words",
+        )
+        && says(
+            alloc,
+            SerdeError::InvalidVariant("Create"),
+            "the variant Create is no number",
+        )
+        && says(
+            alloc,
+            SerdeError::MissingIdentifier,
+            "an item in a struct without fields",
+        )
+        && says(
+            alloc,
+            SerdeError::UnsupportedRustType("f64"),
+            "values of f64 aren't written",
+        )
+}
+
+fn differences_print(alloc: Global) -> bool {
+    let tag = SerdeError::UnexpectedTag {
+        expected: outer(),
         actual: TtlvTag::from([0, 0, 1]),
     };
-    assert!(rt; says(alloc, kind, "tag 0x000001 where 0xAAAAAA is expected"));
-    let kind = SerdeError::UnexpectedType {
+    let typ = SerdeError::UnexpectedType {
         expected: TtlvType::TextString,
         actual: TtlvType::Interval,
     };
-    let text = "type Interval (0x0A) where TextString (0x07) is expected";
-    assert!(rt; says(alloc, kind, text));
-    let kind = SerdeError::UnsupportedRustType("f64");
-    assert!(rt; says(alloc, kind, "values of f64 aren't written"));
-    Ok(())
+    says(alloc, tag, "tag 0x000001 where 0xAAAAAA is expected")
+        && says(
+            alloc,
+            typ,
+            "type Interval (0x0A) where TextString (0x07) is expected",
+        )
+}
+
+#[test]
+fn texts_of_disagreements(rt: HostRuntime) {
+    let is_right = disagreements_print(rt.alloc()) && differences_print(rt.alloc());
+    assert!(rt; is_right);
 }
