@@ -46,26 +46,15 @@ def byte_string(content):
 
 
 class Texts(unittest.TestCase):
-    def test_diagnostics(self):
-        self.assertEqual(kmip_ttlv.to_diag(VERSION, "4200"), "69[6Ai6Bi]")
-        self.assertEqual(kmip_ttlv.to_diag(DESTROY, "4200"), "78[77[69[6Ai6Bi]0Di]0F[5Ce14:79[94t]]]")
-        self.assertEqual(kmip_ttlv.to_diag(bytes.fromhex("4200690100000000"), "4200"), "69[]")
-        self.assertEqual(kmip_ttlv.to_diag(b"", "4200"), "ERR")
-        self.assertEqual(kmip_ttlv.to_diag(VERSION, "420069"), "[42006Ai42006Bi]")
-        self.assertEqual(kmip_ttlv.to_diag(VERSION, "4200690"), "420069[42006Ai42006Bi]")
-
     def test_empty_structures(self):
         """Closed by default; else each stays open, so that the second is in the first."""
         self.assertEqual(kmip_ttlv.to_diag(EMPTY, "4200"), "78[79[]69[]]")
-        self.assertEqual(kmip_ttlv.to_diag(EMPTY, "4200", closed=True), "78[79[]69[]]")
-        self.assertEqual(kmip_ttlv.to_diag(EMPTY, "4200", closed=False), "78[79[69[]]]")
-        self.assertEqual(kmip_ttlv.to_diag(EMPTY[16:], "4200", closed=False), "69[ERR")
         shut = ["Tag: {}0x420078{}, Type: Structure (0x01), Data:", "  Tag: {}0x420079{}, Type: Structure (0x01), Data:"]
         shut.append("  Tag: {}0x420069{}, Type: Structure (0x01), Data:")
         warning = "WARNING: TTLV structure length is zero"
         left = [*shut[:2], warning, "  " + shut[2], warning]
         words = [("Request Message (", ")"), ("Request Payload (", ")"), ("Protocol Version (", ")")]
-        for names, shown in ((None, words), (NAMES, [("", ""), ("", ""), words[2]]), ("", [("", "")] * 3)):
+        for names, shown in ((None, words), (NAMES, [("", ""), ("", ""), words[2]])):
             for closed, lines in ((True, shut), (False, left)):
                 named = iter(shown)
                 expected = "".join((line.format(*next(named)) if "Tag" in line else line) + "\n" for line in lines)

@@ -37,6 +37,8 @@ const BAD_NAMES: u32 = 5;
 extern "C" {
     fn kmip_ttlv_to_diag(bytes: *const c_uchar, bytes_len: usize, prefix: *const c_uchar, prefix_len: usize,
         open_empty: bool, out: *mut c_uchar, room: usize, length: *mut usize, items: *mut usize) -> u32;
+    fn kmip_ttlv_to_diag_checked(bytes: *const c_uchar, bytes_len: usize, prefix: *const c_uchar, prefix_len: usize,
+        out: *mut c_uchar, room: usize, length: *mut usize, fault: *mut Fault) -> u32;
     fn kmip_ttlv_to_standard_text(bytes: *const c_uchar, bytes_len: usize, open_empty: bool, limit: usize,
         out: *mut c_uchar, room: usize, length: *mut usize) -> u32;
     fn kmip_ttlv_to_text(bytes: *const c_uchar, bytes_len: usize, names: *const c_uchar, names_len: usize, open_empty: bool,
@@ -75,6 +77,15 @@ pub fn to_diag(bytes: &[u8], prefix: &str, open_empty: bool) -> (Result<String, 
     (text, items)
 }
 
+/// The redacted diagnostic of one whole message.
+pub fn to_diag_checked(bytes: &[u8], prefix: &str) -> Result<String, u32> {
+    let mut fault = Fault::default();
+    text(|out, length| unsafe {
+        kmip_ttlv_to_diag_checked(bytes.as_ptr(), bytes.len(), prefix.as_ptr(), prefix.len(), out.as_mut_ptr(), out.len(),
+            length, &mut fault)
+    })
+}
+
 /// How much memory a text of so many bytes may take.
 fn limit_of(len: usize) -> usize {
     512 * len + 1_048_576
@@ -89,10 +100,10 @@ pub fn to_text(bytes: &[u8]) -> Result<String, u32> {
 }
 
 /// The same with the names of a table, and the number of its line that can't be read, 0 where each can.
-pub fn to_text_named(bytes: &[u8], names: &str) -> (Result<String, u32>, usize) {
+pub fn to_text_named(bytes: &[u8], names: &str, open_empty: bool) -> (Result<String, u32>, usize) {
     let mut line = usize::MAX;
     let text = text(|out, length| unsafe {
-        kmip_ttlv_to_text(bytes.as_ptr(), bytes.len(), names.as_ptr(), names.len(), false, limit_of(bytes.len()),
+        kmip_ttlv_to_text(bytes.as_ptr(), bytes.len(), names.as_ptr(), names.len(), open_empty, limit_of(bytes.len()),
             out.as_mut_ptr(), out.len(), length, &mut line)
     });
     (text, line)
@@ -108,15 +119,15 @@ pub fn from_diag(diagnostic: &str, prefix: &str, names: &str) -> (Result<String,
     (text, line)
 }
 
-/// The items of a message, or its first fault.
-pub fn items(bytes: &[u8]) -> Result<Vec<Item>, Fault> {
+/// The items of a message, or those before its first fault, and the fault.
+pub fn items(bytes: &[u8]) -> Result<Vec<Item>, (Vec<Item>, Fault)> {
     let mut items = vec![Item::default(); bytes.len() / 8 + 1];
     let (mut count, mut fault) = (0, Fault::default());
     let status = unsafe {
         kmip_ttlv_items(bytes.as_ptr(), bytes.len(), items.as_mut_ptr(), items.len(), &mut count, &mut fault)
     };
     items.truncate(count);
-    if status == OK { Ok(items) } else { Err(fault) }
+    if status == OK { Ok(items) } else { Err((items, fault)) }
 }
 
 /// The first fault of bytes as one whole message, if any.
@@ -144,20 +155,58 @@ pub fn write(items: &[Item], bytes: &[u8]) -> Result<Vec<u8>, BadItem> {
     Ok(out)
 }
 
+fn decoded(digits: &str) -> Vec<u8> {
+    (0..digits.len()).step_by(2).map(|at| u8::from_str_radix(&digits[at..at + 2], 16).unwrap()).collect()
+}
+
+/// The kinds of faults by their numbers.
+const KINDS: [&str; 9] = ["whole", "cut", "no_structure", "unknown_type", "partial_header", "wrong_length", "overlong", "invalid_value", "surplus"];
+
+/// The number that a row of a test has, and what is wanted: the member of the bytes, or of the diagnostic, and a prefix.
+fn found(member: &str, bytes: &[u8], prefix: &str) -> (usize, Vec<u8>) {
+    let shown = |(text, number): (Result<String, u32>, usize)| (number, text.unwrap().into_bytes());
+    match member {
+        "fault" => check(bytes).map_or((0, KINDS[0].into()), |it| (it.offset, KINDS[it.kind as usize].into())),
+        "items" => (items(bytes).map_or_else(|(found, _)| found.len(), |found| found.len()), vec![]),
+        "text" | "closed_text" => shown(to_text_named(bytes, "", member == "text")),
+        "diagnostic" | "closed_diagnostic" => shown(to_diag(bytes, prefix, member == "diagnostic")),
+        "checked_diagnostic" => (0, to_diag_checked(bytes, prefix).unwrap().into_bytes()),
+        "lines" => shown(from_diag(std::str::from_utf8(bytes).unwrap(), prefix, "")),
+        "canonical" => (0, write(&items(bytes).unwrap(), bytes).unwrap()),
+        _ => panic!("{member}"),
+    }
+}
+
+/// Tries the tests that are data, as rows of vectors.py on standard input, and returns whether none differs.
+fn vectors() -> bool {
+    let (mut values, mut differ) = (0, 0);
+    for line in std::io::stdin().lines() {
+        let line = line.unwrap();
+        let [test, member, number, input, prefix, wanted] = line.split('\t').collect::<Vec<_>>()[..] else { panic!("{line}") };
+        let wanted = (number.parse().unwrap(), decoded(wanted));
+        values += 1;
+        if found(member, &decoded(input), std::str::from_utf8(&decoded(prefix)).unwrap()) != wanted {
+            differ += 1;
+            println!("{test}: {member}: differs");
+        }
+    }
+    println!("vectors: {values} values, {differ} differ");
+    values > 0 && differ == 0
+}
+
 fn main() {
-    let digits = "420069010000002042006A0200000004000000010000000042006B02000000040000000000000000";
-    let message: Vec<u8> = (0..digits.len()).step_by(2).map(|at| u8::from_str_radix(&digits[at..at + 2], 16).unwrap()).collect();
-    assert_eq!(to_diag(&message, "4200", false), (Ok("69[6Ai6Bi]".to_owned()), 3));
-    assert_eq!(to_diag(&[0x42, 0, 0x69, 1, 0, 0, 0, 0], "4200", false), (Ok("69[]".to_owned()), 1));
-    assert_eq!(to_diag(&[0x42, 0, 0x69, 1, 0, 0, 0, 0], "4200", true), (Ok("69[ERR".to_owned()), 2));
+    if std::env::args().len() > 1 {
+        std::process::exit(if vectors() { 0 } else { 1 });
+    }
+    let message = decoded("420069010000002042006A0200000004000000010000000042006B02000000040000000000000000");
     assert!(to_text(&message).unwrap().contains("Tag: Protocol Version Major (0x42006A), Type: Integer (0x02), Data: 0x000001 (1)\n"));
-    let (lines, line) = to_text_named(&message, "420069 Version");
+    let (lines, line) = to_text_named(&message, "420069 Version", false);
     assert!(lines.unwrap().starts_with("Tag: Version (0x420069), Type: Structure (0x01), Data:\n"));
     assert_eq!(line, 0);
     let (lines, line) = from_diag("69[6Ai6Bi]", "4200", "42006A Major");
     assert!(lines.unwrap().contains("  Tag: Major (0x42006A), Type: Integer (0x02), Data: <redacted>\n"));
     assert_eq!(line, 0);
-    assert_eq!(to_text_named(&message, "\nMajor"), (Err(BAD_NAMES), 2));
+    assert_eq!(to_text_named(&message, "\nMajor", false), (Err(BAD_NAMES), 2));
     assert_eq!(from_diag("69[6Ai6Bi]", "4200", "\nMajor"), (Err(BAD_NAMES), 2));
     let found = items(&message).unwrap();
     assert_eq!(found.len(), 3);
@@ -169,7 +218,6 @@ fn main() {
     assert_eq!(write(&deep, &message), Err(BadItem { index: 1, kind: 9 }));
     assert_eq!(check(&message), None);
     assert_eq!(check(&message[..39]), Some(Fault { offset: 24, kind: 1 }));
-    assert_eq!(to_diag(&[], "", false), (Ok("ERR".to_owned()), 1));
     let mut seed = 20251123u64;
     for _ in 0..10_000 {
         let mut bytes = message.clone();

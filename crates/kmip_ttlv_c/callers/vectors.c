@@ -1,0 +1,156 @@
+/* The tests that are data, tried from C: reads the rows that vectors.py prints from standard input, each a line of a test, a member
+ * and a number, and in hexadecimal the input, a prefix and what is wanted. Each text has a buffer of its exact size, after one that
+ * is a byte too small, and each input a block of its own, so that a sanitizer sees what is read or written past it. */
+#define _POSIX_C_SOURCE 200809L /* getline */
+#include "kmip_ttlv.h"
+
+#include <stdio.h>
+#include <stdlib.h>
+#include <string.h>
+
+typedef struct {
+    uint8_t *bytes;
+    size_t length;
+} block;
+
+typedef struct {
+    const char *member;
+    size_t number;
+    block input, prefix, wanted;
+} row;
+
+static const char *const KINDS[] = {
+    [KMIP_TTLV_WHOLE] = "whole",
+    [KMIP_TTLV_CUT] = "cut",
+    [KMIP_TTLV_NO_STRUCTURE] = "no_structure",
+    [KMIP_TTLV_UNKNOWN_TYPE] = "unknown_type",
+    [KMIP_TTLV_PARTIAL_HEADER] = "partial_header",
+    [KMIP_TTLV_WRONG_LENGTH] = "wrong_length",
+    [KMIP_TTLV_OVERLONG] = "overlong",
+    [KMIP_TTLV_INVALID_VALUE] = "invalid_value",
+    [KMIP_TTLV_SURPLUS] = "surplus",
+};
+
+static block room_for(size_t length) {
+    const block made = {malloc(length ? length : 1), length};
+    return made;
+}
+
+/* The bytes of hexadecimal digits, which are in lowercase. */
+static block decoded(const char *digits) {
+    const block made = room_for(strlen(digits) / 2);
+    for (size_t i = 0; i < 2 * made.length; i++) {
+        const int value = digits[i] <= '9' ? digits[i] - '0' : digits[i] - 'a' + 10;
+        made.bytes[i / 2] = (uint8_t)(i % 2 ? made.bytes[i / 2] << 4 | value : value);
+    }
+    return made;
+}
+
+static bool is(const row *it, const char *member) {
+    return strcmp(it->member, member) == 0;
+}
+
+/* The canonical bytes of a whole message, by a list of its items. */
+static kmip_ttlv_status written(const block *in, uint8_t *out, size_t room, size_t *length) {
+    const size_t most = in->length / 8 + 1;
+    kmip_ttlv_item *items = malloc(most * sizeof *items);
+    kmip_ttlv_fault fault;
+    kmip_ttlv_bad_item bad;
+    size_t count = 0;
+    kmip_ttlv_status status = kmip_ttlv_items(in->bytes, in->length, items, most, &count, &fault);
+    if (status == KMIP_TTLV_OK) {
+        status = kmip_ttlv_write(items, count, in->bytes, in->length, out, room, length, &bad);
+    }
+    free(items);
+    return status;
+}
+
+/* Makes the text of a row, or its bytes; `number` is as its member says. */
+static kmip_ttlv_status made(const row *it, uint8_t *out, size_t room, size_t *length, size_t *number) {
+    const block *in = &it->input, *prefix = &it->prefix;
+    kmip_ttlv_fault fault = {0, 0};
+    kmip_ttlv_status status;
+    *number = 0;
+    if (is(it, "canonical")) {
+        return written(in, out, room, length);
+    }
+    if (is(it, "lines")) {
+        return kmip_ttlv_from_diag(in->bytes, in->length, prefix->bytes, prefix->length, in->bytes, 0, SIZE_MAX, out, room, length,
+                                   number);
+    }
+    if (is(it, "text") || is(it, "closed_text")) {
+        return kmip_ttlv_to_text(in->bytes, in->length, in->bytes, 0, is(it, "text"), SIZE_MAX, out, room, length, number);
+    }
+    if (is(it, "checked_diagnostic")) {
+        status = kmip_ttlv_to_diag_checked(in->bytes, in->length, prefix->bytes, prefix->length, out, room, length, &fault);
+        *number = fault.offset + fault.kind;
+        return status;
+    }
+    return kmip_ttlv_to_diag(in->bytes, in->length, prefix->bytes, prefix->length, is(it, "diagnostic"), out, room, length, number);
+}
+
+static bool is_made(const row *it) {
+    size_t length = 99, number = 99;
+    const block small = room_for(it->wanted.length ? it->wanted.length - 1 : 0), out = room_for(it->wanted.length);
+    bool same = it->wanted.length == 0 || (made(it, small.bytes, small.length, &length, &number) == KMIP_TTLV_NO_ROOM &&
+                                           length == it->wanted.length && number == it->number);
+    same = same && made(it, out.bytes, out.length, &length, &number) == KMIP_TTLV_OK && number == it->number;
+    same = same && length == out.length && memcmp(out.bytes, it->wanted.bytes, length) == 0;
+    free(small.bytes);
+    free(out.bytes);
+    return same;
+}
+
+/* Whether the three calls that check a message have the fault, or, of a row of items, the list has their number. */
+static bool is_walked(const row *it) {
+    const block *in = &it->input;
+    kmip_ttlv_fault checked = {9, 9}, walked = {9, 9}, shown = {9, 9};
+    kmip_ttlv_item none;
+    size_t count = 99, length = 99;
+    const bool is_whole = kmip_ttlv_check(in->bytes, in->length, &checked) == KMIP_TTLV_OK;
+    const kmip_ttlv_status walk = kmip_ttlv_items(in->bytes, in->length, &none, 0, &count, &walked);
+    const kmip_ttlv_status text = kmip_ttlv_to_diag_checked(in->bytes, in->length, in->bytes, 0, in->bytes, 0, &length, &shown);
+    const kmip_ttlv_status wanted = is_whole ? KMIP_TTLV_NO_ROOM : KMIP_TTLV_MALFORMED;
+    const bool same = walk == wanted && text == wanted && checked.offset == walked.offset && checked.kind == walked.kind &&
+                      checked.offset == shown.offset && checked.kind == shown.kind;
+    if (is(it, "items")) {
+        return same && count == it->number;
+    }
+    const char *kind = checked.kind <= KMIP_TTLV_SURPLUS ? KINDS[checked.kind] : "";
+    return same && checked.offset == it->number && strlen(kind) == it->wanted.length && memcmp(kind, it->wanted.bytes, strlen(kind)) == 0;
+}
+
+/* Ends the field at `at`, and returns the next one. */
+static char *next(char *at) {
+    char *end = at + strcspn(at, "\t\n");
+    const bool is_last = *end != '\t';
+    *end = 0;
+    return is_last ? end : end + 1;
+}
+
+/* Tries a line, and returns whether it is as it says. */
+static bool try_line(char *test) {
+    char *member = next(test), *number = next(member), *input = next(number), *prefix = next(input), *wanted = next(prefix);
+    next(wanted);
+    row it = {member, strtoul(number, NULL, 10), decoded(input), decoded(prefix), decoded(wanted)};
+    const bool same = is(&it, "fault") || is(&it, "items") ? is_walked(&it) : is_made(&it);
+    if (!same) {
+        printf("%s: %s: differs\n", test, member);
+    }
+    free(it.input.bytes);
+    free(it.prefix.bytes);
+    free(it.wanted.bytes);
+    return same;
+}
+
+int main(void) {
+    char *line = NULL;
+    size_t size = 0, values = 0, differ = 0;
+    while (getline(&line, &size, stdin) >= 0) {
+        values++;
+        differ += !try_line(line);
+    }
+    free(line);
+    printf("vectors: %zu values, %zu differ\n", values, differ);
+    return values > 0 && differ == 0 ? 0 : 1;
+}
