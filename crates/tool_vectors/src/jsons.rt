@@ -1,7 +1,8 @@
-//! Messages as JSON: each type, texts that need escapes, hidden values, and messages with a fault.
+//! Messages as JSON: hidden values, several messages, and messages with a fault. What JSON a message has are tests that are data
+//! (crates/vectors).
 
 use crate::looks::KEY_BLOCK;
-use crate::runs::{CREATE_RESPONSE, VERSION, run_with};
+use crate::runs::{VERSION, run_with};
 use std::alloc::{AllocError, Global};
 use ttlv_run::{Encoding, Hiding, Task};
 
@@ -9,27 +10,15 @@ use ttlv_run::{Encoding, Hiding, Task};
 pub const VERSION_JSON: &str =
     "{\"tag\":\"0x420069\",\"type\":\"Structure\",\"value\":[{\"tag\":\"0x42006A\",\"type\":\"Integer\",\"value\":\"0x00000001\"},{\"tag\":\"0x42006B\",\"type\":\"Integer\",\"value\":\"0x00000000\"}]}\n";
 
-/// That of the response that created a key.
-pub const RESPONSE_JSON: &str =
-    "{\"tag\":\"0x42007B\",\"type\":\"Structure\",\"value\":[{\"tag\":\"0x42007A\",\"type\":\"Structure\",\"value\":[{\"tag\":\"0x420069\",\"type\":\"Structure\",\"value\":[{\"tag\":\"0x42006A\",\"type\":\"Integer\",\"value\":\"0x00000001\"},{\"tag\":\"0x42006B\",\"type\":\"Integer\",\"value\":\"0x00000000\"}]},{\"tag\":\"0x420092\",\"type\":\"DateTime\",\"value\":\"0x000000004AFBE7C2\"},{\"tag\":\"0x42000D\",\"type\":\"Integer\",\"value\":\"0x00000001\"}]},{\"tag\":\"0x42000F\",\"type\":\"Structure\",\"value\":[{\"tag\":\"0x42005C\",\"type\":\"Enumeration\",\"value\":\"0x00000001\"},{\"tag\":\"0x42007F\",\"type\":\"Enumeration\",\"value\":\"0x00000000\"},{\"tag\":\"0x42007C\",\"type\":\"Structure\",\"value\":[{\"tag\":\"0x420057\",\"type\":\"Enumeration\",\"value\":\"0x00000002\"},{\"tag\":\"0x420094\",\"type\":\"TextString\",\"value\":\"fc8833de-70d2-4ece-b063-fede3a3c59fe\"}]}]}]}\n";
-
-/// An item of each type that no message above has, and an empty structure in front of another.
-pub const TYPES: &str =
+// An item of each type that the version doesn't have, and an empty structure in front of another.
+const TYPES: &str =
     "4200690100000078420001030000000800000000000001024200020400000008FFFFFFFFFFFFFFFF420003060000000800000000000000014200040600000008000000000000000042000508000000030102AB00000000004200060A0000000400000E1000000000420007010000000042000801000000084200090100000000";
 
-pub const TYPES_JSON: &str =
+const TYPES_JSON: &str =
     "{\"tag\":\"0x420069\",\"type\":\"Structure\",\"value\":[{\"tag\":\"0x420001\",\"type\":\"LongInteger\",\"value\":\"0x0000000000000102\"},{\"tag\":\"0x420002\",\"type\":\"BigInteger\",\"value\":\"0xFFFFFFFFFFFFFFFF\"},{\"tag\":\"0x420003\",\"type\":\"Boolean\",\"value\":true},{\"tag\":\"0x420004\",\"type\":\"Boolean\",\"value\":false},{\"tag\":\"0x420005\",\"type\":\"ByteString\",\"value\":\"0102AB\"},{\"tag\":\"0x420006\",\"type\":\"Interval\",\"value\":\"0x00000E10\"},{\"tag\":\"0x420007\",\"type\":\"Structure\",\"value\":[]},{\"tag\":\"0x420008\",\"type\":\"Structure\",\"value\":[{\"tag\":\"0x420009\",\"type\":\"Structure\",\"value\":[]}]}]}\n";
 
 const TYPES_HIDDEN: &str =
     "{\"tag\":\"0x420069\",\"type\":\"Structure\",\"value\":[{\"tag\":\"0x420001\",\"type\":\"LongInteger\",\"value\":null},{\"tag\":\"0x420002\",\"type\":\"BigInteger\",\"value\":null},{\"tag\":\"0x420003\",\"type\":\"Boolean\",\"value\":null},{\"tag\":\"0x420004\",\"type\":\"Boolean\",\"value\":null},{\"tag\":\"0x420005\",\"type\":\"ByteString\",\"value\":null},{\"tag\":\"0x420006\",\"type\":\"Interval\",\"value\":null},{\"tag\":\"0x420007\",\"type\":\"Structure\",\"value\":[]},{\"tag\":\"0x420008\",\"type\":\"Structure\",\"value\":[{\"tag\":\"0x420009\",\"type\":\"Structure\",\"value\":[]}]}]}\n";
-
-// A text with a quote, a backslash, a line feed, U+0008, U+000C, a carriage return, a tab, U+0001, U+001F, U+007F, and
-// characters of two, three and four bytes.
-pub const TEXT: &str =
-    "42006901000000204200940700000013225C0A080C0D09011F7FC3A9E697A5F09F98800000000000";
-
-pub const TEXT_JSON: &str =
-    "{\"tag\":\"0x420069\",\"type\":\"Structure\",\"value\":[{\"tag\":\"0x420094\",\"type\":\"TextString\",\"value\":\"\\\"\\\\\\n\\b\\f\\r\\t\\u0001\\u001f\u{7f}é日😀\"}]}\n";
 
 // The key block without its key material, its credential and its password.
 const KEY_BLOCK_HIDDEN: &str =
@@ -38,13 +27,10 @@ const KEY_BLOCK_HIDDEN: &str =
 // What is hidden, an input, its JSON, and what is printed on standard error.
 type Row = (Hiding, &'static str, &'static str, &'static str);
 
-const ROWS: [Row; 10] = [
+const ROWS: [Row; 7] = [
     (Hiding::Nothing, VERSION, VERSION_JSON, ""),
-    (Hiding::Nothing, CREATE_RESPONSE, RESPONSE_JSON, ""),
-    (Hiding::Nothing, TYPES, TYPES_JSON, ""),
     (Hiding::Values, TYPES, TYPES_HIDDEN, ""),
     (Hiding::Secrets, TYPES, TYPES_JSON, ""),
-    (Hiding::Nothing, TEXT, TEXT_JSON, ""),
     (Hiding::Secrets, KEY_BLOCK, KEY_BLOCK_HIDDEN, ""),
     // Two messages, a line each.
     (
