@@ -6,14 +6,16 @@ of the bytes of a message.
     reference.py --check       compares those members of the tests in data/ that it knows with its own
 
 It knows the first fault, the number of items, and for whole messages the texts, diagnostics and JSON in which empty Structures are
-closed, and the canonical bytes. What is printed up to a fault, or of Structures that stay open, it doesn't know. The last line of
+closed, the canonical bytes, and tables of names. What is printed up to a fault, or of Structures that stay open, it doesn't know. The last line of
 --check is 'N compared, M differ', and the status 0 where M is 0.
 """
 import glob
 import json
 import os
+import re
 import sys
 
+HERE = os.path.dirname(os.path.abspath(__file__))
 STRUCTURE, INTEGER, LONG, BIG, ENUMERATION, BOOLEAN, TEXT, BYTES, DATE, INTERVAL = range(1, 11)
 TYPES = [None, "Structure", "Integer", "LongInteger", "BigInteger", "Enumeration", "Boolean", "TextString", "ByteString", "DateTime", "Interval"]
 LETTERS = {INTEGER: "i", LONG: "l", BIG: "I", BOOLEAN: "b", TEXT: "t", BYTES: "o", DATE: "d", INTERVAL: "n"}
@@ -81,9 +83,32 @@ def printed(typ, content):
     return "" if typ == STRUCTURE else " " + content.hex().upper()
 
 
-def text(items):
-    lines = (f"{'  ' * depth}Tag: 0x{tag:04X}, Type: {TYPES[typ]} (0x{typ:02X}), Data:{printed(typ, it)}\n" for _, depth, tag, typ, _, it in items)
-    return "".join(lines)
+def text(items, names={}):
+    out = ""
+    for _, depth, tag, typ, _, content in items:
+        shown = f"{names[tag]} (0x{tag:04X})" if tag in names else f"0x{tag:04X}"
+        out += f"{'  ' * depth}Tag: {shown}, Type: {TYPES[typ]} (0x{typ:02X}), Data:{printed(typ, content)}\n"
+    return out
+
+
+def names_in(table):
+    """The names of a table of tags, and the number of the first line that can't be read, or 0."""
+    names = {}
+    for number, line in enumerate(table.split("\n"), 1):
+        line = line.rstrip()
+        row = re.fullmatch(r"(?:0x)?([0-9A-Fa-f]{1,6}) (.+)", line)
+        if row:
+            names[int(row[1], 16)] = row[2]
+        elif line and not line.startswith("#"):
+            return names, number
+    return names, 0
+
+
+def standard_names():
+    """The names of the specifications."""
+    with open(f"{HERE}/../../data/kmip_tags.tsv", encoding="utf-8") as it:
+        rows = [line.split("\t") for line in it if not line.startswith("#") and line.strip()]
+    return {int(row[0], 16): row[1] for row in rows if row[2] != "none"}
 
 
 def diagnostic(items, prefix):
@@ -165,22 +190,37 @@ def compare(where, test):
     return len(pairs), len(bad)
 
 
+def compare_named(where, test):
+    """The same of a table of names: its bad line, and the text of the bytes with these names."""
+    names, bad_line = names_in(test["table"]) if "table" in test else (standard_names(), 0)
+    pairs = [("bad_line", test.get("bad_line", 0), bad_line)]
+    if "text" in test:
+        pairs.append(("text", test["text"], text(walk(bytes.fromhex(test["bytes"]))[0], names)))
+    bad = [it for it in pairs if it[1] != it[2]]
+    for key, found, own in bad:
+        print(f"{where}: {test['name']}: {key}: {found!r}, and by the reference {own!r}")
+    return len(pairs), len(bad)
+
+
 def main(words):
     if words != ["--check"]:
         print(json.dumps([known(bytes.fromhex(it)) for it in words], ensure_ascii=False, indent=2))
         return 0
     compared = differ = 0
-    for path in sorted(glob.glob(f"{os.path.dirname(os.path.abspath(__file__))}/data/*.json")):
+    for path in sorted(glob.glob(f"{HERE}/data/*.json")):
         with open(path, encoding="utf-8") as it:
             held = json.load(it)
         decodings = [test for group in held.get("decodings", []) for test in group["tests"]]
-        for tests in (*(held.get(it, []) for it in ("messages", "diagnostics", "jsons", "encodings")), decodings):
+        for tests in (*(held.get(it, []) for it in ("messages", "diagnostics", "names", "jsons", "encodings")), decodings):
             names = [it["name"] for it in tests]
             for name in {it for it in names if names.count(it) > 1}:
                 print(f"{os.path.basename(path)}: {name}: two tests have this name")
                 differ += 1
         for test in held.get("messages", []):
             more, bad = compare(os.path.basename(path), test)
+            compared, differ = compared + more, differ + bad
+        for test in held.get("names", []):
+            more, bad = compare_named(os.path.basename(path), test)
             compared, differ = compared + more, differ + bad
     print(f"{compared} compared, {differ} differ")
     return 1 if differ else 0

@@ -162,16 +162,20 @@ fn decoded(digits: &str) -> Vec<u8> {
 /// The kinds of faults by their numbers.
 const KINDS: [&str; 9] = ["whole", "cut", "no_structure", "unknown_type", "partial_header", "wrong_length", "overlong", "invalid_value", "surplus"];
 
-/// The number that a row of a test has, and what is wanted: the member of the bytes, or of the diagnostic, and a prefix.
-fn found(member: &str, bytes: &[u8], prefix: &str) -> (usize, Vec<u8>) {
+/// The number that a row of a test has, and what is wanted: the member of the bytes, or of the diagnostic, a prefix and a table.
+fn found(member: &str, bytes: &[u8], prefix: &str, names: &str) -> (usize, Vec<u8>) {
     let shown = |(text, number): (Result<String, u32>, usize)| (number, text.unwrap().into_bytes());
+    let is_cut = || check(bytes).unwrap().kind == 1 && to_diag(bytes, "", false).0.unwrap().ends_with("ERR");
     match member {
         "fault" => check(bytes).map_or((0, KINDS[0].into()), |it| (it.offset, KINDS[it.kind as usize].into())),
         "items" => (items(bytes).map_or_else(|(found, _)| found.len(), |found| found.len()), vec![]),
-        "text" | "closed_text" => shown(to_text_named(bytes, "", member == "text")),
+        "cut" => (0, if is_cut() { "cut".into() } else { vec![] }),
+        "bad_line" => (to_text_named(bytes, names, false).1, vec![]),
+        "standard_text" => (0, to_text(bytes).unwrap().into_bytes()),
+        "text" | "closed_text" => shown(to_text_named(bytes, names, member == "text")),
         "diagnostic" | "closed_diagnostic" => shown(to_diag(bytes, prefix, member == "diagnostic")),
         "checked_diagnostic" => (0, to_diag_checked(bytes, prefix).unwrap().into_bytes()),
-        "lines" => shown(from_diag(std::str::from_utf8(bytes).unwrap(), prefix, "")),
+        "lines" => shown(from_diag(std::str::from_utf8(bytes).unwrap(), prefix, names)),
         "canonical" => (0, write(&items(bytes).unwrap(), bytes).unwrap()),
         _ => panic!("{member}"),
     }
@@ -182,10 +186,11 @@ fn vectors() -> bool {
     let (mut values, mut differ) = (0, 0);
     for line in std::io::stdin().lines() {
         let line = line.unwrap();
-        let [test, member, number, input, prefix, wanted] = line.split('\t').collect::<Vec<_>>()[..] else { panic!("{line}") };
+        let [test, member, number, input, prefix, names, wanted] = line.split('\t').collect::<Vec<_>>()[..] else { panic!("{line}") };
         let wanted = (number.parse().unwrap(), decoded(wanted));
         values += 1;
-        if found(member, &decoded(input), std::str::from_utf8(&decoded(prefix)).unwrap()) != wanted {
+        let [prefix, names] = [prefix, names].map(|it| String::from_utf8(decoded(it)).unwrap());
+        if found(member, &decoded(input), &prefix, &names) != wanted {
             differ += 1;
             println!("{test}: {member}: differs");
         }

@@ -1,5 +1,5 @@
 /* The tests that are data, tried from C: reads the rows that vectors.py prints from standard input, each a line of a test, a member
- * and a number, and in hexadecimal the input, a prefix and what is wanted. Each text has a buffer of its exact size, after one that
+ * and a number, and in hexadecimal the input, a prefix, a table of names and what is wanted. Each text has a buffer of its exact size, after one that
  * is a byte too small, and each input a block of its own, so that a sanitizer sees what is read or written past it. */
 #define _POSIX_C_SOURCE 200809L /* getline */
 #include "kmip_ttlv.h"
@@ -16,7 +16,7 @@ typedef struct {
 typedef struct {
     const char *member;
     size_t number;
-    block input, prefix, wanted;
+    block input, prefix, names, wanted;
 } row;
 
 static const char *const KINDS[] = {
@@ -67,7 +67,7 @@ static kmip_ttlv_status written(const block *in, uint8_t *out, size_t room, size
 
 /* Makes the text of a row, or its bytes; `number` is as its member says. */
 static kmip_ttlv_status made(const row *it, uint8_t *out, size_t room, size_t *length, size_t *number) {
-    const block *in = &it->input, *prefix = &it->prefix;
+    const block *in = &it->input, *prefix = &it->prefix, *names = &it->names;
     kmip_ttlv_fault fault = {0, 0};
     kmip_ttlv_status status;
     *number = 0;
@@ -75,11 +75,14 @@ static kmip_ttlv_status made(const row *it, uint8_t *out, size_t room, size_t *l
         return written(in, out, room, length);
     }
     if (is(it, "lines")) {
-        return kmip_ttlv_from_diag(in->bytes, in->length, prefix->bytes, prefix->length, in->bytes, 0, SIZE_MAX, out, room, length,
-                                   number);
+        return kmip_ttlv_from_diag(in->bytes, in->length, prefix->bytes, prefix->length, names->bytes, names->length, SIZE_MAX, out,
+                                   room, length, number);
     }
-    if (is(it, "text") || is(it, "closed_text")) {
-        return kmip_ttlv_to_text(in->bytes, in->length, in->bytes, 0, is(it, "text"), SIZE_MAX, out, room, length, number);
+    if (is(it, "standard_text")) {
+        return kmip_ttlv_to_standard_text(in->bytes, in->length, false, SIZE_MAX, out, room, length);
+    }
+    if (is(it, "text") || is(it, "closed_text") || is(it, "bad_line")) {
+        return kmip_ttlv_to_text(in->bytes, in->length, names->bytes, names->length, is(it, "text"), SIZE_MAX, out, room, length, number);
     }
     if (is(it, "checked_diagnostic")) {
         status = kmip_ttlv_to_diag_checked(in->bytes, in->length, prefix->bytes, prefix->length, out, room, length, &fault);
@@ -90,11 +93,12 @@ static kmip_ttlv_status made(const row *it, uint8_t *out, size_t room, size_t *l
 }
 
 static bool is_made(const row *it) {
+    const kmip_ttlv_status wanted = is(it, "bad_line") ? KMIP_TTLV_BAD_NAMES : KMIP_TTLV_OK;
     size_t length = 99, number = 99;
     const block small = room_for(it->wanted.length ? it->wanted.length - 1 : 0), out = room_for(it->wanted.length);
     bool same = it->wanted.length == 0 || (made(it, small.bytes, small.length, &length, &number) == KMIP_TTLV_NO_ROOM &&
                                            length == it->wanted.length && number == it->number);
-    same = same && made(it, out.bytes, out.length, &length, &number) == KMIP_TTLV_OK && number == it->number;
+    same = same && made(it, out.bytes, out.length, &length, &number) == wanted && number == it->number;
     same = same && length == out.length && memcmp(out.bytes, it->wanted.bytes, length) == 0;
     free(small.bytes);
     free(out.bytes);
@@ -120,6 +124,18 @@ static bool is_walked(const row *it) {
     return same && checked.offset == it->number && strlen(kind) == it->wanted.length && memcmp(kind, it->wanted.bytes, strlen(kind)) == 0;
 }
 
+/* Whether a beginning of a message is cut, and its diagnostic ends so, which has less than twice their length. */
+static bool is_cut(const row *it) {
+    const block *in = &it->input, out = room_for(2 * in->length + 16);
+    kmip_ttlv_fault fault = {9, 9};
+    size_t length = 0, items = 0;
+    bool same = kmip_ttlv_check(in->bytes, in->length, &fault) == KMIP_TTLV_MALFORMED && fault.kind == KMIP_TTLV_CUT;
+    same = same && kmip_ttlv_to_diag(in->bytes, in->length, in->bytes, 0, false, out.bytes, out.length, &length, &items) == KMIP_TTLV_OK;
+    same = same && length >= 3 && memcmp(out.bytes + length - 3, "ERR", 3) == 0;
+    free(out.bytes);
+    return same;
+}
+
 /* Ends the field at `at`, and returns the next one. */
 static char *next(char *at) {
     char *end = at + strcspn(at, "\t\n");
@@ -130,15 +146,17 @@ static char *next(char *at) {
 
 /* Tries a line, and returns whether it is as it says. */
 static bool try_line(char *test) {
-    char *member = next(test), *number = next(member), *input = next(number), *prefix = next(input), *wanted = next(prefix);
+    char *member = next(test), *number = next(member), *input = next(number), *prefix = next(input), *names = next(prefix);
+    char *wanted = next(names);
     next(wanted);
-    row it = {member, strtoul(number, NULL, 10), decoded(input), decoded(prefix), decoded(wanted)};
-    const bool same = is(&it, "fault") || is(&it, "items") ? is_walked(&it) : is_made(&it);
+    row it = {member, strtoul(number, NULL, 10), decoded(input), decoded(prefix), decoded(names), decoded(wanted)};
+    const bool same = is(&it, "cut") ? is_cut(&it) : is(&it, "fault") || is(&it, "items") ? is_walked(&it) : is_made(&it);
     if (!same) {
         printf("%s: %s: differs\n", test, member);
     }
     free(it.input.bytes);
     free(it.prefix.bytes);
+    free(it.names.bytes);
     free(it.wanted.bytes);
     return same;
 }

@@ -1,9 +1,10 @@
-"""The tests that are data (docs/VECTORS.md, the lists `messages`, `diagnostics` and `jsons`), tried with the Python module; or as rows,
+"""The tests that are data (docs/VECTORS.md, the lists `messages`, `diagnostics`, `names` and `jsons`), tried with the Python module; or as rows,
 for the callers in C and Rust.
 
     KMIP_TTLV_LIBRARY=PATH python3 vectors.py [--rows]
 
-A row is a line: the test, the member and a number, and in hexadecimal the input, a prefix of tags and what is wanted, with tabs between.
+A row is a line: the test, the member and a number, and in hexadecimal the input, a prefix of tags, a table of names and what is wanted,
+with tabs between.
 No call takes or makes JSON, so in its place are the nodes that it says: what its bytes are decoded as, and what is encoded as them.
 
 Each value that differs is a line. The last line is 'vectors: N values, M differ', and the status 0 if M is 0 and N isn't.
@@ -30,20 +31,34 @@ def tests(kind):
 
 
 def rows_of(test):
-    """The rows of the bytes of a message: member, number, input, prefix and what is wanted."""
+    """The rows of the bytes of a message: member, number, input, prefix, names and what is wanted."""
     fault, message = test.get("fault", {"kind": "whole", "offset": 0}), bytes.fromhex(test["bytes"])
-    yield "fault", fault["offset"], message, "", fault["kind"].encode()
+    yield "fault", fault["offset"], message, "", "", fault["kind"].encode()
     if "items" in test:
-        yield "items", test["items"], message, "", b""
+        yield "items", test["items"], message, "", "", b""
+    # each beginning, at which a diagnostic ends with ERR
+    for length in range(len(message) if test.get("cuts") else 0):
+        yield "cut", 0, message[:length], "", "", b"cut"
     for member in ("text", "closed_text"):
         if member in test:
-            yield member, 0, message, "", test[member].encode()
+            yield member, 0, message, "", "", test[member].encode()
     for shown in test.get("diagnostics", []):
-        yield "closed_diagnostic" if shown["closed"] else "diagnostic", shown["read"], message, shown["prefix"], shown["text"].encode()
+        yield "closed_diagnostic" if shown["closed"] else "diagnostic", shown["read"], message, shown["prefix"], "", shown["text"].encode()
         if shown["closed"] and "fault" not in test:
-            yield "checked_diagnostic", 0, message, shown["prefix"], shown["text"].encode()
+            yield "checked_diagnostic", 0, message, shown["prefix"], "", shown["text"].encode()
     if "canonical" in test:
-        yield "canonical", 0, message, "", bytes.fromhex(test["canonical"])
+        yield "canonical", 0, message, "", "", bytes.fromhex(test["canonical"])
+
+
+def named_rows_of(test):
+    """The same of a table of names."""
+    table, message = test.get("table", ""), bytes.fromhex(test.get("bytes", ""))
+    if "bad_line" in test:
+        yield "bad_line", test["bad_line"], message, "", table, b""
+    if "text" in test:
+        yield "closed_text" if "table" in test else "standard_text", 0, message, "", table, test["text"].encode()
+    if "lines" in test:
+        yield "lines", 0, test["diagnostic"].encode(), test["prefix"], table, test["lines"].encode()
 
 
 def rows():
@@ -51,17 +66,33 @@ def rows():
         for row in rows_of(test):
             yield name, *row
     for name, test in tests("diagnostics"):
-        yield name, "lines", 0, test["diagnostic"].encode(), test["prefix"], test["lines"].encode()
+        yield name, "lines", 0, test["diagnostic"].encode(), test["prefix"], "", test["lines"].encode()
+    for name, test in tests("names"):
+        for row in named_rows_of(test):
+            yield name, *row
 
 
-def found_of(member, given, prefix):
+def bad_line_of(given, names):
+    try:
+        kmip_ttlv.to_text(given, names)
+    except kmip_ttlv.BadNames as refused:
+        return refused.line
+
+
+def found_of(member, given, prefix, names):
     """What the module makes of the input of a row: the number and what is wanted."""
     if member == "lines":
-        return 0, kmip_ttlv.from_diag(given.decode(), prefix).encode()
+        return 0, kmip_ttlv.from_diag(given.decode(), prefix, names).encode()
+    if member == "bad_line":
+        return bad_line_of(given, names), b""
     if member == "canonical":
         return 0, kmip_ttlv.write(kmip_ttlv.items(given), given)
+    if member == "cut":
+        return 0, b"cut" if kmip_ttlv.check(given).kind == 1 and kmip_ttlv.to_diag(given).endswith("ERR") else b""
+    if member == "standard_text":
+        return 0, kmip_ttlv.to_text(given).encode()
     if member in ("text", "closed_text"):
-        return 0, kmip_ttlv.to_text(given, "", closed=member == "closed_text").encode()
+        return 0, kmip_ttlv.to_text(given, names, closed=member == "closed_text").encode()
     if member == "checked_diagnostic":
         return 0, kmip_ttlv.to_diag_checked(given, prefix).encode()
     # the module doesn't say how many items a diagnostic tried to read
@@ -117,14 +148,14 @@ class Tally:
             self.differ += 1
             print(f"{test}: {what}: wanted {wanted!r}, found {found!r}")
 
-    def try_row(self, test, member, number, given, prefix, wanted):
+    def try_row(self, test, member, number, given, prefix, names, wanted):
         if member == "items":
             self.compare(test, member, faults_of(given)[1], number)
         elif member == "fault":
             kind = KINDS.index(wanted.decode())
             self.compare(test, member, faults_of(given)[0], {kmip_ttlv.Fault(number, kind) if kind else None})
         else:
-            found, text = found_of(member, given, prefix)
+            found, text = found_of(member, given, prefix, names)
             self.compare(test, member, (number if found is None else found, text), (number, wanted))
 
     def try_nodes(self, test, node, message):
@@ -139,8 +170,8 @@ class Tally:
 
 def main(words):
     if words == ["--rows"]:
-        for test, member, number, given, prefix, wanted in rows():
-            print(test, member, number, given.hex(), prefix.encode().hex(), wanted.hex(), sep="\t")
+        for test, member, number, given, prefix, names, wanted in rows():
+            print(test, member, number, given.hex(), prefix.encode().hex(), names.encode().hex(), wanted.hex(), sep="\t")
         return 0
     tally = Tally()
     for row in rows():

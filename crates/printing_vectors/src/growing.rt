@@ -1,10 +1,13 @@
 //! Each allocation fails in turn: a call returns out of memory, or its result with ample memory, and
 //! later calls succeed. And texts that are longer than the memory limit allows.
 
-use crate::messages::{REDACTED_LINES, VERSION, VERSION_LINES};
+use crate::messages::{CREATE_REQUEST, REDACTED_LINES, VERSION, VERSION_LINES};
 use crate::printers::{is_counted, is_diagnostic, is_read_back, is_readable, printer};
 use hex::FromHexError;
 use kmip_ttlv::PrettyPrinter;
+use kmip_ttlv::items::FaultKind;
+use kmip_ttlv::names::tag_names;
+use kmip_ttlv::util::{CheckedError, read_back_named, text_named};
 use kmip_ttlv_memory::BoundedAllocator;
 use std::alloc::{AllocError, Allocator, Global};
 
@@ -183,4 +186,75 @@ fn diagnostics_grow_alike_whatever_the_values(rt: HostRuntime) -> Result<(), Fro
     assert!(rt; is_error(alloc, 0, number.as_slice()));
     assert!(rt; !is_error(alloc, 20, number.as_slice()));
     Ok(())
+}
+
+// The diagnostic of a request to create a key, with whole tags.
+const CREATE_DIAGNOSTIC: &str =
+    "420078[420077[420069[42006Ai42006Bi]42000Di]42000F[42005Ce1:420079[420057e2:420091[420008[42000At42000Be3:]420008[42000At42000Bi]420008[42000At42000Bi]]]]]";
+
+// Whether this is the checked diagnostic; or, if it is empty, whether there is none, as the item at byte 280 is cut.
+fn is_checked<A: Allocator + Copy>(
+    printer: &PrettyPrinter<A>,
+    bytes: &[u8],
+    text: &str,
+) -> Result<bool, AllocError> {
+    match printer.to_diag_checked(bytes) {
+        Ok(shown) => Ok(shown.as_str() == text),
+        Err(CheckedError::Malformed(fault)) => {
+            Ok(text.is_empty() && fault.offset == 280 && fault.kind == FaultKind::Cut)
+        }
+        Err(CheckedError::OutOfMemory) => Err(AllocError),
+    }
+}
+
+// How many allocations the call makes, each of which failed in turn; none if another thing was returned.
+fn growths(alloc: Global, bytes: &[u8], text: &str) -> Option<u64> {
+    for before in 0..100u64 {
+        let heap = BoundedAllocator::failing_after(alloc, before);
+        let answer = is_checked(&PrettyPrinter::new(&heap), bytes, text);
+        if !heap.has_failed() {
+            return (answer == Ok(true)).then_some(before);
+        }
+        if answer.is_ok() {
+            return None;
+        }
+    }
+    None
+}
+
+#[test]
+fn each_growth_of_a_checked_diagnostic_may_fail(rt: HostRuntime) -> Result<(), FromHexError> {
+    let bytes = hex::decode(rt.alloc(), CREATE_REQUEST)?;
+    let whole = growths(rt.alloc(), bytes.as_slice(), CREATE_DIAGNOSTIC);
+    assert!(rt; matches!(whole, Some(3..)), "{whole:?}");
+    let cut = bytes.as_slice().get(..295).unwrap_or(&[]);
+    let faulty = growths(rt.alloc(), cut, "");
+    assert!(rt; matches!(faulty, Some(1..)), "{faulty:?}");
+    Ok(())
+}
+
+// Whether the two texts with a borrowed name are as expected, or an allocation failed.
+fn is_printed(alloc: Global, before: u64) -> bool {
+    let heap = BoundedAllocator::failing_after(alloc, before);
+    let table = "42006A Major";
+    let message = [0x42, 0, 0x6A, 1, 0, 0, 0, 0];
+    let Ok(names) = tag_names(&heap, table) else {
+        return heap.has_failed();
+    };
+    let Ok(text) = text_named(&heap, &names, true, &message) else {
+        return heap.has_failed();
+    };
+    let Ok(lines) = read_back_named(&heap, "4200", &names, "6A[]") else {
+        return heap.has_failed();
+    };
+    text.as_str() == "Tag: Major (0x42006A), Type: Structure (0x01), Data:\n"
+        && lines.as_str() == "Tag: Major (0x42006A), Type: Structure (0x01), Data:"
+        && !heap.has_failed()
+}
+
+#[test]
+fn lent_names(rt: HostRuntime) {
+    for before in 0..40 {
+        assert!(rt; is_printed(rt.alloc(), before), "{before}");
+    }
 }

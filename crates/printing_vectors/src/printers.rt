@@ -1,9 +1,7 @@
 //! Printers, and whether they return a text.
 
 use kmip_ttlv::PrettyPrinter;
-use kmip_ttlv::types::TtlvTag;
-use std::alloc::{AllocError, Allocator, Global};
-use std::collections::HashMap;
+use std::alloc::{AllocError, Allocator};
 
 /// A printer that omits this prefix from tags.
 pub fn printer<A: Allocator + Copy>(
@@ -14,21 +12,6 @@ pub fn printer<A: Allocator + Copy>(
     let mut printer = PrettyPrinter::new(alloc);
     printer.with_tag_prefix(String::from_str(alloc, prefix)?);
     printer.with_closed_empty(closed);
-    Ok(printer)
-}
-
-/// A printer that omits the prefix `4200` from tags, and has a name for one tag.
-pub fn naming_printer(
-    alloc: Global,
-    tag: [u8; 3],
-    name: &'static str,
-) -> Result<PrettyPrinter, AllocError> {
-    let mut names: HashMap<TtlvTag, &'static str> = HashMap::new(alloc);
-    if names.insert(TtlvTag::from(tag), name).is_err() {
-        return Err(AllocError);
-    }
-    let mut printer = printer(alloc, "4200", false)?;
-    printer.with_tag_map(names);
     Ok(printer)
 }
 
@@ -71,4 +54,13 @@ pub fn is_read_back<A: Allocator + Copy>(
 ) -> Result<bool, AllocError> {
     let read = printer.from_diag_string(diagnostic)?;
     Ok(read.as_str() == lines)
+}
+
+#[test]
+fn debug(rt: HostRuntime) -> Result<(), AllocError> {
+    let printer = printer(rt.alloc(), "4200", true)?;
+    let text = format!(in rt.alloc(); "{printer:?}")?;
+    assert!(rt; text.as_str().starts_with("PrettyPrinter"));
+    assert!(rt; text.as_str().contains("4200"));
+    Ok(())
 }

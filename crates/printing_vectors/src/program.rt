@@ -1,8 +1,6 @@
 //! Runs of the program: the text that it prints, or its error line.
 
-use crate::messages::{
-    CREATE_REQUEST, CREATE_RESPONSE, DESTROY_REQUEST, DESTROY_RESPONSE, VERSION, VERSION_LINES,
-};
+use crate::messages::{VERSION, VERSION_LINES};
 use hex_to_txt_run::run::run;
 use std::alloc::{AllocError, Allocator, Global};
 
@@ -19,7 +17,7 @@ pub const PAIR_TEXT: &str =
 
 const USAGE: &str = "usage: hex_to_txt flat|text|diag|closed|undiag [prefix]\n";
 
-const PRINTED: [Row; 19] = [
+const PRINTED: [Row; 15] = [
     ("flat", PAIR, PAIR_TEXT),
     (
         "flat",
@@ -33,26 +31,6 @@ const PRINTED: [Row; 19] = [
         "0xBBBBBB 3\n0xCCCCCC 5\nAAAAAA0100000020BBBBBB02000000040000000300000000CCCCCC02000000040000000500000000\n",
     ),
     ("diag 4200", VERSION, "69[6Ai6Bi]\n"),
-    (
-        "diag 4200",
-        CREATE_REQUEST,
-        "78[77[69[6Ai6Bi]0Di]0F[5Ce1:79[57e2:91[08[0At0Be3:]08[0At0Bi]08[0At0Bi]]]]]\n",
-    ),
-    (
-        "diag 4200",
-        CREATE_RESPONSE,
-        "7B[7A[69[6Ai6Bi]92d0Di]0F[5Ce1:7Fe0:7C[57e2:94t]]]\n",
-    ),
-    (
-        "diag 4200",
-        DESTROY_REQUEST,
-        "78[77[69[6Ai6Bi]0Di]0F[5Ce14:79[94t]]]\n",
-    ),
-    (
-        "diag 4200",
-        DESTROY_RESPONSE,
-        "7B[7A[69[6Ai6Bi]92d0Di]0F[5Ce14:7Fe0:7C[94t]]]\n",
-    ),
     ("diag", VERSION, "420069[42006Ai42006Bi]\n"),
     ("diag", "", "ERR\n"),
     ("diag 4200", "4200690100000000", "69[ERR\n"),

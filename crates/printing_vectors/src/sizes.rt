@@ -1,7 +1,7 @@
 //! That calls succeed with memory at hand, however short or long a message, a prefix, a diagnostic or a table of names is.
 
-use crate::messages::{VERSION, repeated as repeated_text};
-use crate::printers::printer;
+use crate::messages::{VERSION, joined, repeated as repeated_text};
+use crate::printers::{is_counted, printer};
 use crate::program::run_with;
 use kmip_ttlv::PrettyPrinter;
 use kmip_ttlv::items::{FoundItem, ItemWalk, Step, find_fault, walk_items};
@@ -300,5 +300,57 @@ fn long_tables_and_inputs_are_read(rt: HostRuntime) -> Result<(), Fail> {
     let line = repeated_text(rt.alloc(), "42006A0100000000", 8_000, "\n")?;
     let outcome = run_with(rt.alloc(), rt.alloc(), "closed", line.as_bytes())?;
     assert!(rt; outcome.prints("42006A[]\n"));
+    Ok(())
+}
+
+// Whether `count` empty structures stay open, each in the one before; or, if they are closed, the first
+// one is the whole message.
+fn prints_empty(alloc: Global, closed: bool, count: usize) -> Result<bool, AllocError> {
+    let message = repeated_text(alloc, "4200690100000000", count, "")?;
+    let Ok(bytes) = hex::decode(alloc, message.as_str()) else {
+        return Ok(false);
+    };
+    let printer = printer(alloc, "4200", closed)?;
+    if closed {
+        return is_counted(&printer, bytes.as_slice(), "69[]", 1);
+    }
+    let text = repeated_text(alloc, "69[", count, "ERR")?;
+    is_counted(
+        &printer,
+        bytes.as_slice(),
+        text.as_str(),
+        count.wrapping_add(1),
+    )
+}
+
+// A long message in which every item opens a structure.
+#[test]
+fn many_empty_structures(rt: HostRuntime) {
+    for count in [1_000, 10_000] {
+        assert!(rt;
+            prints_empty(rt.alloc(), false, count) == Ok(true),
+            "{count}"
+        );
+        assert!(rt;
+            prints_empty(rt.alloc(), true, count) == Ok(true),
+            "{count}"
+        );
+    }
+}
+
+// How many lines a diagnostic is read back as.
+fn line_count(printer: &PrettyPrinter, text: &str) -> Result<usize, AllocError> {
+    let lines = printer.from_diag_string(text)?;
+    Ok(lines.as_str().lines().count())
+}
+
+#[test]
+fn deep_and_long_diagnostics(rt: HostRuntime) -> Result<(), AllocError> {
+    let printer = printer(rt.alloc(), "4200", false)?;
+    let deep = repeated_text(rt.alloc(), "69[", 1_000, "")?;
+    assert_eq!(rt; line_count(&printer, deep.as_str()), Ok(1_000));
+    let below = repeated_text(rt.alloc(), "69[6Ai]", 10_000, "]")?;
+    let long = joined(rt.alloc(), &["78[", below.as_str()])?;
+    assert_eq!(rt; line_count(&printer, long.as_str()), Ok(20_001));
     Ok(())
 }

@@ -1,8 +1,6 @@
 //! Texts that are sent to a writer in pieces: the same as in one string, also if the writer fails.
 
-use crate::messages::{
-    CREATE_REQUEST, CREATE_RESPONSE, DESTROY_REQUEST, EMPTY_FIRST, SHORT, VERSION, repeated,
-};
+use crate::messages::{VERSION, repeated};
 use crate::printers::printer;
 use hex::FromHexError;
 use kmip_ttlv::PrettyPrinter;
@@ -14,17 +12,6 @@ use std::alloc::{AllocError, Allocator, Global};
 use std::collections::HashMap;
 use std::io;
 use std::io::{ErrorKind, Write};
-
-const MESSAGES: [&str; 8] = [
-    VERSION,
-    EMPTY_FIRST,
-    SHORT,
-    CREATE_REQUEST,
-    CREATE_RESPONSE,
-    DESTROY_REQUEST,
-    "",
-    "4200690100000010",
-];
 
 // Takes as many bytes as it has room for, then fails; it counts the writes after that.
 #[derive(Drop)]
@@ -92,17 +79,6 @@ fn is_same(alloc: Global, kind: Kind, bytes: &[u8]) -> Result<bool, AllocError> 
     let mut written = Vec::new(alloc);
     let is_ok = write(&printer, kind, &mut written, bytes).is_ok();
     Ok(is_ok && written.as_slice() == text.as_bytes())
-}
-
-#[test]
-fn messages_are_written_as_they_are_made(rt: HostRuntime) -> Result<(), FromHexError> {
-    for message in MESSAGES {
-        let bytes = hex::decode(rt.alloc(), message)?;
-        for kind in KINDS {
-            assert!(rt; is_same(rt.alloc(), kind, &bytes)?, "{kind:?} {message}");
-        }
-    }
-    Ok(())
 }
 
 // A structure of one leaf of this type, whose content is this byte `count` times.

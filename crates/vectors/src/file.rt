@@ -15,6 +15,8 @@ pub struct File {
     #[serde(default)]
     pub diagnostics: Vec<Diagnostic>,
     #[serde(default)]
+    pub names: Vec<Named>,
+    #[serde(default)]
     pub jsons: Vec<Json>,
     #[serde(default)]
     pub decodings: Vec<Decodings>,
@@ -33,6 +35,9 @@ pub struct Message {
     pub fault: Option<Fault>,
     /// How many items stand before the fault, or at all.
     pub items: Option<u64>,
+    /// Whether each beginning of the bytes, without the last, is tried: it is cut.
+    #[serde(default)]
+    pub cuts: bool,
     /// The readable text, and that with closed empty structures.
     pub text: Option<String>,
     pub closed_text: Option<String>,
@@ -73,6 +78,26 @@ pub struct Diagnostic {
     pub prefix: String,
     pub diagnostic: String,
     pub lines: String,
+}
+
+/// A table of names of tags, or the standard's if there is none: texts with these names, or the line that can't be read.
+#[derive(Drop, Deserialize)]
+#[serde(deny_unknown_fields)]
+pub struct Named {
+    pub name: String,
+    pub comment: String,
+    pub table: Option<String>,
+    pub bad_line: Option<u64>,
+    /// The bytes of a message, in hexadecimal, and its readable text with closed empty structures.
+    #[serde(default)]
+    pub bytes: String,
+    pub text: Option<String>,
+    /// A diagnostic without this prefix of tags, and the lines that it is read back as.
+    #[serde(default)]
+    pub prefix: String,
+    #[serde(default)]
+    pub diagnostic: String,
+    pub lines: Option<String>,
 }
 
 /// JSON, and the message that it is read back as, in hexadecimal, or what is wrong with it.

@@ -1,8 +1,8 @@
-//! Runs tests that are data: each file that an argument names holds messages, diagnostics and JSON, with what the library is to make
-//! of them (docs/VECTORS.md). Prints a line for each value that differs, and a count for each file; the status is 1 if one differs.
+//! Runs tests that are data: each file that an argument names holds messages, diagnostics, tables of names and JSON, with what the
+//! library is to make of them (docs/VECTORS.md). Prints a line for each value that differs, and a count for each file; the status is 1 if one differs.
 //!
-//! `file` is what a file holds, `messages`, `readings`, `decoding` and `encoding` try its tests, and `tally` counts and prints. `shapes`,
-//! `values` and `errors` are what those of decoding and encoding are made of.
+//! `file` is what a file holds, `messages`, `names`, `readings`, `decoding` and `encoding` try its tests, and `tally` counts and prints.
+//! `shapes`, `values` and `errors` are what those of decoding and encoding are made of.
 #![tactic(auto)]
 
 mod decoding;
@@ -10,6 +10,7 @@ mod encoding;
 mod errors;
 mod file;
 mod messages;
+mod names;
 mod readings;
 mod shapes;
 mod tally;
@@ -19,6 +20,7 @@ use crate::decoding::try_decodings;
 use crate::encoding::try_encoding;
 use crate::file::File;
 use crate::messages::try_message;
+use crate::names::try_named;
 use crate::readings::{try_diagnostic, try_json};
 use crate::tally::Tally;
 use std::process::ExitCode;
@@ -31,6 +33,9 @@ fn try_all(tally: &mut Tally<'_>, file: &File) -> io::Result<()> {
     }
     for diagnostic in &file.diagnostics {
         try_diagnostic(tally, diagnostic)?;
+    }
+    for named in &file.names {
+        try_named(tally, named)?;
     }
     for json in &file.jsons {
         try_json(tally, json)?;

@@ -4,10 +4,10 @@ use crate::file::{Message, Shown};
 use crate::tally::Tally;
 use kmip_ttlv_items::{Fault, FaultKind, FoundItem, find_fault, walk_items};
 use kmip_ttlv_json::{Hiding, JsonError, from_json, push_json};
-use kmip_ttlv_util::{LentTagMap, PrettyPrinter};
+use kmip_ttlv_util::{CheckedError, LentTagMap, PrettyPrinter};
 use std::alloc::{AllocError, Global};
 use std::collections::HashMap;
-use std::io;
+use std::{io, str};
 
 // The name of a kind of fault.
 fn kind_name(kind: FaultKind) -> &'static str {
@@ -59,38 +59,126 @@ fn try_walks(tally: &mut Tally<'_>, message: &Message, bytes: &[u8]) -> io::Resu
     let walked = fault_text(alloc, end.fault)?;
     tally.compare(test, "fault of the walk", walked.as_str(), wanted.as_str())?;
     if let Some(items) = message.items {
-        let count = end.count;
-        let found = format!(in alloc; "{count}")?;
-        let wanted = format!(in alloc; "{items}")?;
-        tally.compare(test, "items", found.as_str(), wanted.as_str())?;
+        tally.compare_number(test, "items", end.count as u64, items)?;
     }
     Ok(())
 }
 
-// The readable text, without names.
-fn text_of(alloc: Global, closed: bool, bytes: &[u8]) -> Result<String, AllocError> {
+// Tries each beginning of the bytes, without the last: it is cut, and its diagnostic ends so.
+fn try_cuts(tally: &mut Tally<'_>, test: &str, bytes: &[u8]) -> io::Result<()> {
+    let printer = PrettyPrinter::new(tally.alloc());
+    let mut cut = 0u64;
+    for length in 0..bytes.len() {
+        let beginning = bytes.get(..length).unwrap_or(bytes);
+        let is_cut = is_cut(&printer, beginning)?;
+        cut = cut.saturating_add(u64::from(is_cut));
+    }
+    tally.compare_number(test, "cuts", cut, bytes.len() as u64)
+}
+
+// Whether bytes are cut, and their diagnostic says so.
+fn is_cut(printer: &PrettyPrinter, bytes: &[u8]) -> Result<bool, AllocError> {
+    let text = printer.to_diag_string(bytes)?;
+    let fault = printer.to_diag_checked(bytes).err();
+    Ok(
+        text.as_str().ends_with("ERR")
+            && matches!(fault, Some(CheckedError::Malformed(it)) if it.kind == FaultKind::Cut),
+    )
+}
+
+// A printer of the readable text, without names.
+fn printer_of(alloc: Global, closed: bool) -> PrettyPrinter {
     let mut printer = PrettyPrinter::new(alloc);
     printer.with_closed_empty(closed);
-    printer.to_string(bytes)
+    printer
+}
+
+// What was written, which is UTF-8.
+fn words_of(alloc: Global, written: &[u8]) -> Result<String, AllocError> {
+    String::from_str(alloc, str::from_utf8(written).unwrap_or("not UTF-8"))
+}
+
+// The readable text as it is written.
+fn written_text(alloc: Global, printer: &PrettyPrinter, bytes: &[u8]) -> io::Result<String> {
+    let mut out = Vec::new(alloc);
+    printer.write_text(&mut out, bytes)?;
+    Ok(words_of(alloc, out.as_slice())?)
+}
+
+// Tries the readable text, in one string, and as it is written.
+fn try_text(
+    tally: &mut Tally<'_>,
+    test: &str,
+    closed: bool,
+    bytes: &[u8],
+    wanted: &Option<String>,
+) -> io::Result<()> {
+    let what = if closed { "closed text" } else { "text" };
+    let printer = printer_of(tally.alloc(), closed);
+    let text = printer.to_string(bytes)?;
+    tally.compare_if(test, what, text.as_str(), wanted)?;
+    let written = written_text(tally.alloc(), &printer, bytes)?;
+    tally.compare(test, "written text", written.as_str(), text.as_str())
+}
+
+// The diagnostic as it is written.
+fn written_diagnostic(alloc: Global, printer: &PrettyPrinter, bytes: &[u8]) -> io::Result<String> {
+    let mut out = Vec::new(alloc);
+    printer.write_diag(&mut out, bytes)?;
+    Ok(words_of(alloc, out.as_slice())?)
+}
+
+// The diagnostic of one whole message, or the fault of other bytes.
+fn checked_text(
+    alloc: Global,
+    printer: &PrettyPrinter,
+    bytes: &[u8],
+) -> Result<String, AllocError> {
+    match printer.to_diag_checked(bytes) {
+        Ok(text) => Ok(text),
+        Err(CheckedError::Malformed(fault)) => fault_text(alloc, Some(fault)),
+        Err(CheckedError::OutOfMemory) => Err(AllocError),
+    }
 }
 
 // Tries a diagnostic.
-fn try_shown(tally: &mut Tally<'_>, test: &str, shown: &Shown, bytes: &[u8]) -> io::Result<()> {
+fn try_shown(
+    tally: &mut Tally<'_>,
+    message: &Message,
+    shown: &Shown,
+    bytes: &[u8],
+) -> io::Result<()> {
     let alloc = tally.alloc();
-    let mut printer = PrettyPrinter::new(alloc);
+    let test = message.name.as_str();
+    let mut printer = printer_of(alloc, shown.closed);
     printer.with_tag_prefix(String::from_str(alloc, shown.prefix.as_str())?);
-    printer.with_closed_empty(shown.closed);
     let (found, count) = printer.to_diag_counted(bytes)?;
     tally.compare(test, "diagnostic", found.as_str(), shown.text.as_str())?;
-    let read = shown.read;
-    let found = format!(in alloc; "{count}")?;
-    let wanted = format!(in alloc; "{read}")?;
-    tally.compare(
-        test,
-        "items of the diagnostic",
-        found.as_str(),
-        wanted.as_str(),
-    )
+    tally.compare_number(test, "items of the diagnostic", count as u64, shown.read)?;
+    let written = written_diagnostic(alloc, &printer, bytes)?;
+    let what = "written diagnostic";
+    tally.compare(test, what, written.as_str(), shown.text.as_str())?;
+    if message.fault.is_some() {
+        return Ok(());
+    }
+    let checked = checked_text(alloc, &printer, bytes)?;
+    let what = "checked diagnostic";
+    tally.compare(test, what, checked.as_str(), shown.text.as_str())
+}
+
+// Tries the fault that a checked diagnostic has, with empty structures closed and open.
+fn try_checked_faults(tally: &mut Tally<'_>, message: &Message, bytes: &[u8]) -> io::Result<()> {
+    if message.fault.is_none() {
+        return Ok(());
+    }
+    let alloc = tally.alloc();
+    let wanted = wanted_fault(alloc, message)?;
+    for closed in [false, true] {
+        let found = checked_text(alloc, &printer_of(alloc, closed), bytes)?;
+        let test = message.name.as_str();
+        tally.compare(test, "checked fault", found.as_str(), wanted.as_str())?;
+    }
+    Ok(())
 }
 
 // The JSON of one whole message, which is a line.
@@ -114,14 +202,15 @@ pub fn bytes_in(alloc: Global, json: &str) -> Result<String, AllocError> {
 
 // Tries the printed forms.
 fn try_forms(tally: &mut Tally<'_>, message: &Message, bytes: &[u8]) -> io::Result<()> {
-    let alloc = tally.alloc();
     let test = message.name.as_str();
-    let text = text_of(alloc, false, bytes)?;
-    tally.compare_if(test, "text", text.as_str(), &message.text)?;
-    let text = text_of(alloc, true, bytes)?;
-    tally.compare_if(test, "closed text", text.as_str(), &message.closed_text)?;
+    try_text(tally, test, false, bytes, &message.text)?;
+    try_text(tally, test, true, bytes, &message.closed_text)?;
+    try_checked_faults(tally, message, bytes)?;
+    if message.cuts {
+        try_cuts(tally, test, bytes)?;
+    }
     for shown in &message.diagnostics {
-        try_shown(tally, test, shown, bytes)?;
+        try_shown(tally, message, shown, bytes)?;
     }
     Ok(())
 }

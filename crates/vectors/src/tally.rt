@@ -46,6 +46,23 @@ impl<'r> Tally<'r> {
         println!(self.rt; "{path}: {test}: {what}: wanted {wanted:?}, found {found:?}")
     }
 
+    /// The same of numbers.
+    pub fn compare_number(
+        &mut self,
+        test: &str,
+        what: &str,
+        found: u64,
+        wanted: u64,
+    ) -> io::Result<()> {
+        self.values = self.values.saturating_add(1);
+        if found == wanted {
+            return Ok(());
+        }
+        self.differ = self.differ.saturating_add(1);
+        let path = self.path;
+        println!(self.rt; "{path}: {test}: {what}: wanted {wanted}, found {found}")
+    }
+
     /// The same, if the test has such a value.
     pub fn compare_if(
         &mut self,
