@@ -4,6 +4,7 @@ of the bytes of a message.
 
     reference.py DIGITS ..     prints the members of a test for the bytes of these hexadecimal digits
     reference.py --check       compares those members of the tests in data/ that it knows with its own
+    reference.py --peer        writes data/peer.json, whose bytes are the messages of crates/peer_messages/stdin
 
 It knows the first fault, the number of items, and for whole messages the texts, diagnostics and JSON in which empty Structures are
 closed, the canonical bytes, and tables of names. What is printed up to a fault, or of Structures that stay open, it doesn't know. The last line of
@@ -202,26 +203,71 @@ def compare_named(where, test):
     return len(pairs), len(bad)
 
 
+def value_names(wanted):
+    """The names of an Enumeration's numbers."""
+    with open(f"{HERE}/../../data/kmip_enumerations.tsv", encoding="utf-8") as it:
+        rows = [line.rstrip("\n").split("\t") for line in it if not line.startswith("#")]
+    return {int(number, 16): name for tag, number, name in rows if int(tag, 16) == wanted}
+
+
+def subject(items, operations):
+    """Which message of KMIP these items are: its direction, version and operations."""
+    values = [(tag, int.from_bytes(content, "big")) for _, _, tag, _, _, content in items]
+    version = ".".join(str(next(value for tag, value in values if tag == wanted)) for wanted in (0x42006A, 0x42006B))
+    names = [operations.get(value, f"operation {value:08X}") for tag, value in values if tag == 0x42005C]
+    kind = "request" if items[0][2] == 0x420078 else "response"
+    return f"A {kind} of KMIP {version}" + (f": {', '.join(names)}" if names else "")
+
+
+def peer():
+    """The file of the peer's messages: those members that don't follow from others."""
+    tests, reason, operations = [], "", value_names(0x42005C)
+    with open(f"{HERE}/../peer_messages/stdin", encoding="utf-8") as lines:
+        for name, _, rest in (line.rstrip("\n").partition(" ") for line in lines):
+            reason = f". Not for kmip_messages: {rest[:1].lower()}{rest[1:]}" if name == "##" else reason
+            if name and not name.startswith("#"):
+                message = bytes.fromhex(rest)
+                members = known(message, ())
+                for it in ("text", "hidden_json"):
+                    members.pop(it, None)
+                members["diagnostics"] = [it for it in known(message)["diagnostics"] if it["closed"]]
+                tests.append({"name": name, "comment": subject(walk(message)[0], operations) + reason, **members})
+    source = "PyKMIP 0.10.0 (the Debian package python3-pykmip), whose classes have encoded all of the messages; where it has no class for a"
+    source += " whole message, the name ends in _handmade, and the order of the items was set by hand, as KMIP has it. What is printed of"
+    source += " them is by reference.py."
+    held = {"description": "Messages of another implementation.", "source": source, "messages": tests}
+    return json.dumps(held, ensure_ascii=False, indent=2) + "\n"
+
+
 def main(words):
+    path = f"{HERE}/data/peer.json"
+    if words == ["--peer"]:
+        with open(path, "w", encoding="utf-8") as it:
+            it.write(peer())
+        return 0
     if words != ["--check"]:
         print(json.dumps([known(bytes.fromhex(it)) for it in words], ensure_ascii=False, indent=2))
         return 0
     compared = differ = 0
-    for path in sorted(glob.glob(f"{HERE}/data/*.json")):
-        with open(path, encoding="utf-8") as it:
+    for file in sorted(glob.glob(f"{HERE}/data/*.json")):
+        with open(file, encoding="utf-8") as it:
             held = json.load(it)
         decodings = [test for group in held.get("decodings", []) for test in group["tests"]]
         for tests in (*(held.get(it, []) for it in ("messages", "diagnostics", "names", "jsons", "encodings")), decodings):
             names = [it["name"] for it in tests]
             for name in {it for it in names if names.count(it) > 1}:
-                print(f"{os.path.basename(path)}: {name}: two tests have this name")
+                print(f"{os.path.basename(file)}: {name}: two tests have this name")
                 differ += 1
         for test in held.get("messages", []):
-            more, bad = compare(os.path.basename(path), test)
+            more, bad = compare(os.path.basename(file), test)
             compared, differ = compared + more, differ + bad
         for test in held.get("names", []):
-            more, bad = compare_named(os.path.basename(path), test)
+            more, bad = compare_named(os.path.basename(file), test)
             compared, differ = compared + more, differ + bad
+    with open(path, encoding="utf-8") as it:
+        if it.read() != peer():
+            print("peer.json is not what reference.py --peer writes")
+            differ += 1
     print(f"{compared} compared, {differ} differ")
     return 1 if differ else 0
 

@@ -7,14 +7,6 @@ use kmip_ttlv_util::{LentTagMap, read_back_named, text_named};
 use std::alloc::{AllocError, Global};
 use std::io;
 
-// The names of the table, or of the standard if there is none.
-fn names_of(alloc: Global, table: &Option<String>) -> Result<LentTagMap<'_, Global>, TableError> {
-    match table {
-        Some(table) => tag_names(alloc, table.as_str()),
-        None => standard_names(alloc),
-    }
-}
-
 // Tries the texts with these names.
 fn try_texts(
     tally: &mut Tally<'_>,
@@ -32,10 +24,13 @@ fn try_texts(
     tally.compare_if(name, "lines", lines.as_str(), &test.lines)
 }
 
-/// Tries a table.
-pub fn try_named(tally: &mut Tally<'_>, test: &Named) -> io::Result<()> {
-    tally.begin();
-    let bad_line = match names_of(tally.alloc(), &test.table) {
+// Tries the names of a table, of which a line may be bad.
+fn try_table(
+    tally: &mut Tally<'_>,
+    test: &Named,
+    names: Result<LentTagMap<'_, Global>, TableError>,
+) -> io::Result<()> {
+    let bad_line = match names {
         Ok(names) => {
             try_texts(tally, test, &names)?;
             0
@@ -45,4 +40,14 @@ pub fn try_named(tally: &mut Tally<'_>, test: &Named) -> io::Result<()> {
     };
     let wanted = test.bad_line.unwrap_or(0);
     tally.compare_number(test.name.as_str(), "bad line", bad_line as u64, wanted)
+}
+
+/// Tries a table, or the names of the standard.
+pub fn try_named(tally: &mut Tally<'_>, test: &Named) -> io::Result<()> {
+    tally.begin();
+    let alloc = tally.alloc();
+    match &test.table {
+        Some(table) => try_table(tally, test, tag_names(alloc, table.as_str())),
+        None => try_table(tally, test, standard_names(alloc)),
+    }
 }
