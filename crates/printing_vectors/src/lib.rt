@@ -10,6 +10,8 @@ mod growing;
 #[cfg(test)]
 mod item_walks;
 #[cfg(test)]
+mod long;
+#[cfg(test)]
 mod messages;
 #[cfg(test)]
 mod printers;

@@ -1,4 +1,4 @@
-//! Messages, and texts built from parts.
+//! Messages, and texts made of parts.
 
 use std::alloc::{AllocError, Global};
 
@@ -18,21 +18,32 @@ pub const REDACTED_LINES: &str =
 pub const CREATE_REQUEST: &str =
     "42007801000001204200770100000038420069010000002042006A0200000004000000010000000042006B0200000004000000000000000042000D0200000004000000010000000042000F01000000D842005C0500000004000000010000000042007901000000C04200570500000004000000020000000042009101000000A8420008010000003042000A070000001743727970746F6772617068696320416C676F726974686D0042000B05000000040000000300000000420008010000003042000A070000001443727970746F67726170686963204C656E6774680000000042000B02000000040000008000000000420008010000003042000A070000001843727970746F67726170686963205573616765204D61736B42000B02000000040000000C00000000";
 
-/// A part `count` times, and then the end.
-pub fn repeated(alloc: Global, part: &str, count: usize, end: &str) -> Result<String, AllocError> {
-    let mut text = String::new(alloc);
-    for _ in 0..count {
+/// A text of its beginning, of a part so many times, and of its end.
+pub fn made_of(
+    alloc: Global,
+    first: &str,
+    part: &str,
+    times: usize,
+    end: &str,
+) -> Result<String, AllocError> {
+    let mut text = String::from_str(alloc, first)?;
+    for _ in 0..times {
         text.push_str(part)?;
     }
     text.push_str(end)?;
     Ok(text)
 }
 
-/// These parts, one after the other.
-pub fn joined(alloc: Global, parts: &[&str]) -> Result<String, AllocError> {
-    let mut text = String::new(alloc);
-    for part in parts {
-        text.push_str(part)?;
+/// Whether a text is made of these.
+pub fn is_made_of(text: &str, first: &str, part: &str, times: usize, end: &str) -> bool {
+    let Some(mut rest) = text.strip_prefix(first) else {
+        return false;
+    };
+    for _ in 0..times {
+        match rest.strip_prefix(part) {
+            Some(behind) => rest = behind,
+            None => return false,
+        }
     }
-    Ok(text)
+    rest == end
 }

@@ -1,17 +1,16 @@
-//! Texts that are sent to a writer in pieces: the same as in one string, also if the writer fails.
+//! Texts that are sent to a writer in pieces, with hardly any memory, also if the writer fails.
 
-use crate::messages::{VERSION, repeated};
-use crate::printers::printer;
-use hex::FromHexError;
+use crate::messages::{VERSION, is_made_of, made_of};
 use kmip_ttlv::PrettyPrinter;
 use kmip_ttlv::util::{
     Indentation, LentTagMap, Pieces, push_diag, push_read_back, read_back_counted,
 };
 use kmip_ttlv_memory::BoundedAllocator;
+use sample_shapes::inputs::{NUMBER, long, repeated};
 use std::alloc::{AllocError, Allocator, Global};
 use std::collections::HashMap;
-use std::io;
 use std::io::{ErrorKind, Write};
+use std::{io, str};
 
 // Takes as many bytes as it has room for, then fails; it counts the writes after that.
 #[derive(Drop)]
@@ -45,14 +44,9 @@ enum Kind {
     Diagnostic,
 }
 
-const KINDS: [Kind; 2] = [Kind::Lines, Kind::Diagnostic];
-
 // The text in one string.
-fn text_of(
-    printer: &PrettyPrinter<Global>,
-    kind: Kind,
-    bytes: &[u8],
-) -> Result<String, AllocError> {
+fn text_of(alloc: Global, kind: Kind, bytes: &[u8]) -> Result<String, AllocError> {
+    let printer = PrettyPrinter::new(alloc);
     match kind {
         Kind::Lines => printer.to_string(bytes),
         Kind::Diagnostic => printer.to_diag_string(bytes),
@@ -72,177 +66,178 @@ fn write<A: Allocator + Copy, W: Write>(
     }
 }
 
-// Whether a vector gets the same text as a string.
-fn is_same(alloc: Global, kind: Kind, bytes: &[u8]) -> Result<bool, AllocError> {
-    let printer = printer(alloc, "4200", false)?;
-    let text = text_of(&printer, kind, bytes)?;
-    let mut written = Vec::new(alloc);
-    let is_ok = write(&printer, kind, &mut written, bytes).is_ok();
-    Ok(is_ok && written.as_slice() == text.as_bytes())
-}
-
-// A structure of one leaf of this type, whose content is this byte `count` times.
-fn long_leaf(alloc: Global, code: u8, byte: u8, count: u32) -> Result<Vec<u8>, AllocError> {
-    let mut message = Vec::new(alloc);
-    message.extend_from_slice(&[0x42, 0, 0x69, 1])?;
-    message.extend_from_slice(&count.saturating_add(8).to_be_bytes())?;
-    message.extend_from_slice(&[0x42, 0, 0x6A, code])?;
-    message.extend_from_slice(&count.to_be_bytes())?;
-    for _ in 0..count {
-        message.push(byte)?;
-    }
-    Ok(message)
-}
-
-#[test]
-fn long_values_are_written_as_they_are_made(rt: HostRuntime) -> Result<(), AllocError> {
-    for (code, byte) in [(7, b'a'), (8, 0xC5)] {
-        let bytes = long_leaf(rt.alloc(), code, byte, 100_000)?;
-        for kind in KINDS {
-            assert!(rt; is_same(rt.alloc(), kind, &bytes)?, "{kind:?} {code}");
-        }
-    }
-    Ok(())
-}
-
 // Whether a writer with too little room has as much of the text as fits, was called exactly once
 // after that, and its own error is returned.
 fn is_cut(
     alloc: Global,
     kind: Kind,
     bytes: &[u8],
+    text: &str,
     room: usize,
     failure: ErrorKind,
-) -> Result<bool, AllocError> {
-    let printer = printer(alloc, "4200", false)?;
-    let text = text_of(&printer, kind, bytes)?;
+) -> bool {
+    let printer = PrettyPrinter::new(alloc);
     let mut writer = Limited {
         taken: Vec::new(alloc),
         room,
         kind: failure,
         failures: 0,
     };
-    let Err(error) = write(&printer, kind, &mut writer, bytes) else {
-        return Ok(text.len() <= room);
-    };
-    Ok(
-        error.kind() == failure
-            && writer.failures == 1
-            && writer.taken.len() == room
-            && text.as_bytes().starts_with(writer.taken.as_slice()),
-    )
-}
-
-const FAILURES: [ErrorKind; 3] = [
-    ErrorKind::BrokenPipe,
-    ErrorKind::PermissionDenied,
-    ErrorKind::Other,
-];
-
-#[test]
-fn a_writer_that_fails_has_a_beginning(rt: HostRuntime) -> Result<(), AllocError> {
-    for (code, byte) in [(7, b'a'), (8, 0xC5)] {
-        let bytes = long_leaf(rt.alloc(), code, byte, 100_000)?;
-        for room in [0, 1, 10, 8_192] {
-            for failure in FAILURES {
-                for kind in KINDS {
-                    let is_right = is_cut(rt.alloc(), kind, &bytes, room, failure)?;
-                    assert!(rt; is_right, "{kind:?} {code} {room}");
-                }
-            }
+    match write(&printer, kind, &mut writer, bytes) {
+        Ok(()) => text.len() <= room,
+        Err(error) => {
+            error.kind() == failure
+                && writer.failures == 1
+                && writer.taken.len() == room
+                && text.as_bytes().starts_with(writer.taken.as_slice())
         }
     }
-    Ok(())
+}
+
+// How much room a writer has, and how it fails.
+const ENDS: [(usize, ErrorKind); 12] = [
+    (0, ErrorKind::BrokenPipe),
+    (0, ErrorKind::PermissionDenied),
+    (0, ErrorKind::Other),
+    (1, ErrorKind::BrokenPipe),
+    (1, ErrorKind::PermissionDenied),
+    (1, ErrorKind::Other),
+    (10, ErrorKind::BrokenPipe),
+    (10, ErrorKind::PermissionDenied),
+    (10, ErrorKind::Other),
+    (8_192, ErrorKind::BrokenPipe),
+    (8_192, ErrorKind::PermissionDenied),
+    (8_192, ErrorKind::Other),
+];
+
+fn all_are_cut(alloc: Global, kind: Kind, bytes: &[u8], text: &str) -> bool {
+    for (room, failure) in ENDS {
+        if !is_cut(alloc, kind, bytes, text, room, failure) {
+            return false;
+        }
+    }
+    true
+}
+
+// Whether that holds for a long leaf of this type.
+fn has_beginnings(alloc: Global, kind: Kind, code: u8) -> bool {
+    let Ok(bytes) = long(alloc, code, 100_000) else {
+        return false;
+    };
+    match text_of(alloc, kind, bytes.as_slice()) {
+        Ok(text) => all_are_cut(alloc, kind, bytes.as_slice(), text.as_str()),
+        Err(_) => false,
+    }
 }
 
 #[test]
-fn a_text_needs_no_memory_of_its_size(rt: HostRuntime) -> Result<(), AllocError> {
-    let bytes = long_leaf(rt.alloc(), 8, 0xC5, 100_000)?;
-    let memory = BoundedAllocator::in_blocks(rt.alloc(), 1_000);
-    let printer = printer(&memory, "4200", false)?;
-    assert!(rt; printer.to_string(&bytes).is_err());
-    let mut written = Vec::new(rt.alloc());
-    assert!(rt; printer.write_text(&mut written, &bytes).is_ok());
-    assert!(rt; 200_000 < written.len());
-    Ok(())
+fn a_writer_that_fails_has_a_beginning(rt: HostRuntime) {
+    for code in [7, 8] {
+        for kind in [Kind::Lines, Kind::Diagnostic] {
+            assert!(rt; has_beginnings(rt.alloc(), kind, code), "{kind:?} {code}");
+        }
+    }
+}
+
+// Whether the text of these bytes is written, and longer than the memory that there is, in which it can't be made.
+fn needs_little(alloc: Global, bytes: &[u8]) -> bool {
+    let memory = BoundedAllocator::in_blocks(alloc, 1_000);
+    let printer = PrettyPrinter::new(&memory);
+    let mut written = Vec::new(alloc);
+    printer.to_string(bytes).is_err()
+        && printer.write_text(&mut written, bytes).is_ok()
+        && 200_000 < written.len()
+}
+
+fn long_needs_little(alloc: Global) -> bool {
+    match long(alloc, 8, 100_000) {
+        Ok(bytes) => needs_little(alloc, bytes.as_slice()),
+        Err(_) => false,
+    }
+}
+
+#[test]
+fn a_text_needs_no_memory_of_its_size(rt: HostRuntime) {
+    assert!(rt; long_needs_little(rt.alloc()));
 }
 
 // Whether the error is OutOfMemory if the first allocation fails, and nothing was written.
-fn is_error(alloc: Global, kind: Kind, bytes: &[u8]) -> Result<bool, AllocError> {
+fn is_error(alloc: Global, kind: Kind, bytes: &[u8]) -> bool {
     let heap = BoundedAllocator::failing_after(alloc, 0);
     let printer = PrettyPrinter::new(&heap);
     let mut written = Vec::new(alloc);
-    let Err(error) = write(&printer, kind, &mut written, bytes) else {
-        return Ok(false);
-    };
-    Ok(error.kind() == ErrorKind::OutOfMemory && written.is_empty() && heap.has_failed())
+    match write(&printer, kind, &mut written, bytes) {
+        Ok(()) => false,
+        Err(error) => {
+            error.kind() == ErrorKind::OutOfMemory && written.is_empty() && heap.has_failed()
+        }
+    }
+}
+
+fn runs_out(alloc: Global, kind: Kind) -> bool {
+    match hex::decode(alloc, VERSION) {
+        Ok(bytes) => is_error(alloc, kind, bytes.as_slice()),
+        Err(_) => false,
+    }
 }
 
 #[test]
-fn memory_for_open_structures_runs_out(rt: HostRuntime) -> Result<(), FromHexError> {
-    let bytes = hex::decode(rt.alloc(), VERSION)?;
-    for kind in KINDS {
-        assert!(rt; is_error(rt.alloc(), kind, &bytes)?, "{kind:?}");
+fn memory_for_open_structures_runs_out(rt: HostRuntime) {
+    for kind in [Kind::Lines, Kind::Diagnostic] {
+        assert!(rt; runs_out(rt.alloc(), kind), "{kind:?}");
     }
-    Ok(())
 }
 
-// A structure of `count` integers.
-fn many_integers(alloc: Global, count: u32) -> Result<Vec<u8>, AllocError> {
-    let mut message = Vec::new(alloc);
-    message.extend_from_slice(&[0x42, 0, 0x69, 1])?;
-    message.extend_from_slice(&count.saturating_mul(16).to_be_bytes())?;
-    for _ in 0..count {
-        message.extend_from_slice(&[0x42, 0, 0x6A, 2, 0, 0, 0, 4, 0, 0, 0, 5, 0, 0, 0, 0])?;
-    }
-    Ok(message)
+// Adds the diagnostic to what is written, with hardly any memory, and returns whether it could.
+fn is_pushed(memory: &BoundedAllocator<Global>, written: &mut Vec<u8>, bytes: &[u8]) -> bool {
+    let mut pieces = Pieces::new(written);
+    let added = push_diag(memory, &mut pieces, "", true, bytes).is_ok();
+    pieces.finish().is_ok() && added
 }
 
-// Whether the diagnostic of `count` integers is appended to a sink, with hardly any memory.
-fn is_diagnosed(alloc: Global, count: u32) -> Result<bool, AllocError> {
-    let bytes = many_integers(alloc, count)?;
-    let mut whole = String::from_str(alloc, "69[")?;
-    whole.push_str(repeated(alloc, "6Ai", count as usize, "]")?.as_str())?;
+// Whether that is the diagnostic of so many numbers.
+fn is_diagnosed(alloc: Global, count: u32) -> bool {
+    let Ok(bytes) = repeated(alloc, count, &NUMBER) else {
+        return false;
+    };
     let memory = BoundedAllocator::in_blocks(alloc, 64);
     let mut written = Vec::new(alloc);
-    let mut pieces = Pieces::new(&mut written);
-    let added = push_diag(&memory, &mut pieces, "4200", true, &bytes).is_ok();
-    let sent = pieces.finish().is_ok();
-    Ok(added && sent && written.as_slice() == whole.as_bytes())
+    let is_pushed = is_pushed(&memory, &mut written, bytes.as_slice());
+    let text = str::from_utf8(written.as_slice()).unwrap_or("not UTF-8");
+    is_pushed && is_made_of(text, "AAAAAA[", "BBBBBBi", count as usize, "]")
 }
 
 #[test]
 fn a_diagnostic_is_added_as_it_is_made(rt: HostRuntime) {
-    assert_eq!(rt; is_diagnosed(rt.alloc(), 10_000), Ok(true));
+    assert!(rt; is_diagnosed(rt.alloc(), 10_000));
 }
 
-// The diagnostic of nested structures, this many of them.
-fn nested(alloc: Global, times: usize) -> Result<String, AllocError> {
-    let closes = repeated(alloc, "]", times, "")?;
-    repeated(alloc, "69[", times, closes.as_str())
+// Adds what a diagnostic is read back as, with hardly any memory; how far it was read, and how deep it was then.
+fn read_back(
+    memory: &BoundedAllocator<Global>,
+    written: &mut Vec<u8>,
+    text: &str,
+) -> Option<(usize, usize)> {
+    let names: LentTagMap<&BoundedAllocator<Global>> = HashMap::new(memory);
+    let mut pieces = Pieces::new(written);
+    let bounded = Indentation::Bounded;
+    let end = push_read_back(memory, &mut pieces, "4200", &names, bounded, text).ok()?;
+    pieces.finish().ok()?;
+    Some((end.used, end.depth))
 }
 
-// Whether a text is read back into a sink as into a string, with hardly any memory.
-fn is_added(alloc: Global, text: &str) -> Result<bool, AllocError> {
-    let none: LentTagMap = HashMap::new(alloc);
-    let whole = read_back_counted(alloc, "4200", &none, Indentation::Bounded, text)?;
+// Whether that is what it is read back as in one string.
+fn is_added(alloc: Global, text: &str) -> bool {
     let memory = BoundedAllocator::in_blocks(alloc, 64);
-    let names: LentTagMap<&BoundedAllocator<Global>> = HashMap::new(&memory);
     let mut written = Vec::new(alloc);
-    let mut pieces = Pieces::new(&mut written);
-    let Ok(end) = push_read_back(
-        &memory,
-        &mut pieces,
-        "4200",
-        &names,
-        Indentation::Bounded,
-        text,
-    ) else {
-        return Ok(false);
-    };
-    let sent = pieces.finish().is_ok();
-    let ends = end.used == whole.used && end.depth == whole.depth;
-    Ok(sent && ends && written.as_slice() == whole.text.as_bytes())
+    let ends = read_back(&memory, &mut written, text);
+    let none: LentTagMap = HashMap::new(alloc);
+    match read_back_counted(alloc, "4200", &none, Indentation::Bounded, text) {
+        Ok(whole) => {
+            ends == Some((whole.used, whole.depth)) && written.as_slice() == whole.text.as_bytes()
+        }
+        Err(_) => false,
+    }
 }
 
 // Diagnostics, whole and cut, and values that end with white space.
@@ -258,12 +253,21 @@ const READ: [&str; 9] = [
     "69[5Ce1:zz",
 ];
 
-#[test]
-fn a_text_is_added_as_it_is_read_back(rt: HostRuntime) -> Result<(), AllocError> {
-    let deep = nested(rt.alloc(), 2000)?;
-    assert!(rt; is_added(rt.alloc(), deep.as_str())?);
-    for text in READ {
-        assert!(rt; is_added(rt.alloc(), text)?, "{text}");
+// Whether that holds for so many structures, each in the one before.
+fn deep_is_added(alloc: Global, times: usize) -> bool {
+    let Ok(closes) = made_of(alloc, "", "]", times, "") else {
+        return false;
+    };
+    match made_of(alloc, "", "69[", times, closes.as_str()) {
+        Ok(text) => is_added(alloc, text.as_str()),
+        Err(_) => false,
     }
-    Ok(())
+}
+
+#[test]
+fn a_text_is_added_as_it_is_read_back(rt: HostRuntime) {
+    assert!(rt; deep_is_added(rt.alloc(), 2000));
+    for text in READ {
+        assert!(rt; is_added(rt.alloc(), text), "{text}");
+    }
 }
