@@ -1,10 +1,12 @@
 -- The bits of a number of 32 bits, one after the other.
-use Rattle.std.proofs.Common.{◌≡◌, ℕ, zero, suc, ◌+◌, ◌*◌, ◌/◌, ◌%◌, ◌<◌, ◌^◌, ◌==◌, Bool, true, false, List, [], ◌∷◌, ◌++◌, length, Option, None, Bor, ap}
-use Rattle.std.proofs.Common.{refl, sym, ◌∙◌, arith, append_assoc}
+use Rattle.std.proofs.Common.{◌≡◌, ℕ, zero, suc, ◌+◌, ◌*◌, ◌/◌, ◌%◌, ◌<◌, ◌^◌, ◌==◌, Bool, true, false, List, [], ◌∷◌, ◌++◌, length, Option, Some, None, Bor}
+use Rattle.std.proofs.Common.{ap, refl, sym, ◌∙◌, arith, append_assoc}
 use Rattle.std.specs.HashMap.{hash_map_len}
 use Rattle.std.proofs.Math.Nat.{two-pow-succ}
 use Rattle.kmip_ttlv_util.specs.TagNames.{NameMap, name_in}
-use Rattle.ttlv_run.specs.Masks.{behind_mark, set_name, still_first, bit_names}
+use Rattle.kmip_ttlv_names.specs.{OwnNames.value_key, ValueNames.name_of_value, ValueNames.or_else}
+use Rattle.kmip_ttlv_names.proofs.Lists.{no_entry, last_names}
+use Rattle.ttlv_run.specs.Masks.{behind_mark, set_name, still_first, bit_names, value_in, value_named}
 
 -- a bit, so many places from the lowest, and what is left of a number from there on
 pub record Place (bit rest : ℕ) : Type 0 where
@@ -71,3 +73,23 @@ no_name m is key = rw (empty m.entries is) refl
     empty : (es : List (ℕ × Bor (List ℕ))) → length es ≡ 0 → es ≡ []
     empty [] none = refl
     empty (e ∷ es) none = absurd (omega arith)
+
+pub some_one : {n m : ℕ} → Some n ≡ Some m → n ≡ m
+some_one e = ap (λ o. elim o [ None ↦ 0 | Some k ↦ k ]) e
+
+-- nothing has no entry
+pub no_entries : (value : ℕ) → name_of_value value [] ≡ None
+no_entries value = last_names value [] refl ∙ no_entry value [] refl
+
+-- the name of a bit is the same by another list that has it
+pub name_same : (own : ℕ → Option (List ℕ)) (tag bit : ℕ) (a b name : Option (List ℕ)) (is_set : Bool)
+    → name ≡ set_name (value_named own b tag) bit is_set → value_in a bit ≡ value_in b bit → name ≡ set_name (value_named own a tag) bit is_set
+name_same own tag bit a b name true is same = is ∙ ap (or_else (own (value_key tag bit))) (sym same)
+name_same own tag bit a b name false is same = is
+
+power_some : (n : ℕ) → 0 < 2 ^ n
+power_some zero = omega arith
+power_some (suc n) = omega (arith, two-pow-succ n, power_some n)
+
+pub bit_some : {bit rest : ℕ} (p : Place bit rest) → 0 < bit
+bit_some p = omega (arith, p.is, power_some p.place)

@@ -1,8 +1,10 @@
 -- The names of values, and of a mask's bits.
-use Rattle.std.specs.Prelude.{ℕ, zero, suc, ◌*◌, ◌/◌, ◌%◌, Bool, true, false, ◌==◌, List, [], ◌++◌}
+use Rattle.std.specs.Prelude.{◌≡◌, ◌<◌, ◌≤◌, ℕ, zero, suc, ◌*◌, ◌/◌, ◌%◌, Bool, true, false, ◌==◌, List, [], ◌++◌}
 use Rattle.std.specs.Prelude.{Option, Some, None, if◌then◌else◌, codes}
-use Rattle.kmip_ttlv_names.specs.ValueNames.{name_of_value, or_else}
+use Rattle.kmip_ttlv_names.specs.ValueNames.{entry_name, name_of_value, or_else}
 use Rattle.kmip_ttlv_names.specs.OwnNames.{value_key}
+use Rattle.ttlv_run.specs.declared.masks.Entry.{Entry}
+use Rattle.ttlv_run.specs.declared.masks.Entry.TheVariants.{Passed, Named, Later}
 
 -- the name of a value in a list, where there is one
 abbrev pub value_in : Option (List ℕ) → ℕ → Option (List ℕ)
@@ -12,6 +14,23 @@ value_in (Some list) value = name_of_value value list
 -- the name of a tag's value: the user's, or else that in a list
 abbrev pub value_named : (ℕ → Option (List ℕ)) → Option (List ℕ) → ℕ → ℕ → Option (List ℕ)
 value_named own list tag value = or_else (own (value_key tag value)) (value_in list value)
+
+-- what an entry of a list is, where the names of this value and of greater ones are wanted
+abbrev pub IsEntry : ℕ → List ℕ → Entry → Type 0
+IsEntry value entry Passed = (other : ℕ) → value ≤ other → entry_name other entry ≡ None
+IsEntry value entry (Named name) =
+    (entry_name value entry ≡ Some name.now) × ((other : ℕ) → value < other → entry_name other entry ≡ None)
+IsEntry value entry Later = entry_name value entry ≡ None
+
+-- the name of a value in a list, and a list with those of the greater ones
+abbrev pub IsNext : ℕ → List ℕ → Option (List ℕ) → List ℕ → Type 0
+IsNext value list name rest =
+    (name ≡ name_of_value value list)
+    × ((other : ℕ) → value < other → name_of_value other list ≡ name_of_value other rest)
+
+-- another list has the names of the values above this one
+abbrev pub NamesAbove : ℕ → Option (List ℕ) → Option (List ℕ) → Type 0
+NamesAbove value list rest = (other : ℕ) → value < other → value_in list other ≡ value_in rest other
 
 -- what stands in front of a name: a space, or a bar where it isn't the first
 abbrev pub mark : Bool → List ℕ

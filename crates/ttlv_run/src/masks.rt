@@ -1,13 +1,15 @@
 //! The names of values, and of a mask's bits.
 
-ghost use Rattle.std.specs.Prelude.{◌≡◌, ℕ, true, None, OnOk, OnErr, option_map};
+ghost use Rattle.std.specs.Prelude.{◌≡◌, ℕ, true, None, length, OnOk, OnErr, option_map};
+ghost use Rattle.std.specs.List.{position_or_len};
 ghost use Rattle.kmip_ttlv_names.specs.OwnNames.{value_key};
+ghost use Rattle.kmip_ttlv_names.specs.ValueNames.{is_semicolon};
 ghost use Rattle.kmip_ttlv_util.specs.TagNames.{name_in};
-ghost use Rattle.ttlv_run.specs.Masks.{value_in, value_named, mark, behind_mark, still_first, set_name, mask_names};
+ghost use Rattle.ttlv_run.specs.Masks.{value_in, value_named, mark, behind_mark, still_first, set_name, mask_names, IsEntry, IsNext, NamesAbove};
 
 use crate::job::Names;
 use kmip_ttlv_names::{value_key, value_name};
-use kmip_ttlv_types::TtlvTag;
+use kmip_ttlv_types::{TtlvTag, number};
 use kmip_ttlv_util::TextSink;
 use std::alloc::Allocator;
 
@@ -47,21 +49,86 @@ pub fn value_named<'n, A: Allocator>(
     }
 }
 
-// The name of a bit of a mask, if it is set and has one.
+// An entry of a list of names, where those of a value and of greater ones are wanted.
+#[derive(Clone, Copy)]
+pub(crate) enum Entry<'l> {
+    /// It is for none of them.
+    Passed,
+    /// It is for the value: its name.
+    Named(&'l str),
+    /// It is for a greater one.
+    Later,
+}
+
+// What an entry is, where the names of this value and of greater ones are wanted.
+fn entry_for(entry: &str, value: u32) -> Entry<'_>
+    ensures { IsEntry value entry.now result }
+{
+    let Some((digits, name)) = entry.split_once('=') else {
+        return Entry::Passed;
+    };
+    let Some(n) = number(digits) else {
+        return Entry::Passed;
+    };
+    if n < value {
+        Entry::Passed
+    } else if n == value {
+        Entry::Named(name)
+    } else {
+        Entry::Later
+    }
+}
+
+// The name of a value in the last entry of a list, and what is left of it for greater ones.
+fn last_name(entry: &str, value: u32) -> (Option<&str>, &str)
+    requires { position_or_len is_semicolon entry.now ≡ length entry.now }
+    ensures { IsNext value entry.now (option_map (λ s. s.now) result.0) result.1.now }
+{
+    match entry_for(entry, value) {
+        Entry::Passed => (None, ""),
+        Entry::Named(name) => (Some(name), ""),
+        Entry::Later => (None, entry),
+    }
+}
+
+// The name of a value in a list, and what is left of the list for greater ones. Lists are in the order of their values, so each
+// entry is passed once; another order costs time alone.
+fn next_name(list: &str, value: u32) -> (Option<&str>, &str)
+    ensures { IsNext value list.now (option_map (λ s. s.now) result.0) result.1.now }
+{
+    let mut rest = list;
+    'entries: while let Some((entry, more)) = rest.split_once(';') {
+        match entry_for(entry, value) {
+            Entry::Passed => rest = more,
+            Entry::Named(name) => return (Some(name), more),
+            Entry::Later => return (value_name(rest, value), rest),
+        }
+    }
+    last_name(rest, value)
+}
+
+// The name of a bit of a mask, if it is set and has one, and what is left of the list for greater bits.
 fn set_name<'n, A: Allocator>(
     names: &Names<'n, A>,
     list: Option<&'n str>,
     tag: TtlvTag,
     bit: u32,
     is_set: bool,
-) -> Option<&'n str>
-    ensures { option_map (λ s. s.now) result ≡ set_name (value_named (name_in names.now.own)
+) -> (Option<&'n str>, Option<&'n str>)
+    ensures name { option_map (λ s. s.now) result.0 ≡ set_name (value_named (name_in names.now.own)
         (option_map (λ s. s.now) list.entry) tag) bit is_set }
+    ensures rest { NamesAbove bit (option_map (λ s. s.now) list.entry) (option_map (λ s. s.now) result.1) }
 {
-    if is_set {
-        value_named(names, list, tag, bit)
-    } else {
-        None
+    if !is_set {
+        return (None, list);
+    }
+    let Some(entries) = list else {
+        return (own_name(names, tag, bit), None);
+    };
+    let (listed, rest) = next_name(entries, bit);
+    match own_name(names, tag, bit) {
+        Some(name) => (Some(name), Some(rest)),
+        None => (listed, Some(rest)),
     }
 }
 
@@ -128,10 +195,12 @@ pub fn push_mask<'n, S: TextSink, A: Allocator>(
     let mut rest = mask as u64;
     let mut bit: u64 = 1;
     let mut is_first = true;
+    let mut entries = list;
     'bits: while rest > 0 {
-        let name = set_name(names, list, tag, bit as u32, rest % 2 == 1);
+        let (name, later) = set_name(names, entries, tag, bit as u32, rest % 2 == 1);
         push_bit(out, is_first, name)?;
         is_first = still_first(is_first, name);
+        entries = later;
         rest /= 2;
         bit *= 2;
     }
