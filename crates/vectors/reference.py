@@ -128,7 +128,8 @@ def diagnostic(items, prefix):
 
 
 def quoted(words):
-    return '"' + "".join(ESCAPES.get(it) or (f"\\u{ord(it):04x}" if ord(it) < 32 else it) for it in words) + '"'
+    by_number = [*range(32), *range(0x7F, 0xA0)]
+    return '"' + "".join(ESCAPES.get(it) or (f"\\u{ord(it):04x}" if ord(it) in by_number else it) for it in words) + '"'
 
 
 def json_value(typ, content, is_hidden):

@@ -10,7 +10,8 @@ use Rattle.hex.proofs.HexLemmas.{decode_of-encode_upper}
 use Rattle.json.specs.{Token.Token, Lex.tokens, Tree.json_tokens}
 use Rattle.json.proofs.Printed.Trees.{value-json_tokens}
 use Rattle.serde_json.specs.Data.{Data, null, boolean, string, array, object, Items, no_items, item, member}
-use Rattle.serde_json.specs.{Read.of_json, Written.compact_text, Written.outline}
+use Rattle.serde_json.specs.{Read.of_json, Written.outline}
+use Rattle.kmip_ttlv_json.specs.Spellings.{data_text}
 use Rattle.kmip_ttlv_types.specs.{declared.typ.TtlvType.TtlvType, Leaves.is_valid}
 use Rattle.kmip_ttlv_types.specs.declared.typ.TtlvType.TheVariants.{Structure, Integer, LongInteger, BigInteger, Enumeration, Boolean, TextString, ByteString}
 use Rattle.kmip_ttlv_types.specs.declared.typ.TtlvType.TheVariants.{DateTime, Interval}
@@ -38,7 +39,7 @@ abbrev data_in : Option Data → Data
 data_in None = null
 data_in (Some d) = d
 
-text_one : (d e : Data) → Back d → Back e → compact_text d ≡ compact_text e → d ≡ e
+text_one : (d e : Data) → Back d → Back e → data_text d ≡ data_text e → d ≡ e
 text_one d e p q same =
     let j = outline d in
     let k = outline e in

@@ -1,5 +1,7 @@
 pub mod Hexadecimal
 pub mod Escapes
+pub mod Spelling
+pub mod Lexing
 pub mod TreeTexts
 pub mod Found
 pub mod ReadBack

@@ -1,5 +1,5 @@
 -- A message is read back from its line.
-use Rattle.std.proofs.Common.{◌≡◌, ◌∙◌, ℕ, suc, ◌+◌, ◌<◌, ◌≤◌, ◌^◌, ◌==◌, true, false, List, ◌∷◌, length, if◌then◌else◌, Some, None, option_map}
+use Rattle.std.proofs.Common.{◌≡◌, ◌∙◌, ℕ, suc, ◌+◌, ◌<◌, ◌≤◌, ◌^◌, ◌==◌, true, List, ◌∷◌, length, if◌then◌else◌, Some, None, option_map}
 use Rattle.std.proofs.Common.{option_and_then, Ok, refl, ap, sym, arith, length-append}
 use Rattle.std.specs.{Prelude.nat_lt, Option.ok_or, Result.result_ok}
 use Rattle.std.specs.Int.{w32, w64, to_be_bytes, from_be_bytes, bytes_high_first}
@@ -7,7 +7,8 @@ use Rattle.std.proofs.lemmas.{Bool.ltb-true, Bool.eqb-true, Nat.be_bytes_8}
 use Rattle.hex.specs.Hex.{encode_with, encode_upper, upper_digits, decode_sized}
 use Rattle.hex.proofs.HexLemmas.{IsDigits-upper_digits, decode_of-encode_upper, decode_pairs-encode_with}
 use Rattle.serde_json.specs.Data.{Data, string, array, depth}
-use Rattle.serde_json.specs.{Read.max_depth, Written.compact_text}
+use Rattle.serde_json.specs.Read.{max_depth}
+use Rattle.kmip_ttlv_json.specs.Spellings.{data_text}
 use Rattle.kmip_ttlv_types.specs.{declared.typ.TtlvType.TtlvType, Leaves.is_valid}
 use Rattle.kmip_ttlv_types.specs.declared.typ.TtlvType.TheVariants.{Structure, Boolean, TextString}
 use Rattle.kmip_ttlv_types.proofs.PlaceLemmas.{raw_with, text_length}
@@ -113,7 +114,7 @@ structure_is (leaf tag typ content) root = absurd root
 structure_is (node tag below) root = refl
 
 pub stands_back : (w : List ℕ) (xs : List FoundItem) → ArePlain w → (h : Lists w xs) → depth (tree_json no_secrets All h.message) ≤ max_depth
-    → Stands (compact_text (tree_json no_secrets All h.message)) h.message
+    → Stands (data_text (tree_json no_secrets All h.message)) h.message
 stands_back w xs plain h deep =
     let t = h.message in
     let len : length (bytes t) < 2 ^ 32 + 8 = omega (arith, structure_short t w h.text h.root, len_of t w h.text) in

@@ -5,9 +5,9 @@ use Rattle.std.specs.{Prelude.codes, Int.bytes_high_first}
 use Rattle.std.proofs.{Math.Bool.and-false, Math.Bool.and-true}
 use Rattle.std.proofs.lemmas.Bool.{lt-ltb, le-ltb, ltb-true, ltb-false, ne_eqb, eq-eqb}
 use Rattle.hex.specs.Hex.{encode_upper}
-use Rattle.json.specs.Print.{escape_byte, escape, quoted}
+use Rattle.json.specs.Print.{escape_byte, quoted}
 use Rattle.serde_json.specs.Data.{Data}
-use Rattle.serde_json.specs.Written.{compact_text, items_text, comma_if}
+use Rattle.serde_json.specs.Written.{comma_if}
 use Rattle.kmip_ttlv_types.specs.{declared.typ.TtlvType.TtlvType, ItemTypes.code}
 use Rattle.kmip_ttlv_types.specs.declared.typ.TtlvType.TheVariants.{Structure, Enumeration, Boolean, TextString, ByteString}
 use Rattle.kmip_ttlv_types.specs.Trees.{Tree, Trees, leaf, node, no_trees, tree, IsTreeText, AreTreeTexts}
@@ -16,9 +16,10 @@ use Rattle.kmip_ttlv_write.specs.GivenItems.{Line, lines, lines_below}
 use Rattle.kmip_ttlv_json.specs.declared.print.Spot.{Spot}
 use Rattle.kmip_ttlv_json.specs.declared.print.Shown.{Shown}
 use Rattle.kmip_ttlv_json.specs.declared.print.Shown.TheVariants.{All, Enumerations, Nothing}
+use Rattle.kmip_ttlv_json.specs.Spellings.{spelled, data_text, items_text}
 use Rattle.kmip_ttlv_json.specs.Jsons.{type_word, value_json, item_json, hex_text, is_true, within, tree_json, trees_json}
-use Rattle.kmip_ttlv_json.specs.Parts.{closes, is_inside, spot_after, gap, opening, value_part, item_part, kind, parts, spot_behind, first_spot}
-use Rattle.kmip_ttlv_json.proofs.Escapes.{escape_digits}
+use Rattle.kmip_ttlv_json.specs.Parts.{closes, is_inside, spot_after, gap, opening, digits_text, value_part, item_part, kind, parts, spot_behind, first_spot}
+use Rattle.kmip_ttlv_json.proofs.Escapes.{AreLow, low_from, spelled_low, digits_low, escape_digits}
 
 abbrev pub ArePlain : List ℕ → Type 0
 ArePlain xs = (k : ℕ) → get_or xs k 0 < 256
@@ -30,11 +31,21 @@ kind_code typ = refl
 -- ---- one item
 
 -- what stands between the digits of the tag and the value
-type_is : (typ : TtlvType) (s : List ℕ) → 44 ∷ (quoted (codes "type") ++ 58 ∷ (quoted (type_word typ) ++ 44 ∷ (quoted (codes "value") ++ 58 ∷ s)))
+word_low : (typ : TtlvType) → AreLow (type_word typ)
+word_low Structure = low_from (codes "Structure") refl
+word_low typ = low_from (type_word typ) refl
+
+word_is : (typ : TtlvType) (s : List ℕ) → 44 ∷ (quoted (codes "type") ++ 58 ∷ (quoted (type_word typ) ++ 44 ∷ (quoted (codes "value") ++ 58 ∷ s)))
     ≡ 44 ∷ 34 ∷ 116 ∷ 121 ∷ 112 ∷ 101 ∷ 34 ∷ 58 ∷ 34 ∷ (type_word typ ++ (codes "\",\"value\":" ++ s))
 unfolding escape_byte
-type_is Structure s = refl
-type_is typ s = refl
+word_is Structure s = refl
+word_is typ s = refl
+
+type_is : (typ : TtlvType) (s : List ℕ) → 44 ∷ (quoted (codes "type") ++ 58 ∷ (spelled (type_word typ) ++ 44 ∷ (quoted (codes "value") ++ 58 ∷ s)))
+    ≡ 44 ∷ 34 ∷ 116 ∷ 121 ∷ 112 ∷ 101 ∷ 34 ∷ 58 ∷ 34 ∷ (type_word typ ++ (codes "\",\"value\":" ++ s))
+type_is typ s =
+    ap (λ (t : List ℕ). 44 ∷ (quoted (codes "type") ++ 58 ∷ (t ++ 44 ∷ (quoted (codes "value") ++ 58 ∷ s)))) (spelled_low (type_word typ) (word_low typ))
+    ∙ word_is typ s
 
 pub tag_plain : (tag : ℕ) → ArePlain (bytes_high_first 3 tag)
 tag_plain tag zero = omega arith
@@ -42,42 +53,50 @@ tag_plain tag (suc zero) = omega arith
 tag_plain tag (suc (suc zero)) = omega arith
 tag_plain tag (suc (suc (suc k))) = omega arith
 
-quoted_hex : (content s : List ℕ) → ArePlain content → quoted (hex_text content) ++ s ≡ 34 ∷ 48 ∷ 120 ∷ (encode_upper content ++ 34 ∷ s)
+spelled_hex : (content s : List ℕ) → ArePlain content → spelled (hex_text content) ++ s ≡ 34 ∷ 48 ∷ 120 ∷ (encode_upper content ++ 34 ∷ s)
 unfolding escape_byte
-quoted_hex content s plain = ap (λ (t : List ℕ). 34 ∷ 48 ∷ 120 ∷ ((t ++ 34 ∷ []) ++ s)) (escape_digits content plain)
+spelled_hex content s plain =
+    ap (λ (t : List ℕ). t ++ s) (spelled_low (hex_text content) (omega arith, (omega arith, digits_low content plain)))
+    ∙ ap (λ (t : List ℕ). 34 ∷ 48 ∷ 120 ∷ ((t ++ 34 ∷ []) ++ s)) (escape_digits content plain)
     ∙ ap (λ (t : List ℕ). 34 ∷ 48 ∷ 120 ∷ t) (append_assoc (encode_upper content) (34 ∷ []) s)
 
 -- an item with any value
-item_is : (tag : ℕ) (typ : TtlvType) (value : Data) → opening tag typ ++ (compact_text value ++ 125 ∷ []) ≡ compact_text (item_json tag typ value)
+item_is : (tag : ℕ) (typ : TtlvType) (value : Data) → opening tag typ ++ (data_text value ++ 125 ∷ []) ≡ data_text (item_json tag typ value)
 unfolding opening escape_byte
 item_is tag typ value =
-    let s = compact_text value ++ 125 ∷ [] in
+    let s = data_text value ++ 125 ∷ [] in
     let digits = encode_upper (bytes_high_first 3 tag) in
     let front : opening tag typ ++ s ≡ codes "{\"tag\":\"0x" ++ (digits ++ (codes "\",\"type\":\"" ++ (type_word typ ++ (codes "\",\"value\":" ++ s)))) =
     simp append_assoc in
     front ∙ ap (λ (t : List ℕ). codes "{\"tag\":\"0x" ++ (digits ++ 34 ∷ t)) (sym (type_is typ s))
-    ∙ ap (λ (t : List ℕ). codes "{\"tag\":" ++ t) (sym (quoted_hex (bytes_high_first 3 tag) _ (tag_plain tag)))
+    ∙ ap (λ (t : List ℕ). codes "{\"tag\":" ++ t) (sym (spelled_hex (bytes_high_first 3 tag) _ (tag_plain tag)))
 
-quoted_digits : (content : List ℕ) → ArePlain content → encode_upper content ++ 34 ∷ [] ≡ escape (encode_upper content) ++ 34 ∷ []
-quoted_digits content plain = sym (ap (λ (t : List ℕ). t ++ 34 ∷ []) (escape_digits content plain))
+number_is : (content : List ℕ) → ArePlain content → digits_text (codes "\"0x") content ++ 125 ∷ [] ≡ spelled (hex_text content) ++ 125 ∷ []
+number_is content plain =
+    ap (λ (t : List ℕ). 34 ∷ 48 ∷ 120 ∷ t) (append_assoc (encode_upper content) (34 ∷ []) (125 ∷ [])) ∙ sym (spelled_hex content (125 ∷ []) plain)
+
+bytes_are : (content : List ℕ) → ArePlain content → digits_text (codes "\"") content ++ 125 ∷ [] ≡ spelled (encode_upper content) ++ 125 ∷ []
+bytes_are content plain =
+    ap (λ (t : List ℕ). t ++ 125 ∷ []) (sym (spelled_low (encode_upper content) (digits_low content plain)
+    ∙ ap (λ (t : List ℕ). 34 ∷ (t ++ 34 ∷ [])) (escape_digits content plain)))
 
 -- the value of a leaf
 value_is : (shown : Shown) (typ : TtlvType) (content : List ℕ) → typ ≢ Structure → ArePlain content
-    → value_part shown typ content ≡ compact_text (value_json shown typ content) ++ 125 ∷ []
+    → value_part shown typ content ≡ data_text (value_json shown typ content) ++ 125 ∷ []
 unfolding escape_byte
 value_is shown Structure content ne plain = absurd (ne refl)
 value_is Nothing typ content ne plain = refl
-value_is All Enumeration content ne plain = ap (λ (t : List ℕ). 34 ∷ 48 ∷ 120 ∷ (t ++ 125 ∷ [])) (quoted_digits content plain)
-value_is Enumerations Enumeration content ne plain = ap (λ (t : List ℕ). 34 ∷ 48 ∷ 120 ∷ (t ++ 125 ∷ [])) (quoted_digits content plain)
+value_is All Enumeration content ne plain = number_is content plain
+value_is Enumerations Enumeration content ne plain = number_is content plain
 value_is All Boolean content ne plain = by (is_true content)
   where
-    by : (b : Bool) → (if b then codes "true" else codes "false") ++ codes "}" ≡ compact_text (Data.boolean b) ++ 125 ∷ []
+    by : (b : Bool) → (if b then codes "true" else codes "false") ++ codes "}" ≡ data_text (Data.boolean b) ++ 125 ∷ []
     by true = refl
     by false = refl
 value_is All TextString content ne plain = refl
-value_is All ByteString content ne plain = ap (λ (t : List ℕ). 34 ∷ (t ++ 125 ∷ [])) (quoted_digits content plain)
+value_is All ByteString content ne plain = bytes_are content plain
 value_is Enumerations typ content ne plain = refl
-value_is All typ content ne plain = ap (λ (t : List ℕ). 34 ∷ 48 ∷ 120 ∷ (t ++ 125 ∷ [])) (quoted_digits content plain)
+value_is All typ content ne plain = number_is content plain
 
 -- ---- items behind one another
 
@@ -166,18 +185,18 @@ module _ (secrets : ℕ → Bool) (shown : Shown) where
   mutual
     tree_flat : (d : ℕ) (b : Bool) (s : Option ℕ) (t : Tree) (text : List ℕ) (r : List Line) → IsTreeText t text → AllPlain (lines d t) → IsLow d r
         → flat (spot d b s) (lines d t ++ r)
-        ≡ comma_if (not b) ++ (compact_text (tree_json secrets (within shown (is_inside s d)) t) ++ flat (spot d false s) r)
+        ≡ comma_if (not b) ++ (data_text (tree_json secrets (within shown (is_inside s d)) t) ++ flat (spot d false s) r)
     tree_flat d b s (leaf tag typ content) text r h plain low =
         let ne = leaf_not typ content h.0 in
         let hid = within (within shown (is_inside s d)) (secrets tag) in
         let v = value_json hid typ content in
-        let own : opening tag typ ++ value_part hid typ content ≡ compact_text (item_json tag typ v) =
+        let own : opening tag typ ++ value_part hid typ content ≡ data_text (item_json tag typ v) =
         ap (λ (x : List ℕ). opening tag typ ++ x) (value_is hid typ content ne plain.0) ∙ item_is tag typ v in
         let after : flat (spot_after secrets (spot d b s) d tag typ) r ≡ flat (spot d false s) r = leaf_after typ ne ∙ secret_same s d tag false r low in
         ap (λ (k : TtlvType). item_part secrets shown (spot d b s) d tag k content ++ flat (spot_after secrets (spot d b s) d tag k) r) (kind_code typ)
         ∙ ap₂ (λ (x y : List ℕ). (x ++ (opening tag typ ++ value_part hid typ content)) ++ y) (gap_is d b s) after
         ∙ ap (λ (x : List ℕ). (comma_if (not b) ++ x) ++ flat (spot d false s) r) own
-        ∙ append_assoc (comma_if (not b)) (compact_text (item_json tag typ v)) (flat (spot d false s) r)
+        ∙ append_assoc (comma_if (not b)) (data_text (item_json tag typ v)) (flat (spot d false s) r)
       where
         leaf_after : (k : TtlvType) → k ≢ Structure → flat (spot_after secrets (spot d b s) d tag k) r ≡ flat (spot d false (secret_behind s d tag)) r
         leaf_after Structure ne = absurd (ne refl)
@@ -206,14 +225,14 @@ module _ (secrets : ℕ → Bool) (shown : Shown) where
         let k = plain_both (lines (suc d) t) (lines_below (suc d) ts) plain in
         let hid = within shown (is_inside s (suc d)) in
         let more = lines_below (suc d) ts ++ r in
-        let one = compact_text (tree_json secrets hid t) in
+        let one = data_text (tree_json secrets hid t) in
         ap (flat (spot (suc d) b s)) (append_assoc (lines (suc d) t) (lines_below (suc d) ts) r)
         ∙ tree_flat (suc d) b s t h.0 more h.3 k.0 (low_below d ts r low)
         ∙ ap (λ (x : List ℕ). comma_if (not b) ++ (one ++ x)) (trees_flat d false s ts h.1 r h.4 k.1 low) ∙ simp append_assoc
 
   -- a whole message
   pub message_flat : (t : Tree) (text : List ℕ) → IsTreeText t text → AllPlain (lines 0 t) → parts secrets shown first_spot (lines 0 t) ++ closes
-      (spot_behind secrets first_spot (lines 0 t)).depth ≡ compact_text (tree_json secrets shown t)
+      (spot_behind secrets first_spot (lines 0 t)).depth ≡ data_text (tree_json secrets shown t)
   message_flat t text h plain =
       flat_is first_spot (lines 0 t) ∙ ap (flat first_spot) (sym (append-nil (lines 0 t))) ∙ tree_flat 0 true None t text [] h plain tt
       ∙ append-nil _

@@ -3,7 +3,6 @@ use Rattle.std.specs.Prelude.{ℕ, Bool, true, false, List, [], ◌∷◌, ◌++
 use Rattle.std.specs.Int.{w64, from_be_bytes, bytes_high_first}
 use Rattle.hex.specs.Hex.{encode_upper}
 use Rattle.serde_json.specs.Data.{Data, null, boolean, string, array, object, Items, no_items, item, no_members, member}
-use Rattle.serde_json.specs.Written.{compact_text}
 use Rattle.kmip_ttlv_types.specs.declared.typ.TtlvType.{TtlvType}
 use Rattle.kmip_ttlv_types.specs.declared.typ.TtlvType.TheVariants.{Structure, Integer, LongInteger, BigInteger}
 use Rattle.kmip_ttlv_types.specs.declared.typ.TtlvType.TheVariants.{Enumeration, Boolean, TextString, ByteString}
@@ -11,6 +10,7 @@ use Rattle.kmip_ttlv_types.specs.declared.typ.TtlvType.TheVariants.{DateTime, In
 use Rattle.kmip_ttlv_json.specs.declared.print.Shown.{Shown}
 use Rattle.kmip_ttlv_json.specs.declared.print.Shown.TheVariants.{All, Enumerations, Nothing}
 use Rattle.kmip_ttlv_types.specs.Trees.{Tree, Trees, leaf, node, no_trees, tree}
+use Rattle.kmip_ttlv_json.specs.Spellings.{data_text}
 
 -- the name of a type
 abbrev pub type_word : TtlvType → List ℕ
@@ -70,4 +70,4 @@ abbrev mutual
 
 -- the line of a message
 abbrev pub json_line : (ℕ → Bool) → Shown → Tree → List ℕ
-json_line secrets shown t = compact_text (tree_json secrets shown t) ++ 10 ∷ []
+json_line secrets shown t = data_text (tree_json secrets shown t) ++ 10 ∷ []

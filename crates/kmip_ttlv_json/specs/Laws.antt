@@ -2,11 +2,11 @@
 use Rattle.std.specs.Prelude.{◌≡◌, ◌≤◌, ℕ, Bool, false, List}
 use Rattle.serde_json.specs.Data.{depth}
 use Rattle.serde_json.specs.Read.{max_depth}
-use Rattle.serde_json.specs.Written.{compact_text}
 use Rattle.kmip_ttlv_items.specs.declared.found.FoundItem.{FoundItem}
 use Rattle.kmip_ttlv_items.specs.FoundItems.{Lists}
 use Rattle.kmip_ttlv_items.specs.ItemWalks.{AreBytes}
 use Rattle.kmip_ttlv_json.specs.declared.print.Shown.TheVariants.{All}
+use Rattle.kmip_ttlv_json.specs.Spellings.{data_text}
 use Rattle.kmip_ttlv_json.specs.Jsons.{tree_json, json_line}
 use Rattle.kmip_ttlv_types.specs.Trees.{Tree, bytes, IsTreeText}
 use Rattle.kmip_ttlv_json.specs.Readings.{Stands}
@@ -33,7 +33,7 @@ ComesBack =
     → AreBytes bytes
     → (h : Lists bytes xs)
     → depth (tree_json no_secrets All h.message) ≤ max_depth
-    → Stands (compact_text (tree_json no_secrets All h.message)) h.message
+    → Stands (data_text (tree_json no_secrets All h.message)) h.message
 
 -- what a text stands for is a whole message: its canonical bytes encode it
 abbrev pub ReadsMessages : Type 0

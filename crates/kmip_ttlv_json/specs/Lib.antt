@@ -1,3 +1,4 @@
+pub mod Spellings
 pub mod Jsons
 pub mod Parts
 pub mod Printings

@@ -1,9 +1,8 @@
 -- The text of a message's JSON, item by item.
-use Rattle.std.specs.Prelude.{ℕ, zero, suc, ◌-◌, ◌==◌, Bool, true, false, not, ◌&&◌, List, [], ◌∷◌, ◌++◌, nat_lt, codes, encode_utf8}
+use Rattle.std.specs.Prelude.{ℕ, zero, suc, ◌-◌, ◌==◌, Bool, true, false, not, ◌&&◌, List, [], ◌∷◌, ◌++◌, nat_lt, codes}
 use Rattle.std.specs.Prelude.{Option, Some, None, if◌then◌else◌}
 use Rattle.std.specs.Int.{bytes_high_first}
 use Rattle.hex.specs.Hex.{encode_upper}
-use Rattle.json.specs.Print.{escape_byte, quoted}
 use Rattle.serde_json.specs.Written.{comma_if}
 use Rattle.kmip_ttlv_types.specs.declared.typ.TtlvType.{TtlvType}
 use Rattle.kmip_ttlv_types.specs.declared.typ.TtlvType.TheVariants.{Structure, Enumeration, Boolean, TextString, ByteString}
@@ -13,6 +12,7 @@ use Rattle.kmip_ttlv_write.specs.GivenItems.{Line}
 use Rattle.kmip_ttlv_json.specs.declared.print.Spot.{Spot}
 use Rattle.kmip_ttlv_json.specs.declared.print.Shown.{Shown}
 use Rattle.kmip_ttlv_json.specs.declared.print.Shown.TheVariants.{All, Enumerations, Nothing}
+use Rattle.kmip_ttlv_json.specs.Spellings.{spelled}
 use Rattle.kmip_ttlv_json.specs.Jsons.{type_word, is_true, within}
 
 -- the ends of so many structures
@@ -69,7 +69,7 @@ value_text Nothing typ content = codes "null"
 value_text shown Enumeration content = digits_text (codes "\"0x") content
 value_text Enumerations typ content = codes "null"
 value_text All Boolean content = if is_true content then codes "true" else codes "false"
-value_text All TextString content = quoted content
+value_text All TextString content = spelled content
 value_text All ByteString content = digits_text (codes "\"") content
 value_text All typ content = digits_text (codes "\"0x") content
 
@@ -77,10 +77,6 @@ value_text All typ content = digits_text (codes "\"0x") content
 abbrev pub value_part : Shown → TtlvType → List ℕ → List ℕ
 value_part shown Structure content = codes "["
 value_part shown typ content = value_text shown typ content ++ codes "}"
-
--- a character of a JSON string
-unfoldable pub char_text : ℕ → List ℕ
-char_text c = if nat_lt c 128 then escape_byte c else encode_utf8 c
 
 -- an item with what stands in front of it
 abbrev pub item_part : (ℕ → Bool) → Shown → Spot → ℕ → ℕ → TtlvType → List ℕ → List ℕ

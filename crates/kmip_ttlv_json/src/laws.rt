@@ -4,15 +4,15 @@ ghost use Rattle.std.specs.Prelude.{◌≡◌, ◌≤◌, ℕ, Bool, Some};
 ghost use Rattle.kmip_ttlv_json.specs.declared.print.Shown.{Shown};
 ghost use Rattle.serde_json.specs.Data.{depth};
 ghost use Rattle.serde_json.specs.Read.{max_depth, read};
-ghost use Rattle.serde_json.specs.Written.{compact_text};
 ghost use Rattle.kmip_ttlv_types.specs.Trees.{Tree};
+ghost use Rattle.kmip_ttlv_json.specs.Spellings.{data_text};
 ghost use Rattle.kmip_ttlv_json.specs.Jsons.{tree_json};
 ghost use Rattle.kmip_ttlv_json.specs.Laws.{ComesBack, ReadsMessages, DeterminesAll};
 
 /// A message's JSON is read back from its text, if it nests at most 127 deep: if no structure is in more than 62 others.
 pub fn a_message_reads_back()
     ensures { (secrets : ℕ → Bool) (shown : Shown) (t : Tree) → depth (tree_json secrets shown t) ≤ max_depth
-        → read (compact_text (tree_json secrets shown t)) ≡ Some (tree_json secrets shown t) }
+        → read (data_text (tree_json secrets shown t)) ≡ Some (tree_json secrets shown t) }
 {}
 
 /// Two messages with the same line, in which nothing is hidden, are the same, but for what their padding holds.

@@ -1,12 +1,13 @@
 //! Texts and bytes as JSON strings.
 
-ghost use Rattle.std.specs.Prelude.{◌≡◌, ◌<◌, ◌/◌, ◌%◌, ◌++◌, ◌∷◌, [], OnOk, OnErr, true, codes, encode_utf8};
+ghost use Rattle.std.specs.Prelude.{◌≡◌, ◌<◌, ◌++◌, ◌∷◌, [], OnOk, OnErr, true, codes, encode_utf8};
 ghost use Rattle.std.specs.Char.{digit_char};
 ghost use Rattle.hex.specs.Hex.{encode_upper};
-ghost use Rattle.json.specs.Print.{escape_byte, escape, quoted};
+ghost use Rattle.json.specs.Print.{escape_byte};
 ghost use Rattle.kmip_ttlv_types.specs.declared.typ.TtlvType.TheVariants.{TextString};
 ghost use Rattle.kmip_ttlv_types.specs.Leaves.{is_valid};
-ghost use Rattle.kmip_ttlv_json.specs.Parts.{char_text, digits_text};
+ghost use Rattle.kmip_ttlv_json.specs.Spellings.{by_number, is_late_control, char_text, chars_text, spelled};
+ghost use Rattle.kmip_ttlv_json.specs.Parts.{digits_text};
 
 use kmip_ttlv_types::TtlvType;
 use kmip_ttlv_util::{TextSink, push_value};
@@ -37,9 +38,8 @@ fn digit(value: u32) -> u8
 
 // Adds a control character by its number.
 fn push_by_number<S: TextSink>(out: &mut S, c: u8) -> Result<(), S::Error>
-    requires { c < 32 }
-    ensures ok { OnOk result (S.adds out.old (92 ∷ 117 ∷ 48 ∷ 48 ∷ digit_char (c / 16) ∷ digit_char (c % 16) ∷ []) out.new) }
-    ensures err { OnErr result (S.breaks out.old (92 ∷ 117 ∷ 48 ∷ 48 ∷ digit_char (c / 16) ∷ digit_char (c % 16) ∷ []) out.new) }
+    ensures ok { OnOk result (S.adds out.old (by_number c) out.new) }
+    ensures err { OnErr result (S.breaks out.old (by_number c) out.new) }
 {
     let (high, low) = (digit(c as u32 / 16), digit(c as u32 % 16));
     let text = [b'\\', b'u', b'0', b'0', high, low];
@@ -76,13 +76,23 @@ fn push_ascii<S: TextSink>(out: &mut S, c: u8) -> Result<(), S::Error>
     }
 }
 
+// Whether a character is a control character from U+007F on.
+fn is_late_control(number: u32) -> bool
+    ensures { result ≡ is_late_control number }
+{
+    126 < number && number < 160
+}
+
 // Adds a character of a JSON string.
-#[tactic(auto, unfolding(crate::specs::Parts::char_text))]
+#[tactic(auto, unfolding(crate::specs::Spellings::char_text))]
 fn push_char<S: TextSink>(out: &mut S, c: char) -> Result<(), S::Error>
     ensures ok { OnOk result (S.adds out.old (char_text c) out.new) }
     ensures err { OnErr result (S.breaks out.old (char_text c) out.new) }
 {
     let number = c as u32;
+    if is_late_control(number) {
+        return push_by_number(out, number as u8);
+    }
     if number < 128 {
         return push_ascii(out, number as u8);
     }
@@ -92,8 +102,8 @@ fn push_char<S: TextSink>(out: &mut S, c: char) -> Result<(), S::Error>
 // Adds the characters of a JSON string.
 fn push_escaped<S: TextSink>(out: &mut S, text: &[u8]) -> Result<(), S::Error>
     requires { is_valid TextString text.now ≡ true }
-    ensures ok { OnOk result (S.adds out.old (escape text.now) out.new) }
-    ensures err { OnErr result (S.breaks out.old (escape text.now) out.new) }
+    ensures ok { OnOk result (S.adds out.old (chars_text text.now) out.new) }
+    ensures err { OnErr result (S.breaks out.old (chars_text text.now) out.new) }
 {
     let text = unsafe { str::from_utf8_unchecked(text) };
     for c in text.chars() {
@@ -105,8 +115,8 @@ fn push_escaped<S: TextSink>(out: &mut S, text: &[u8]) -> Result<(), S::Error>
 // Adds the characters of a JSON string, and its end.
 fn push_rest<S: TextSink>(out: &mut S, text: &[u8]) -> Result<(), S::Error>
     requires { is_valid TextString text.now ≡ true }
-    ensures ok { OnOk result (S.adds out.old (escape text.now ++ codes "\"") out.new) }
-    ensures err { OnErr result (S.breaks out.old (escape text.now ++ codes "\"") out.new) }
+    ensures ok { OnOk result (S.adds out.old (chars_text text.now ++ codes "\"") out.new) }
+    ensures err { OnErr result (S.breaks out.old (chars_text text.now ++ codes "\"") out.new) }
 {
     push_escaped(out, text)?;
     out.push_str("\"")
@@ -115,8 +125,8 @@ fn push_rest<S: TextSink>(out: &mut S, text: &[u8]) -> Result<(), S::Error>
 /// Adds a text as a JSON string.
 pub fn push_quoted<S: TextSink>(out: &mut S, text: &[u8]) -> Result<(), S::Error>
     requires { is_valid TextString text.now ≡ true }
-    ensures ok { OnOk result (S.adds out.old (quoted text.now) out.new) }
-    ensures err { OnErr result (S.breaks out.old (quoted text.now) out.new) }
+    ensures ok { OnOk result (S.adds out.old (spelled text.now) out.new) }
+    ensures err { OnErr result (S.breaks out.old (spelled text.now) out.new) }
 {
     out.push_str("\"")?;
     push_rest(out, text)

@@ -3,7 +3,7 @@ use Rattle.std.specs.Str.{chars, is_utf8}
 use Rattle.std.proofs.lemmas.{Str.IsUtf8-from_is_utf8, Iterator.YieldsList-from_chars}
 use Rattle.std.proofs.lemmas.Iterator.Consumers.{YieldsList-so_far, YieldsList-turn, YieldsList-end}
 use Rattle.kmip_ttlv_util.proofs.Saying.{adds_same, breaks_rest, err_now}
-use Rattle.kmip_ttlv_json.specs.Parts.{char_text}
+use Rattle.kmip_ttlv_json.specs.Spellings.{char_text}
 use Rattle.kmip_ttlv_json.proofs.Escapes.{escaped_text, char_parts, chars_more}
 use Rattle.kmip_ttlv_json.proofs.quoted.push_escaped.Goals as goal
 
@@ -31,7 +31,7 @@ returns-in_err-push_char-clause-err g c =
     err_now g.S.TextSink.adds g.S.TextSink.breaks _ _ _ _ (breaks_rest g.S.TextSink.adds g.S.TextSink.breaks g.met.S.TextSink.breaks_first _ _
     (flat_map char_text seen ++ char_text x) (flat_map char_text (drop (length seen + 1) (chars text))) _ here
     (whole ∙ ap (λ (s : List ℕ). flat_map char_text (chars s)) c.from_utf8_unchecked-text.ensures
-    ∙ escaped_text c.args.text.now (IsUtf8-from_is_utf8 c.args.text.now c.requires)))
+    ∙ escaped_text c.args.text.now c.requires))
 
 pub returns-clause-ok : goal.returns-clause-ok
 returns-clause-ok g c =
@@ -40,4 +40,4 @@ returns-clause-ok g c =
     c.loop-c.yielded _ c.loop-c.yielded_by _ _ c.in-None.is c.next.ensures.steps in
     adds_same g.S.TextSink.adds g.S.TextSink.breaks _ _ _ _ c.loop-c.invariant
     (ap (flat_map char_text) ((sym (map-id c.loop-c.yielded) ∙ end.0) ∙ ap chars c.from_utf8_unchecked-text.ensures)
-    ∙ escaped_text c.args.text.now (IsUtf8-from_is_utf8 c.args.text.now c.requires))
+    ∙ escaped_text c.args.text.now c.requires)
