@@ -1,12 +1,14 @@
 -- What reading a message back from JSON comes to.
-use Rattle.std.specs.Prelude.{◌≡◌, ℕ, Bool, true, false, List, ◌++◌, codes, Some, None, Result, Ok, Err}
+use Rattle.std.specs.Prelude.{◌≡◌, ℕ, ◌+◌, ◌-◌, Bool, true, false, ◌||◌, nat_lt, List, [], ◌∷◌, ◌++◌, codes, Some, None, Result, Ok, Err}
 use Rattle.serde_json.specs.Data.{Data}
-use Rattle.serde_json.specs.Read.{read}
+use Rattle.serde_json.specs.Read.{read, max_depth}
+use Rattle.json.specs.Lex.{tokens}
+use Rattle.json.specs.Token.{Token, begin_object, end_object, begin_array, end_array}
 use Rattle.kmip_ttlv_types.specs.Trees.{Tree, Trees, leaf, node, bytes, bytes_below, IsStructure, Fits}
 use Rattle.kmip_ttlv_json.specs.declared.failure.BadMember.{BadMember}
 use Rattle.kmip_ttlv_json.specs.declared.failure.BadMember.TheVariants.{Members, Tag, Typ, Value}
 use Rattle.kmip_ttlv_json.specs.declared.failure.JsonError.{JsonError}
-use Rattle.kmip_ttlv_json.specs.declared.failure.JsonError.TheVariants.{NotJson, NotItem, NotStructure, TooLong, OutOfMemory}
+use Rattle.kmip_ttlv_json.specs.declared.failure.JsonError.TheVariants.{NotJson, TooDeep, NotItem, NotStructure, TooLong, OutOfMemory}
 use Rattle.kmip_ttlv_json.specs.JsonTrees.{tree_of}
 
 -- the text is JSON, which reads as this tree, or not
@@ -27,9 +29,23 @@ pub record IsReadAs (text out : List ℕ) : Type 0 where
   pub stands : Stands text message
   pub canonical : out ≡ bytes message
 
+-- how many brackets are open behind a token, where so many are in front of it
+abbrev pub depth_behind : ℕ → Token → ℕ
+depth_behind depth begin_object = depth + 1
+depth_behind depth begin_array = depth + 1
+depth_behind depth end_object = depth - 1
+depth_behind depth end_array = depth - 1
+depth_behind depth token = depth
+
+-- more than 127 are open behind one of some tokens
+abbrev pub is_deep : ℕ → List Token → Bool
+is_deep depth [] = false
+is_deep depth (t ∷ ts) = nat_lt max_depth (depth_behind depth t) || is_deep (depth_behind depth t) ts
+
 -- why a text is not read as a message
 abbrev pub FailsToRead : List ℕ → JsonError → Type 0
 FailsToRead text (NotJson line column) = read text ≡ None
+FailsToRead text (TooDeep line column) = (read text ≡ None) × (is_deep 0 (tokens text) ≡ true)
 FailsToRead text (NotItem bad) = ReadsAs text (Err bad)
 FailsToRead text NotStructure = (t : Tree) × ReadsAs text (Ok t) × ¬ (IsStructure t)
 FailsToRead text TooLong = (t : Tree) × ReadsAs text (Ok t) × IsStructure t × ¬ (Fits t)
@@ -38,6 +54,7 @@ FailsToRead text OutOfMemory = Unit {0}
 -- the words for it
 abbrev pub error_words : JsonError → List ℕ
 error_words (NotJson line column) = codes "not JSON"
+error_words (TooDeep line column) = codes "nested more than 127 deep"
 error_words (NotItem Members) = codes "an item without exactly tag, type and value"
 error_words (NotItem Tag) = codes "a tag is not 0x and six hexadecimal digits"
 error_words (NotItem Typ) = codes "the name of a type is unknown"

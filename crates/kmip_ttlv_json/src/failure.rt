@@ -22,8 +22,10 @@ pub enum BadMember {
 /// Why a text is not read as a message.
 #[derive(Clone, Copy, Debug, PartialEq, Eq)]
 pub enum JsonError {
-    /// It is not JSON, or nests more than 127 deep: where it stops being so, both counted from 1.
+    /// It is not JSON: where it stops being so, both counted from 1.
     NotJson { line: usize, column: usize },
+    /// It nests more than 127 deep: where it does so first, likewise.
+    TooDeep { line: usize, column: usize },
     /// It is not the JSON of an item: what is wrong with the first item, in document order, that isn't one.
     NotItem(BadMember),
     /// Its item is no Structure, so it is no message.
@@ -41,6 +43,7 @@ impl JsonError {
     {
         match self {
             JsonError::NotJson { .. } => "not JSON",
+            JsonError::TooDeep { .. } => "nested more than 127 deep",
             JsonError::NotItem(BadMember::Members) => "an item without exactly tag, type and value",
             JsonError::NotItem(BadMember::Tag) => "a tag is not 0x and six hexadecimal digits",
             JsonError::NotItem(BadMember::Typ) => "the name of a type is unknown",

@@ -4,12 +4,13 @@
 //! it. The JSON of a message is defined over trees in specs/Jsons, in the words of the toolchain's `serde_json`.
 //!
 //! `read` reads a message back from JSON that `serde_json` parses, into canonical bytes; `members` has what the members of an
-//! item stand for, and `failure` why a text is no message. The tree that JSON is, is defined in specs/JsonTrees.
+//! item stand for, `nesting` whether it nests too deep, and `failure` why a text is no message. The tree that JSON is, is defined in specs/JsonTrees.
 #![tactic(auto)]
 
 mod failure;
 pub mod laws;
 mod members;
+mod nesting;
 mod print;
 mod quoted;
 mod read;

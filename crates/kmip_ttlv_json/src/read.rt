@@ -1,7 +1,8 @@
 //! A message read back from its JSON.
 
-ghost use Rattle.std.specs.Prelude.{◌≡◌, ◌+◌, ◌-◌, ◌≤◌, ◌++◌, true, false, length, take, drop, OnOk, IfOk, IfErr};
+ghost use Rattle.std.specs.Prelude.{◌≡◌, None, ◌+◌, ◌-◌, ◌≤◌, ◌++◌, true, false, length, take, drop, OnOk, IfOk, IfErr};
 ghost use Rattle.std.specs.Int.{w32, to_be_bytes};
+ghost use Rattle.serde_json.specs.Read.{read};
 ghost use Rattle.serde_json.specs.View.{view, items_view};
 ghost use Rattle.kmip_ttlv_types.specs.Items.{header};
 ghost use Rattle.kmip_ttlv_types.specs.Trees.{leaf_bytes};
@@ -10,6 +11,7 @@ ghost use Rattle.kmip_ttlv_json.specs.Readings.{IsReadAs, FailsToRead, Fails, Ad
 
 use crate::failure::{BadMember, JsonError};
 use crate::members::{content_of, members_of, tag_of, type_of};
+use crate::nesting::{first_deep, place_of};
 use kmip_ttlv_types::places::is_valid;
 use kmip_ttlv_types::{TtlvTag, TtlvType};
 use serde_json::Value;
@@ -129,13 +131,27 @@ fn push_tree(alloc: Global, out: &mut Vec<u8>, item: &Value) -> Result<bool, Jso
     Ok(false)
 }
 
+// Why a text is not read as JSON, where that is seen at this place.
+fn refusal(alloc: Global, text: &str, line: usize, column: usize) -> Result<JsonError, AllocError>
+    requires { read text.now ≡ None }
+    ensures { IfOk result (FailsToRead text.now) }
+{
+    Ok(match first_deep(alloc, text)? {
+        Some(deep) if place_of(text, deep.behind) == (line, column) => {
+            let (line, column) = place_of(text, deep.at);
+            JsonError::TooDeep { line, column }
+        }
+        _ => JsonError::NotJson { line, column },
+    })
+}
+
 /// Reads a message from its JSON, and returns its canonical bytes.
 ///
 /// An item is an object of exactly the members `tag`, `type` and `value`, in any order, in the forms that [`push_json`]
 /// prints: a tag is `0x` and six digits, a type its name, and digits are of either case. Of a member that is given twice
 /// the last counts.
 ///
-/// Errors: `NotJson` with its place; `NotItem` with what is wrong with the first item that isn't one; `NotStructure` if the
+/// Errors: `NotJson` and `TooDeep` with their place; `NotItem` with what is wrong with the first item that isn't one; `NotStructure` if the
 /// root isn't one; `TooLong` if a Structure has 2^32 bytes of content or more; `OutOfMemory`.
 ///
 /// [`push_json`]: crate::push_json
@@ -146,12 +162,7 @@ pub fn from_json(alloc: Global, text: &str) -> Result<Vec<u8>, JsonError>
     let item = match Value::from_str(alloc, text) {
         Ok(item) => item,
         Err(e) if e.is_memory() => return Err(JsonError::OutOfMemory),
-        Err(e) => {
-            return Err(JsonError::NotJson {
-                line: e.line(),
-                column: e.column(),
-            });
-        }
+        Err(e) => return Err(refusal(alloc, text, e.line(), e.column())?),
     };
     let mut out = Vec::new(alloc);
     if !push_tree(alloc, &mut out, &item)? {

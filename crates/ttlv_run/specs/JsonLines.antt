@@ -7,7 +7,7 @@ use Rattle.std.specs.Str.{IsUtf8}
 use Rattle.hex.specs.Hex.{encode_upper}
 use Rattle.kmip_ttlv_types.specs.Streams.{AppendsFront}
 use Rattle.kmip_ttlv_json.specs.declared.failure.JsonError.{JsonError}
-use Rattle.kmip_ttlv_json.specs.declared.failure.JsonError.TheVariants.{NotJson, OutOfMemory}
+use Rattle.kmip_ttlv_json.specs.declared.failure.JsonError.TheVariants.{NotJson, TooDeep, OutOfMemory}
 use Rattle.kmip_ttlv_json.specs.Readings.{IsReadAs, FailsToRead, error_words}
 use Rattle.kmip_ttlv_names.specs.NameTables.{lines_of}
 use Rattle.ttlv_run.specs.declared.job.JsonJob.{JsonJob}
@@ -98,6 +98,7 @@ pub record NextLine (bytes : List ℕ) (place : ℕ) (line : List ℕ) : Type 0 
 -- where the parser stopped
 abbrev pub column_report : JsonError → List ℕ
 column_report (NotJson line column) = codes ", column " ++ decimal column
+column_report (TooDeep line column) = codes ", column " ++ decimal column
 column_report error = []
 
 -- the line on standard error: what the input is called, the offset of the line in it and what is wrong

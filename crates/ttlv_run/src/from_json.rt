@@ -162,13 +162,13 @@ fn respond<R: Read, W: Write>(
     }
 }
 
-// Writes where the parser stopped, if the line isn't JSON.
+// Writes where the parser stopped, if the line isn't JSON, or nests too deep.
 fn report_column<E: Write>(errors: &mut E, writable: bool, error: JsonError) -> bool
     ensures { (known : Option (List ℕ)) (front : List ℕ) → Reports writable known (E.contents errors.old) front
         → Reports result known (E.contents errors.new) (front ++ column_report error) }
 {
     match error {
-        JsonError::NotJson { column, .. } => {
+        JsonError::NotJson { column, .. } | JsonError::TooDeep { column, .. } => {
             let writable = report(errors, writable, ", column ");
             report(errors, writable, Buffer::new().format(column))
         }

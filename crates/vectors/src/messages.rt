@@ -193,10 +193,12 @@ fn json_of(alloc: Global, hiding: Hiding, bytes: &[u8]) -> Result<String, AllocE
 pub fn bytes_in(alloc: Global, json: &str) -> Result<String, AllocError> {
     match from_json(alloc, json) {
         Ok(bytes) => hex::encode_upper(alloc, bytes.as_slice()),
-        Err(JsonError::NotJson { line, column }) => {
-            format!(in alloc; "not JSON: line {line}, column {column}")
-        }
-        Err(error) => String::from_str(alloc, error.words()),
+        Err(error) => match error {
+            JsonError::NotJson { line, column } | JsonError::TooDeep { line, column } => {
+                format!(in alloc; "{}: line {line}, column {column}", error.words())
+            }
+            _ => String::from_str(alloc, error.words()),
+        },
     }
 }
 
