@@ -6,4 +6,5 @@ pub mod LeafWriting
 pub mod Padding
 pub mod ReadBack
 pub mod InMemory
+pub mod Held
 pub mod PlaceLemmas

@@ -9,6 +9,7 @@ pub mod FieldTexts
 pub mod Digits
 pub mod Streams
 pub mod Headers
+pub mod Held
 pub mod Primitives
 pub mod FixedReads
 pub mod Machine

@@ -1,7 +1,7 @@
 -- What a call does to the known bytes of a reader or a writer.
 use Rattle.std.specs.Prelude.{◌≡◌, ℕ, ◌<◌, ◌≤◌, ◌+◌, List, ◌++◌, length, take, Bool, IsTrue, ◌⊎◌, IfSome, Option, None}
 use Rattle.std.specs.Prelude.{Some, Result, Ok, Err}
-use Rattle.std.specs.Io.KnownBytes.{Appends, Consumes}
+use Rattle.std.specs.Io.KnownBytes.{Appends, Consumes, IsAtEnd}
 use Rattle.std.specs.IoError.{error_kind}
 use Rattle.std.specs.declared.io.Error.{Error as IoFault}
 use Rattle.std.specs.declared.io.ErrorKind.TheVariants.{UnexpectedEof}
@@ -52,6 +52,13 @@ Takes items can_fail old new n (Ok v) = Consumes old new (items v) × (length (i
 Takes items can_fail old new n (Err (errors.IoError e)) = Lacks can_fail old n e × ConsumesUpTo old new n
 Takes items can_fail old new n (Err errors.OutOfMemory) = (0 < n) × ConsumesUpTo old new n
 Takes items can_fail old new n (Err _) = ⊥
+
+-- all bytes that were left were read into memory; or reading failed, if it can; or memory ran out
+abbrev pub TakesAll : {T A : Type 0} → (T → List ℕ) → Bool → Option (List ℕ) → Option (List ℕ) → Result T (Error A) → Type 0
+TakesAll items can_fail old new (Ok v) = Consumes old new (items v) × IsAtEnd new
+TakesAll items can_fail old new (Err (errors.IoError e)) = IsTrue can_fail
+TakesAll items can_fail old new (Err errors.OutOfMemory) = Unit {0}
+TakesAll items can_fail old new (Err _) = ⊥
 
 -- n bytes were read, and follow those that were there
 pub record Behind (old new : Option (List ℕ)) (had has : List ℕ) (n : ℕ) : Type 0 where

@@ -7,11 +7,11 @@
 //! `MemorySink` are the memory that can't fail.
 
 ghost use Rattle.std.specs.Prelude.{◌≡◌, ℕ, List, Bool, true, false, Option, None, Some, ◌<◌, ◌≤◌, ◌-◌, ◌+◌, ◌^◌};
-ghost use Rattle.std.specs.Prelude.{length, take, drop, IfOk, IfErr, OnOk, OnErr, min, max, vec_len, vec_items, vec_capacity};
+ghost use Rattle.std.specs.Prelude.{length, take, drop, IfOk, IfErr, OnOk, OnErr, IsTrue, min, max, vec_len, vec_items, vec_capacity};
 ghost use Rattle.std.specs.Io.{ReadsAtMost, WritesAtMost};
 ghost use Rattle.std.specs.Io.Cursor.{cursor_position, cursor_inner, cursor_remaining};
 ghost use Rattle.std.specs.Io.KnownBytes.{Appends, Consumes, IsAtEnd, Keeps};
-ghost use Rattle.kmip_ttlv_types.specs.Streams.{AppendsFront, Fills, FillsAll, Takes, TakesMore, UsesRoom, IsTight};
+ghost use Rattle.kmip_ttlv_types.specs.Streams.{AppendsFront, Fills, FillsAll, Takes, TakesAll, TakesMore, UsesRoom, IsTight};
 
 use crate::error::Error;
 use std::alloc::{AllocError, Allocator, Global};
@@ -40,6 +40,14 @@ pub trait Source {
     /// Fills the buffer with the next bytes. If that fails, some may have been consumed.
     fn fill(&mut self, buf: &mut [u8]) -> Filled
         ensures { Fills can_fail (left self.old) (left self.new) result buf.new };
+
+    /// Fills a beginning of the buffer with the next bytes, and returns how many: none at the end of the input alone, or if the
+    /// buffer is empty.
+    fn fill_front(&mut self, buf: &mut [u8]) -> io::Result<usize>
+        ensures bound { ReadsAtMost result buf.new }
+        ensures ok { IfOk result (λ n. Consumes (left self.old) (left self.new) (take n buf.new)) }
+        ensures end { IfOk result (λ n. n ≡ 0 → 0 < length buf.old → IsAtEnd (left self.new)) }
+        ensures err { OnErr result (IsTrue can_fail × Keeps (left self.old) (left self.new)) };
 }
 
 /// What bytes are written to: any writer, or memory.
@@ -67,6 +75,10 @@ impl<R: Read> Source for R {
 
     fn fill(&mut self, buf: &mut [u8]) -> Filled {
         fill_from(self, buf)
+    }
+
+    fn fill_front(&mut self, buf: &mut [u8]) -> io::Result<usize> {
+        read_some(self, buf)
     }
 }
 
@@ -104,6 +116,13 @@ impl Source for MemorySource<'_> {
         buf.copy_from_slice(front);
         self.0 = rest;
         Filled::Full
+    }
+
+    fn fill_front(&mut self, buf: &mut [u8]) -> io::Result<usize> {
+        let all: &[u8] = self.0;
+        let count = copy_front(all, buf);
+        self.0 = &all[count..];
+        Ok(count)
     }
 }
 
@@ -157,6 +176,14 @@ impl<T: AsBytes> Source for MemoryCursor<T> {
         self.0.set_position(at.saturating_add(buf.len() as u64));
         Filled::Full
     }
+
+    fn fill_front(&mut self, buf: &mut [u8]) -> io::Result<usize> {
+        let at = self.0.position();
+        let all = self.0.get_ref().as_byte_slice();
+        let count = copy_front(rest_from(all, at), buf);
+        self.0.set_position(at.saturating_add(count as u64));
+        Ok(count)
+    }
 }
 
 impl Sink for MemoryCursor<&mut [u8]> {
@@ -187,6 +214,17 @@ fn rest_from(all: &[u8], at: u64) -> &[u8]
 {
     let start = (at as usize).min(all.len());
     &all[start..]
+}
+
+// Copies as many of the bytes as the buffer has room for, and returns how many.
+fn copy_front(bytes: &[u8], buf: &mut [u8]) -> usize
+    ensures count { result ≡ min (length bytes.now) (length buf.old) }
+    ensures len { length buf.new ≡ length buf.old }
+    ensures front { take result buf.new ≡ take result bytes.now }
+{
+    let count = bytes.len().min(buf.len());
+    buf[..count].copy_from_slice(&bytes[..count]);
+    count
 }
 
 /// One read. If it is interrupted, it is repeated, as often as a 64-bit count allows.
@@ -410,4 +448,29 @@ pub fn take_bytes<S: Source, A: Allocator>(
     let mut bytes = Vec::new(alloc);
     append_bytes(source, &mut bytes, len)?;
     Ok(bytes)
+}
+
+/// How many bytes `take_all` reads at once: on the stack.
+const FRONT: usize = 4_096;
+
+/// Reads all bytes that are left into a vector that grows as they come.
+///
+/// Fails with `IoError`, of the reader's kind, if reading fails, or with `OutOfMemory`.
+///
+/// ```
+/// let mut source = MemorySource(b"\x01\x02\x03");
+/// assert!(rt; take_all(alloc, &mut source)?.as_slice() == b"\x01\x02\x03".as_slice());
+/// ```
+pub fn take_all<S: Source, A: Allocator>(alloc: A, source: &mut S) -> Result<Vec<u8, A>, Error>
+    ensures { TakesAll vec_items S.can_fail (S.left source.old) (S.left source.new) result }
+{
+    let mut bytes = Vec::new(alloc);
+    let mut front = [0; FRONT];
+    'pieces: loop {
+        let count = source.fill_front(&mut front)?;
+        if count == 0 {
+            return Ok(bytes);
+        }
+        bytes.extend_from_slice(&front[..count])?;
+    }
 }
