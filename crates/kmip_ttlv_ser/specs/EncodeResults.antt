@@ -2,8 +2,7 @@
 use Rattle.std.specs.Prelude.{◌≡◌, ℕ, Bool, true, false, List, ◌++◌, length, Option, Some, None, Result, Ok, Err}
 use Rattle.std.specs.Prelude.{IsErrAnd}
 use Rattle.std.specs.declared.vec.Vec.{Vec}
-use Rattle.std.specs.Io.KnownBytes.{Appends, Keeps}
-use Rattle.kmip_ttlv_types.specs.Streams.{AppendsFront}
+use Rattle.kmip_ttlv_types.specs.Held.{Held, Gets, GetsFront}
 use Rattle.kmip_ttlv_types.specs.Trees.{Tree, bytes_all}
 use Rattle.kmip_ttlv_base.specs.declared.error.Error.{Error}
 use Rattle.kmip_ttlv_base.specs.declared.error.MalformedTtlvError.TheVariants.{UnknownStructureLength}
@@ -69,21 +68,21 @@ pub record WrittenBytes (v : Value) (said : List ℕ → Type 0) : Type 0 where
   pub written : IsWrittenAs v 0 bytes
   pub appends : said bytes
 
--- the value's bytes were appended to what a writer has
-abbrev pub WrittenTo : Value → Option (List ℕ) → Option (List ℕ) → Type 0
-WrittenTo v old new = WrittenBytes v (Appends old new)
+-- a writer got the value's bytes
+abbrev pub WrittenTo : Value → Held → Held → Type 0
+WrittenTo v old new = WrittenBytes v (Gets old new)
 
--- a writer failed after a beginning of the value's bytes
-abbrev pub PartlyWritten : Value → Option (List ℕ) → Option (List ℕ) → Type 0
-PartlyWritten v old new = WrittenBytes v (AppendsFront old new)
+-- a writer failed after a beginning of the value's bytes, and has no room for all of them, if that is known
+abbrev pub PartlyWritten : Value → Held → Held → Type 0
+PartlyWritten v old new = WrittenBytes v (GetsFront old new)
 
 -- why a value wasn't written to a writer: it failed, or has what it had before
-abbrev pub IsNotWritten : Value → Option (List ℕ) → Option (List ℕ) → Kind → Location → Type 0
+abbrev pub IsNotWritten : Value → Held → Held → Kind → Location → Type 0
 IsNotWritten v old new (io_error e) location = (location ≡ unknown) × PartlyWritten v old new
-IsNotWritten v old new kind location = FailsAs v origin kind location × Keeps old new
+IsNotWritten v old new kind location = FailsAs v origin kind location × (new ≡ old)
 
 -- what `to_writer` returns, and what the writer has then
-abbrev pub EncodesTo : {R A : Type 0} → Value → Option (List ℕ) → Option (List ℕ) → Result R (Error A) → Type 0
+abbrev pub EncodesTo : {R A : Type 0} → Value → Held → Held → Result R (Error A) → Type 0
 EncodesTo v old new (Ok x) = WrittenTo v old new
 EncodesTo v old new (Err e) = IsNotWritten v old new (view_of_kind (kind_of e)) (view_of_location (location_of e))
 

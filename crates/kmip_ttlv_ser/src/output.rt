@@ -1,7 +1,8 @@
 //! Where the bytes of a value go, piece after piece, until one fails.
 
 ghost use Rattle.std.specs.Prelude.{◌≡◌, ℕ, List, None as SpecNone};
-ghost use Rattle.kmip_ttlv_ser.specs.Outputs.{Given, IsGiven, Before};
+ghost use Rattle.kmip_ttlv_ser.specs.Outputs.{Given, IsGiven};
+ghost use Rattle.kmip_ttlv_types.specs.Held.{Held};
 
 use kmip_ttlv_types::stream::Sink;
 use std::io::Error;
@@ -40,7 +41,7 @@ impl<S: Sink + Drop> Direct<S> {
 }
 
 impl<S: Sink + Drop> Output for Direct<S> {
-    ghost Start = { Before };
+    ghost Start = { Held };
 
     ghost given = { λ start sent d. IsGiven start sent (S.emitted d.sink) (S.room d.sink) d.failure };
 

@@ -1,6 +1,7 @@
 //! The calls that encode values: `to_vec`, `to_writer` and `TtlvSerializer`.
 
 ghost use Rattle.std.specs.Prelude.{◌≡◌, [], false};
+ghost use Rattle.kmip_ttlv_types.specs.Held.{held};
 ghost use Rattle.kmip_ttlv_ser.specs.EncodeResults.{Encodes, EncodesTo, progress, Serializes, GivesAll};
 ghost use Rattle.kmip_ttlv_ser.specs.EncodeResults.{IsClosed, AppendsValue};
 
@@ -13,9 +14,8 @@ use crate::pending::Place;
 use kmip_ttlv_base::error::{Error, ErrorKind, ErrorLocation, MalformedTtlvError, Result};
 use kmip_ttlv_base::shape::Serialize;
 use kmip_ttlv_types::ByteOffset;
-use kmip_ttlv_types::stream::MemorySink;
+use kmip_ttlv_types::stream::{MemorySink, Sink};
 use std::alloc::{Allocator, Global};
-use std::io::Write;
 use std::mem;
 
 /// Encodes a value: the canonical bytes of its items, in order (KMIP 1.0, section 9.1).
@@ -47,20 +47,21 @@ pub fn to_vec<A: Allocator + Copy, T: Serialize>(alloc: A, value: &T) -> Result<
 /// up to 8,192 bytes on the stack, and long ones are written directly.
 ///
 /// It fails as `to_vec` does, and then nothing was written. It fails with `IoError`, without a place, if the
-/// writer fails or takes no byte, and then a beginning of the bytes was written. Interrupted writes are
-/// repeated, as often as a 64-bit count allows.
+/// writer fails or takes no byte, and then a beginning of the bytes was written. Memory that has room for all of
+/// the bytes, as a `MemorySink` with that capacity, doesn't fail. Interrupted writes are repeated, as often as
+/// a 64-bit count allows.
 ///
 /// ```
 /// let mut writer = Vec::new(alloc);
 /// to_writer(alloc, &Data::Newtype { name: "Transparent:0x420020", inner }, &mut writer)?;
 /// assert!(rt; writer.as_slice() == b"\x42\0\x20\x02\0\0\0\x04\0\0\0\x08\0\0\0\0".as_slice());
 /// ```
-pub fn to_writer<A: Allocator + Copy, T: Serialize, W: Write>(
+pub fn to_writer<A: Allocator + Copy, T: Serialize, S: Sink>(
     alloc: A,
     value: &T,
-    writer: &mut W,
+    writer: &mut S,
 ) -> Result<(), A>
-    ensures { EncodesTo (T.stated value.now) (W.contents writer.old) (W.contents writer.new) result }
+    ensures { EncodesTo (T.stated value.now) (held S.emitted S.room writer.old) (held S.emitted S.room writer.new) result }
 {
     let place = Place {
         offset: 0,

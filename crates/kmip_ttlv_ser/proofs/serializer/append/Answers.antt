@@ -1,6 +1,6 @@
 use Rattle.std.proofs.Common.{◌-◌, ◌≤◌, Some, vec_len, vec_capacity, refl, sym, ap, ◌∙◌, arith, subst}
 use Rattle.kmip_ttlv_types.specs.Trees.{bytes_all}
-use Rattle.kmip_ttlv_ser.specs.Outputs.{Before}
+use Rattle.kmip_ttlv_types.specs.Held.{Held}
 use Rattle.kmip_ttlv_ser.proofs.{Leaves.place_len, Failing.appended}
 use Rattle.kmip_ttlv_ser.proofs.Outputs.{given_nothing, never_fails, gave_all}
 use Rattle.kmip_ttlv_ser.proofs.serializer.append.Goals as goal
@@ -15,7 +15,7 @@ unreachable-requires g c =
     let m = c.in_ok-plan.ensures in
     let old = c.args.out.now.items in
     let free = c.in_ok-plan.plan.end.offset - c.len.result in
-    let start : Before = record { pending = Some old; room = Some free } in
+    let start : Held = record { pending = Some old; room = Some free } in
     let same = ap (λ k. k.0) c.new-2.ensures.sink ∙ c.replace.ensures.value in
     let room : free ≤ vec_capacity c.new-2.result.sink.0 - vec_len c.new-2.result.sink.0 = subst (λ u. free ≤ vec_capacity u - vec_len u) (sym same)
     (omega (arith, c.in_ok-reserve.ensures.ok, c.in_ok-reserve.ensures.len)) in
@@ -29,7 +29,7 @@ returns g c =
     let m = c.in_ok-plan.ensures in
     let old = c.args.out.now.items in
     let free = c.in_ok-plan.plan.end.offset - c.len.result in
-    let start : Before = record { pending = Some old; room = Some free } in
+    let start : Held = record { pending = Some old; room = Some free } in
     let same = ap (λ k. k.0) c.new-2.ensures.sink ∙ c.replace.ensures.value in
     let room : free ≤ vec_capacity c.new-2.result.sink.0 - vec_len c.new-2.result.sink.0 = subst (λ u. free ≤ vec_capacity u - vec_len u) (sym same)
     (omega (arith, c.in_ok-reserve.ensures.ok, c.in_ok-reserve.ensures.len)) in
