@@ -18,7 +18,6 @@ pub mod ReadBack
 pub mod Reading
 pub mod Rest
 pub mod Saying
-pub mod Sending
 pub mod Stack
 pub mod Texts
 pub mod Trimmed

@@ -1,11 +1,13 @@
 -- The loop of a printer over any sink, and its result.
-use Rattle.std.proofs.Common.{◌≡◌, ℕ, List, [], ◌++◌, append-nil, sym, ap, subst, ◌∙◌}
-use Rattle.std.specs.Prelude.{Option, Result, Ok, Err, OnOk, OnErr}
-use Rattle.std.specs.{Borrow.GName, Io.KnownBytes.Appends}
-use Rattle.std.proofs.KnownBytes.{Appends-trans}
-use Rattle.kmip_ttlv_types.specs.Streams.{AppendsFront}
-use Rattle.kmip_ttlv_types.proofs.Taken.{AppendsFront-second}
-use Rattle.kmip_ttlv_util.specs.Pieces.{SomeText, WritesText, Moves}
+use Rattle.std.proofs.Common.{◌≡◌, ℕ, Bool, true, false, List, [], ◌++◌, length, append-nil, inl, inr, sym, ap, subst, ◌∙◌}
+use Rattle.std.specs.Prelude.{Option, Result, Ok, Err, IfOk, OnOk, OnErr, ◌⊎◌}
+use Rattle.std.specs.{Borrow.GName, Io.KnownBytes.Appends, IoError.error_kind, declared.io.Error.Error as IoFault}
+use Rattle.std.specs.declared.io.ErrorKind.TheVariants.{OutOfMemory}
+use Rattle.kmip_ttlv_types.specs.{Held.Held, Held.Gets, Streams.AppendsFront, Streams.UsesRoom, Streams.IsTight}
+use Rattle.kmip_ttlv_types.proofs.Held.{tight_second}
+use Rattle.kmip_ttlv_util.specs.{declared.pieces.Pieces.Pieces, Waiting.waiting}
+use Rattle.kmip_ttlv_util.specs.Pieces.{SomeText, WritesText, WritesFront, Buffered, buffered, Moves, MovesFront, Closes}
+use Rattle.kmip_ttlv_util.specs.Sinks.{moves_both, front_second}
 
 -- a text of this kind, with this property, by cases
 module _ {T E : Type 0} where
@@ -23,11 +25,11 @@ module _ {T E : Type 0} where
   err_map (Ok x) P Q h f = tt
   err_map (Err e) P Q h f = f h
 
-  -- a text of one kind is of another kind
-  pub written_as : (r : Result T E) (kind kind' : List ℕ → Type 0) (old new : Option (List ℕ)) → WritesText kind old new r → ((t : List ℕ) → kind t → kind' t)
-      → WritesText kind' old new r
-  written_as (Ok x) kind kind' old new w f = record { text = w.text; is = f w.text w.is; holds = w.holds }
-  written_as (Err e) kind kind' old new w f = record { text = w.text; is = f w.text w.is; holds = w.holds }
+-- a text of one kind is of another kind
+pub written_as : {T : Type 0} (r : Result T IoFault) (kind kind' : List ℕ → Type 0) (old new : Held) → WritesText kind old new r
+    → ((t : List ℕ) → kind t → kind' t) → WritesText kind' old new r
+written_as (Ok x) kind kind' old new w f = record { text = w.text; is = f w.text w.is; holds = w.holds }
+written_as (Err e) kind kind' old new w f = record { text = w.text; is = f w.text w.is; holds = w.holds }
 
 -- sinks, by what was appended to them
 module _ {X : Type 0} (adds breaks : X → List ℕ → X → Type 0) where
@@ -104,31 +106,98 @@ does_then {adds = adds} {breaks = breaks} both second r t h d = record {
 pub from_none : (kind : List ℕ → Type 0) (old new : List ℕ) → SomeText kind (λ t. new ≡ old ++ t) → old ≡ [] → kind new
 from_none kind old new s none = subst kind (sym (s.holds ∙ ap (λ (o : List ℕ). o ++ s.text) none)) s.is
 
--- ---- a buffered writer
+-- ---- a buffer before a sink
 
--- if the buffer was empty, what was added was sent or is buffered
-piece_moves : (a a' b : Option (List ℕ)) (w t v : List ℕ) → Moves a' b w t v → a' ≡ a → w ≡ [] → Moves a b [] t v
-piece_moves a a' b w t v m same none = record {
-  sent = m.sent;
-  appended = subst (λ (x : Option (List ℕ)). Appends x b m.sent) same m.appended;
-  parts = ap (λ (x : List ℕ). x ++ t) (sym none) ∙ m.parts;
-}
+-- the sink of a buffer
+abbrev pub sink_of : Buffered → Held
+sink_of a = record { pending = a.pending; room = a.room }
 
--- it failed before the end
-pub piece_fails : (kind : List ℕ → Type 0) (m n : GName) (a a' b : Option (List ℕ)) (w : List ℕ) → SomeText kind (λ t. (n ≡ m) × AppendsFront a' b (w ++ t))
-    → a' ≡ a → w ≡ [] → SomeText kind (AppendsFront a b)
-piece_fails kind m n a a' b w s same none = record {
-  text = s.text;
-  is = s.is;
-  holds = subst (λ (x : Option (List ℕ)). AppendsFront x b s.text) same (subst (λ (x : List ℕ). AppendsFront a' b (x ++ s.text)) none s.holds.1);
-}
+-- nothing is buffered any more
+whole_sent : (a b c : Buffered) → a.waits ≡ [] → (t : List ℕ) → Moves a t b → Moves b [] c → c.waits ≡ [] → Gets (sink_of a) (sink_of c) t
+whole_sent a b c none t x y empty =
+    let m = moves_both a b c t [] x y in
+    let is : m.sent ≡ t = sym (append-nil m.sent) ∙ ap (λ (z : List ℕ). m.sent ++ z) (sym empty) ∙ sym m.parts ∙ ap (λ (z : List ℕ). z ++ (t ++ [])) none
+    ∙ append-nil t in
+    record {
+      appended = subst (Appends a.pending c.pending) is m.appended;
+      used = subst (λ (z : List ℕ). UsesRoom a.room c.room (length z)) is m.used;
+    }
 
--- what is buffered at the end is sent
-pub piece_ends : {T E : Type 0} (r : Result T E) (kind : List ℕ → Type 0) (m n : GName) (a a' b c : Option (List ℕ)) (w v : List ℕ)
-    → SomeText kind (λ t. (n ≡ m) × Moves a' b w t v) → a' ≡ a → w ≡ [] → OnOk r (Appends b c v) → OnErr r (AppendsFront b c v) → WritesText kind a c r
-piece_ends (Ok x) kind m n a a' b c w v s same none ok err =
-    let k = piece_moves a a' b w s.text v s.holds.1 same none in
-    record { text = s.text; is = s.is; holds = subst (Appends a c) (sym k.parts) (Appends-trans a b c k.sent v k.appended ok) }
-piece_ends (Err e) kind m n a a' b c w v s same none ok err =
-    let k = piece_moves a a' b w s.text v s.holds.1 same none in
-    record { text = s.text; is = s.is; holds = subst (AppendsFront a c) (sym k.parts) (AppendsFront-second a b c k.sent v k.appended err) }
+-- there is no room for what is buffered, so there was none for all that was added
+tight_behind : (a b : Buffered) (t : List ℕ) → Moves a t b → IsTight b.room (length b.waits) → IsTight a.room (length (a.waits ++ t))
+tight_behind a b t x tight = subst (λ (z : List ℕ). IsTight a.room (length z)) (sym x.parts) (tight_second a.room b.room x.sent b.waits x.used tight)
+
+-- what is left of a beginning when nothing was buffered
+front_sent : (a c : Buffered) (e : IoFault) → a.waits ≡ [] → (t : List ℕ) → MovesFront a t c
+    → IsTight a.room (length (a.waits ++ t)) ⊎ (error_kind e ≡ OutOfMemory)
+    → WritesFront (sink_of a) (sink_of c) e t
+front_sent a c e none t x why =
+    let is : a.waits ++ t ≡ t = ap (λ (z : List ℕ). z ++ t) none in
+    record {
+      appended = subst (AppendsFront a.pending c.pending) is x.front;
+      why = elim why [ inl tight ↦ inl (subst (λ (z : List ℕ). IsTight a.room (length z)) is tight) | inr memory ↦ inr memory ];
+    }
+
+-- printing failed, as a write had, or memory ran out
+why_closed : (a b : Buffered) → a.failed ≡ false → (t : List ℕ) → MovesFront a t b → (e : IoFault) → (b.failed ≡ true) ⊎ (error_kind e ≡ OutOfMemory)
+    → IsTight a.room (length (a.waits ++ t)) ⊎ (error_kind e ≡ OutOfMemory)
+why_closed a b going t x e (inr memory) = inr memory
+why_closed a b going t x e (inl failed) = elim x.why [
+  | inl is ↦ let k : true ≡ false = sym failed ∙ is ∙ going in absurd cc
+  | inr tight ↦ inl tight
+]
+
+-- what closing a buffer returns: a sink got a text that is due to the value, or, on an error, a beginning of one
+abbrev pub ClosesText : {T : Type 0} → (T → List ℕ → Type 0) → (List ℕ → Type 0) → Held → Held → Result T IoFault → Type 0
+ClosesText kind broken old new (Ok x) = SomeText (kind x) (Gets old new)
+ClosesText kind broken old new (Err e) = SomeText broken (WritesFront old new e)
+
+-- whatever is added to an empty buffer is sent when it is closed
+closed_text : {T : Type 0} (kind : T → List ℕ → Type 0) (broken : List ℕ → Type 0) (printed r : Result T IoFault) (a b c : Buffered) → a.waits ≡ []
+    → a.failed ≡ false
+    → IfOk printed (λ x. SomeText (kind x) (λ t. Moves a t b)) → OnErr printed (SomeText broken (λ t. MovesFront a t b))
+    → IfOk printed (λ x. (t : List ℕ) → kind x t → broken t) → Closes printed b c r
+    → (c.name ≡ a.name) × ClosesText kind broken (sink_of a) (sink_of c) r
+closed_text kind broken (Ok x) (Ok y) a b c none going ok err ends (is, sent, empty) =
+    let same : x ≡ y = cc in (
+      sent.same ∙ ok.holds.same,
+      record { text = ok.text; is = subst (λ v. kind v ok.text) same ok.is; holds = whole_sent a b c none ok.text ok.holds sent empty },
+    )
+closed_text kind broken (Err f) (Ok y) a b c none going ok err ends (is, sent, empty) = absurd cc
+closed_text kind broken (Ok x) (Err e) a b c none going ok err ends (front, tight) =
+    let m = subst (λ (t : List ℕ). MovesFront a t c) (append-nil ok.text) (front_second a b c ok.text [] ok.holds front) in (
+      m.same,
+      record { text = ok.text; is = ends ok.text ok.is; holds = front_sent a c e none ok.text m (inl (tight_behind a b ok.text ok.holds tight)) },
+    )
+closed_text kind broken (Err f) (Err e) a b c none going ok err ends (same, why) =
+    let m = subst (λ (x : Buffered). MovesFront a err.text x) (sym same) err.holds in
+    (m.same, record { text = err.text; is = err.is; holds = front_sent a c e none err.text m (why_closed a b going err.text err.holds e why) })
+
+-- an empty buffer over a sink that was lent
+pub lent_buffer : {S : Type 0} (emitted : S → Option (List ℕ)) (room : S → Option ℕ) (p : Pieces S) {name : GName} {sink : S} → p.sink.ghost_name ≡ name
+    → p.sink.now ≡ sink → waiting p.buffer ≡ [] → p.failed ≡ false
+    → buffered emitted room p ≡ record { name = name; pending = emitted sink; room = room sink; waits = []; failed = false }
+lent_buffer emitted room p same is empty going = cc
+
+-- of a sink that was lent
+pub closed_by : {T : Type 0} (kind : T → List ℕ → Type 0) (broken : List ℕ → Type 0) (printed r : Result T IoFault) (a b c : Buffered) (name : GName)
+    (old : Held)
+    → a ≡ record { name = name; pending = old.pending; room = old.room; waits = []; failed = false }
+    → IfOk printed (λ x. SomeText (kind x) (λ t. Moves a t b)) → OnErr printed (SomeText broken (λ t. MovesFront a t b))
+    → IfOk printed (λ x. (t : List ℕ) → kind x t → broken t) → Closes printed b c r
+    → (c.name ≡ name) × ClosesText kind broken old (sink_of c) r
+closed_by kind broken printed r a b c name old is ok err ends closes =
+    let h = closed_text kind broken printed r a b c (ap (λ (x : Buffered). x.waits) is) (ap (λ (x : Buffered). x.failed) is) ok err ends closes in (
+      h.0 ∙ ap (λ (x : Buffered). x.name) is,
+      subst (λ (x : Buffered). ClosesText kind broken (sink_of x) (sink_of c) r) is h.1,
+    )
+
+-- where the text doesn't depend on the value
+pub closed_lent : {T : Type 0} (kind : List ℕ → Type 0) (printed r : Result T IoFault) (a b c : Buffered) (name : GName) (old : Held)
+    → a ≡ record { name = name; pending = old.pending; room = old.room; waits = []; failed = false } → OnOk printed (SomeText kind (λ t. Moves a t b))
+    → OnErr printed (SomeText kind (λ t. MovesFront a t b)) → Closes printed b c r → (c.name ≡ name) × WritesText kind old (sink_of c) r
+closed_lent {T} kind (Ok x) (Ok y) a b c name old is ok err closes = closed_by {T = T} (λ _. kind) kind (Ok x) (Ok y) a b c name old is ok err (λ t k. k) closes
+closed_lent {T} kind (Ok x) (Err e) a b c name old is ok err closes =
+    closed_by {T = T} (λ _. kind) kind (Ok x) (Err e) a b c name old is ok err (λ t k. k) closes
+closed_lent {T} kind (Err f) (Ok y) a b c name old is ok err (is_ok, sent, empty) = absurd cc
+closed_lent {T} kind (Err f) (Err e) a b c name old is ok err closes = closed_by {T = T} (λ _. kind) kind (Err f) (Err e) a b c name old is ok err tt closes

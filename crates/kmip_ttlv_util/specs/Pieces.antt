@@ -1,8 +1,14 @@
 -- Texts that are sent to a writer in pieces.
-use Rattle.std.specs.Prelude.{◌≡◌, ℕ, Bool, List, ◌++◌, length, Option, Result, Ok, Err, codes}
+use Rattle.std.specs.Prelude.{◌≡◌, ℕ, Bool, true, List, [], ◌++◌, length, Option, Result, Ok, Err, ◌⊎◌, codes}
+use Rattle.std.specs.Borrow.{GName}
 use Rattle.std.specs.Fmt.{decimal}
 use Rattle.std.specs.Io.KnownBytes.{Appends}
-use Rattle.kmip_ttlv_types.specs.Streams.{AppendsFront}
+use Rattle.std.specs.IoError.{error_kind}
+use Rattle.std.specs.declared.io.Error.{Error as IoFault}
+use Rattle.std.specs.declared.io.ErrorKind.TheVariants.{OutOfMemory}
+use Rattle.kmip_ttlv_types.specs.{Held.Held, Held.Gets, Streams.AppendsFront, Streams.UsesRoom, Streams.IsTight}
+use Rattle.kmip_ttlv_util.specs.declared.pieces.Pieces.{Pieces}
+use Rattle.kmip_ttlv_util.specs.Waiting.{waiting}
 use Rattle.kmip_ttlv_util.specs.Traces.{trace}
 use Rattle.kmip_ttlv_util.specs.Diagnostics.{hostile}
 use Rattle.kmip_ttlv_util.specs.PrintResults.{IsExact}
@@ -14,16 +20,58 @@ pub record SomeText (kind said : List ℕ → Type 0) : Type 0 where
   pub is : kind text
   pub holds : said text
 
--- a text of this kind was appended to what a writer has; on an error, a beginning of such a text
-abbrev pub WritesText : {T E : Type 0} → (List ℕ → Type 0) → Option (List ℕ) → Option (List ℕ) → Result T E → Type 0
-WritesText kind old new (Ok x) = SomeText kind (Appends old new)
-WritesText kind old new (Err e) = SomeText kind (AppendsFront old new)
+-- a sink got a beginning of a text, and has no room for all of it, if that is known, or memory ran out
+pub record WritesFront (old new : Held) (e : IoFault) (text : List ℕ) : Type 0 where
+  pub appended : AppendsFront old.pending new.pending text
+  pub why : IsTight old.room (length text) ⊎ (error_kind e ≡ OutOfMemory)
+
+-- a sink got a text of this kind; on an error, a beginning of such a text
+abbrev pub WritesText : {T : Type 0} → (List ℕ → Type 0) → Held → Held → Result T IoFault → Type 0
+WritesText kind old new (Ok x) = SomeText kind (Gets old new)
+WritesText kind old new (Err e) = SomeText kind (WritesFront old new e)
+
+-- a buffer before a sink: which sink is lent, what it has and has room for, what is buffered, and whether a write failed
+pub record Buffered : Type 0 where
+  pub name : GName
+  pub pending : Option (List ℕ)
+  pub room : Option ℕ
+  pub waits : List ℕ
+  pub failed : Bool
+
+-- the same, of the code's own buffer
+abbrev pub buffered : {S : Type 0} → (S → Option (List ℕ)) → (S → Option ℕ) → Pieces S → Buffered
+buffered emitted room p = record {
+  name = p.sink.ghost_name;
+  pending = emitted p.sink.now;
+  room = room p.sink.now;
+  waits = waiting p.buffer;
+  failed = p.failed;
+}
 
 -- a text was added to a buffer: a front of both was sent, and the rest is buffered
-pub record Moves (old new : Option (List ℕ)) (waited text waits : List ℕ) : Type 0 where
+pub record Moves (old : Buffered) (text : List ℕ) (new : Buffered) : Type 0 where
+  pub same : new.name ≡ old.name
+  pub goes_on : new.failed ≡ old.failed
   pub sent : List ℕ
-  pub appended : Appends old new sent
-  pub parts : waited ++ text ≡ sent ++ waits
+  pub appended : Appends old.pending new.pending sent
+  pub used : UsesRoom old.room new.room (length sent)
+  pub parts : old.waits ++ text ≡ sent ++ new.waits
+
+-- a text was added to a buffer in part: a beginning of both was sent, and where that failed there is no room for both
+pub record MovesFront (old : Buffered) (text : List ℕ) (new : Buffered) : Type 0 where
+  pub same : new.name ≡ old.name
+  pub front : AppendsFront old.pending new.pending (old.waits ++ text)
+  pub why : (new.failed ≡ old.failed) ⊎ IsTight old.room (length (old.waits ++ text))
+
+-- why a buffer isn't closed: what is buffered wasn't sent whole; or printing had failed, as a write had, or memory ran out
+abbrev pub ClosesNot : {T : Type 0} → Result T IoFault → Buffered → Buffered → IoFault → Type 0
+ClosesNot (Ok x) old new e = MovesFront old [] new × IsTight old.room (length old.waits)
+ClosesNot (Err f) old new e = (new ≡ old) × ((old.failed ≡ true) ⊎ (error_kind e ≡ OutOfMemory))
+
+-- what closing a buffer returns, by what printing to it returned
+abbrev pub Closes : {T : Type 0} → Result T IoFault → Buffered → Buffered → Result T IoFault → Type 0
+Closes printed old new (Ok x) = (printed ≡ Ok x) × Moves old [] new × (new.waits ≡ [])
+Closes printed old new (Err e) = ClosesNot printed old new e
 
 -- what follows `ERROR: ` for the item at an offset that can't be read
 abbrev pub unreadable : ℕ → List ℕ

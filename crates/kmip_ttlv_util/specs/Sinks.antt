@@ -1,20 +1,12 @@
 -- The laws of text sinks.
-use Rattle.std.proofs.Common.{◌≡◌, ℕ, List, [], ◌++◌, length, Option, Some, refl, sym, ap, subst, ◌∙◌, append_assoc, append-nil, take_all, le_refl}
-use Rattle.std.specs.Borrow.{GName}
+use Rattle.std.proofs.Common.{◌≡◌, ℕ, List, [], ◌++◌, length, Option, Some, inl, inr, refl, sym, ap, subst, ◌∙◌, append_assoc, append-nil}
+use Rattle.std.proofs.Common.{length-append, arith}
 use Rattle.std.specs.Io.KnownBytes.{Appends}
 use Rattle.std.proofs.KnownBytes.{Appends-nil, Appends-trans}
-use Rattle.kmip_ttlv_types.specs.Streams.{AppendsFront}
+use Rattle.kmip_ttlv_types.specs.Streams.{AppendsFront, IsTight}
+use Rattle.kmip_ttlv_types.proofs.Held.{uses_none, uses_both, tight_longer, tight_second, whole_front}
 use Rattle.kmip_ttlv_types.proofs.Taken.{AppendsFront-first, AppendsFront-second}
-use Rattle.kmip_ttlv_util.specs.Pieces.{Moves}
-
--- a whole text is a beginning of itself
-whole_front : (a b : Option (List ℕ)) (s : List ℕ) → Appends a b s → AppendsFront a b s
-whole_front a b s h = record {
-  count = length s;
-  within = le_refl (length s);
-  appends =
-      subst (Appends a b) (sym (take_all (length s) s (le_refl (length s)))) h;
-}
+use Rattle.kmip_ttlv_util.specs.Pieces.{Buffered, Moves, MovesFront}
 
 -- ---- a string
 
@@ -33,31 +25,58 @@ string_second a b c s t p q = AppendsFront-second (Some a) (Some b) (Some c) s t
 pub string_after : (a b s : List ℕ) → b ≡ a ++ s → AppendsFront (Some a) (Some b) s
 string_after a b s p = whole_front (Some a) (Some b) s p
 
--- ---- a buffered writer
+-- ---- a buffer before a sink
 
-pub moves_none : (n : GName) (a : Option (List ℕ)) (w : List ℕ) → (n ≡ n) × Moves a a w [] w
-moves_none n a w = (refl, record { sent = []; appended = Appends-nil a; parts = append-nil w })
+pub moves_none : (a : Buffered) → Moves a [] a
+moves_none a = record {
+  same = refl;
+  goes_on = refl;
+  sent = [];
+  appended = Appends-nil a.pending;
+  used = uses_none a.room;
+  parts = append-nil a.waits;
+}
 
-pub moves_both : (l m n : GName) (a b c : Option (List ℕ)) (u v w s t : List ℕ) → (m ≡ l) × Moves a b u s v → (n ≡ m) × Moves b c v t w → (n ≡ l)
-    × Moves a c u (s ++ t) w
-moves_both l m n a b c u v w s t (p, x) (q, y) = (
-  q ∙ p,
-  record {
-    sent = x.sent ++ y.sent;
-    appended = Appends-trans a b c x.sent y.sent x.appended y.appended;
-    parts = sym (append_assoc u s t) ∙ ap (λ (z : List ℕ). z ++ t) x.parts ∙ append_assoc x.sent v t ∙ ap (λ (z : List ℕ). x.sent ++ z) y.parts
-        ∙ sym (append_assoc x.sent y.sent w);
-  },
-)
+pub moves_both : (a b c : Buffered) (s t : List ℕ) → Moves a s b → Moves b t c → Moves a (s ++ t) c
+moves_both a b c s t x y = record {
+  same = y.same ∙ x.same;
+  goes_on = y.goes_on ∙ x.goes_on;
+  sent = x.sent ++ y.sent;
+  appended = Appends-trans a.pending b.pending c.pending x.sent y.sent x.appended y.appended;
+  used = uses_both a.room b.room c.room x.sent y.sent x.used y.used;
+  parts = sym (append_assoc a.waits s t) ∙ ap (λ (z : List ℕ). z ++ t) x.parts ∙ append_assoc x.sent b.waits t
+      ∙ ap (λ (z : List ℕ). x.sent ++ z) y.parts ∙ sym (append_assoc x.sent y.sent c.waits);
+}
 
-pub front_first : (m n : GName) (a b : Option (List ℕ)) (u s t : List ℕ) → (n ≡ m) × AppendsFront a b (u ++ s) → (n ≡ m) × AppendsFront a b (u ++ (s ++ t))
-front_first m n a b u s t (p, x) = (p, subst (AppendsFront a b) (append_assoc u s t) (AppendsFront-first a b (u ++ s) t x))
+pub front_first : (a b : Buffered) (s t : List ℕ) → MovesFront a s b → MovesFront a (s ++ t) b
+front_first a b s t x = record {
+  same = x.same;
+  front = subst (AppendsFront a.pending b.pending) (append_assoc a.waits s t) (AppendsFront-first a.pending b.pending (a.waits ++ s) t x.front);
+  why = elim x.why [
+    | inl is ↦ inl is
+    | inr tight ↦ inr (tight_longer a.room (a.waits ++ s) (a.waits ++ (s ++ t)) tight
+        (omega (arith, length-append a.waits s, length-append a.waits (s ++ t), length-append s t)))
+  ];
+}
 
-pub front_second : (l m n : GName) (a b c : Option (List ℕ)) (u v s t : List ℕ) → (m ≡ l) × Moves a b u s v → (n ≡ m) × AppendsFront b c (v ++ t) → (n ≡ l)
-    × AppendsFront a c (u ++ (s ++ t))
-front_second l m n a b c u v s t (p, x) (q, y) =
-    let all : x.sent ++ (v ++ t) ≡ u ++ (s ++ t) = sym (append_assoc x.sent v t) ∙ ap (λ (z : List ℕ). z ++ t) (sym x.parts) ∙ append_assoc u s t in
-    (q ∙ p, subst (AppendsFront a c) all (AppendsFront-second a b c x.sent (v ++ t) x.appended y))
+pub front_second : (a b c : Buffered) (s t : List ℕ) → Moves a s b → MovesFront b t c → MovesFront a (s ++ t) c
+front_second a b c s t x y =
+    let all : x.sent ++ (b.waits ++ t) ≡ a.waits ++ (s ++ t) =
+    sym (append_assoc x.sent b.waits t) ∙ ap (λ (z : List ℕ). z ++ t) (sym x.parts) ∙ append_assoc a.waits s t in
+    record {
+      same = y.same ∙ x.same;
+      front = subst (AppendsFront a.pending c.pending) all
+          (AppendsFront-second a.pending b.pending c.pending x.sent (b.waits ++ t) x.appended y.front);
+      why = elim y.why [
+        | inl is ↦ inl (is ∙ x.goes_on)
+        | inr tight ↦ inr (subst (λ (z : List ℕ). IsTight a.room (length z)) all (tight_second a.room b.room x.sent (b.waits ++ t) x.used tight))
+      ];
+    }
 
-pub front_after : (m n : GName) (a b : Option (List ℕ)) (u v s : List ℕ) → (n ≡ m) × Moves a b u s v → (n ≡ m) × AppendsFront a b (u ++ s)
-front_after m n a b u v s (p, x) = (p, subst (AppendsFront a b) (sym x.parts) (AppendsFront-first a b x.sent v (whole_front a b x.sent x.appended)))
+pub front_after : (a b : Buffered) (s : List ℕ) → Moves a s b → MovesFront a s b
+front_after a b s x = record {
+  same = x.same;
+  front = subst (AppendsFront a.pending b.pending) (sym x.parts)
+      (AppendsFront-first a.pending b.pending x.sent b.waits (whole_front a.pending b.pending x.sent x.appended));
+  why = inl x.goes_on;
+}

@@ -3,6 +3,7 @@
 ghost use Rattle.std.specs.Prelude.{◌≡◌, ℕ, ◌+◌, ◌/◌, ◌<◌, ◌≤◌, ◌^◌, ◌++◌, ◌∷◌, List, [], length, IfOk, OnOk, OnErr, Some, drop};
 ghost use Rattle.std.specs.Prelude.{string_bytes};
 ghost use Rattle.kmip_ttlv_types.specs.Digits.{six_digits};
+ghost use Rattle.kmip_ttlv_types.specs.Held.{held};
 ghost use Rattle.kmip_ttlv_util.specs.Outlines.{stripped, value_text, mark};
 ghost use Rattle.kmip_ttlv_util.specs.Letters.{letter};
 ghost use Rattle.kmip_ttlv_util.specs.Traces.{trace};
@@ -15,9 +16,9 @@ use crate::item::item_at;
 use crate::pieces::Pieces;
 use crate::sink::TextSink;
 use crate::walk::{Next, Walk};
+use kmip_ttlv_types::stream::Sink;
 use kmip_ttlv_types::{TtlvTag, TtlvType};
 use std::alloc::{AllocError, Allocator};
-use std::io::Write;
 use std::{io, str};
 
 /// What is written if a structure's content exceeds its length.
@@ -241,17 +242,18 @@ pub fn diagnose<A: Allocator + Copy>(
 }
 
 /// Writes the diagnostic of any bytes, in pieces.
-pub fn write_diagnostic<A: Allocator + Copy, W: Write>(
-    writer: &mut W,
+pub fn write_diagnostic<A: Allocator + Copy, S: Sink>(
+    writer: &mut S,
     alloc: A,
     prefix: &str,
     closed: bool,
     bytes: &[u8],
 ) -> io::Result<()>
     ensures { WritesText (λ t. t ≡ hostile prefix.now closed (length bytes.now) (trace closed bytes.now))
-        (W.contents writer.old) (W.contents writer.new) result }
+        (held S.emitted S.room writer.old) (held S.emitted S.room writer.new) result }
 {
     let mut pieces = Pieces::new(writer);
-    diagnose_to(&mut pieces, alloc, prefix, closed, bytes)?;
-    pieces.finish()
+    let printed = diagnose_to(&mut pieces, alloc, prefix, closed, bytes);
+    pieces.close(printed)?;
+    Ok(())
 }

@@ -1,9 +1,8 @@
-//! A writer that gets a text in pieces, so that the whole text is never in memory.
+//! A sink that gets a text in pieces, so that the whole text is never in memory.
 
-ghost use Rattle.std.specs.Prelude.{◌≡◌, ℕ, List, [], ◌++◌, OnOk, OnErr};
-ghost use Rattle.std.specs.Io.KnownBytes.{Appends};
-ghost use Rattle.kmip_ttlv_types.specs.Streams.{AppendsFront};
-ghost use Rattle.kmip_ttlv_util.specs.Pieces.{Moves};
+ghost use Rattle.std.specs.Prelude.{◌≡◌, [], length, false, OnOk, OnErr};
+ghost use Rattle.kmip_ttlv_types.specs.Streams.{IsTight};
+ghost use Rattle.kmip_ttlv_util.specs.Pieces.{Moves, MovesFront, Closes, buffered};
 ghost use Rattle.kmip_ttlv_util.specs.Waiting.{waiting};
 ghost use Rattle.kmip_ttlv_util.specs.Sinks.{moves_none, moves_both, front_first, front_second, front_after};
 
@@ -11,7 +10,7 @@ use crate::buffer::{Buffer, ROOM};
 use crate::sink::TextSink;
 use kmip_ttlv_types::stream::Sink;
 use std::io;
-use std::io::{Error, Write};
+use std::io::{Error, ErrorKind};
 
 /// A buffer before a writer: it collects up to 8,192 bytes of small pieces, and passes longer pieces on as they are.
 ///
@@ -25,21 +24,24 @@ use std::io::{Error, Write};
 /// assert!(rt; written.as_slice() == "ERR".as_bytes());
 /// ```
 #[derive(Drop)]
-pub struct Pieces<'w, W: Write> {
-    writer: &'w mut W,
+pub struct Pieces<'w, S: Sink> {
+    sink: &'w mut S,
     buffer: Buffer,
+    failed: bool,
 }
 
-impl<'w, W: Write> Pieces<'w, W> {
-    /// Wraps a writer. Nothing is buffered yet.
-    pub fn new(writer: &'w mut W) -> Pieces<'w, W>
-        ensures same_reference { result.writer.ghost_name ≡ writer.entry.ghost_name }
-        ensures writer { result.writer.now ≡ writer.old }
+impl<'w, S: Sink> Pieces<'w, S> {
+    /// Wraps a writer, or memory. Nothing is buffered yet.
+    pub fn new(sink: &'w mut S) -> Pieces<'w, S>
+        ensures same_reference { result.sink.ghost_name ≡ sink.entry.ghost_name }
+        ensures sink { result.sink.now ≡ sink.old }
         ensures empty { waiting result.buffer ≡ [] }
+        ensures going { result.failed ≡ false }
     {
         Pieces {
-            writer,
+            sink,
             buffer: Buffer::new(),
+            failed: false,
         }
     }
 
@@ -48,60 +50,82 @@ impl<'w, W: Write> Pieces<'w, W> {
     /// It returns the writer's error, or `WriteZero` if the writer takes no byte; a beginning of what was
     /// buffered may have been written then. Interrupted writes are retried, as often as a 64-bit counter allows.
     pub fn finish(&mut self) -> io::Result<()>
-        ensures same_reference { self.new.writer.ghost_name ≡ self.old.writer.ghost_name }
-        ensures ok { OnOk result (Appends (W.contents self.old.writer.now) (W.contents self.new.writer.now)
-            (waiting self.old.buffer)) }
-        ensures err { OnErr result (AppendsFront (W.contents self.old.writer.now) (W.contents self.new.writer.now)
-            (waiting self.old.buffer)) }
+        ensures ok { OnOk result (Moves (buffered S.emitted S.room self.old) [] (buffered S.emitted S.room self.new)) }
+        ensures err { OnErr result (MovesFront (buffered S.emitted S.room self.old) [] (buffered S.emitted S.room self.new)) }
+        ensures tight { OnErr result (IsTight (S.room self.old.sink.now) (length (waiting self.old.buffer))) }
         ensures empty { waiting self.new.buffer ≡ [] }
     {
-        let result = self.writer.send(self.buffer.bytes());
+        let result = self.sink.send(self.buffer.bytes());
         self.buffer.clear();
+        self.failed |= result.is_err();
+        result
+    }
+
+    /// Sends what is buffered at the end of what is printed, if that didn't fail, and returns what came of both.
+    ///
+    /// The error is that of [`Pieces::finish`], or, if printing failed, the writer's, or `OutOfMemory` where no
+    /// write failed.
+    pub fn close<T: Drop>(&mut self, printed: io::Result<T>) -> io::Result<T>
+        ensures { Closes printed (buffered S.emitted S.room self.old) (buffered S.emitted S.room self.new) result }
+    {
+        match printed {
+            Ok(value) => {
+                self.finish()?;
+                Ok(value)
+            }
+            Err(error) => {
+                if self.failed {
+                    return Err(error);
+                }
+                Err(Error::from(ErrorKind::OutOfMemory))
+            }
+        }
+    }
+
+    // Sends a piece that there is no room for in the buffer, which is empty.
+    fn send_piece(&mut self, piece: &[u8]) -> io::Result<()>
+        requires empty { waiting self.old.buffer ≡ [] }
+        ensures ok { OnOk result (Moves (buffered S.emitted S.room self.old) piece.now (buffered S.emitted S.room self.new)) }
+        ensures err { OnErr result (MovesFront (buffered S.emitted S.room self.old) piece.now (buffered S.emitted S.room self.new)) }
+    {
+        let result = self.sink.send(piece);
+        self.failed |= result.is_err();
         result
     }
 
     // Sends what is buffered, then takes a piece that there was no room for.
     #[cold]
     fn push_far(&mut self, piece: &[u8]) -> io::Result<()>
-        ensures same_reference { self.new.writer.ghost_name ≡ self.old.writer.ghost_name }
-        ensures ok { OnOk result (Moves (W.contents self.old.writer.now) (W.contents self.new.writer.now)
-            (waiting self.old.buffer) piece.now (waiting self.new.buffer)) }
-        ensures err { OnErr result (AppendsFront (W.contents self.old.writer.now) (W.contents self.new.writer.now)
-            (waiting self.old.buffer ++ piece.now)) }
+        ensures ok { OnOk result (Moves (buffered S.emitted S.room self.old) piece.now (buffered S.emitted S.room self.new)) }
+        ensures err { OnErr result (MovesFront (buffered S.emitted S.room self.old) piece.now (buffered S.emitted S.room self.new)) }
     {
         self.finish()?;
         if piece.len() <= ROOM {
             self.buffer.push(piece);
             return Ok(());
         }
-        self.writer.send(piece)
+        self.send_piece(piece)
     }
 }
 
-impl<W: Write> TextSink for Pieces<'_, W> {
+impl<S: Sink> TextSink for Pieces<'_, S> {
     type Error = Error;
 
-    ghost adds = { λ a text b. (b.writer.ghost_name ≡ a.writer.ghost_name)
-        × Moves (W.contents a.writer.now) (W.contents b.writer.now) (waiting a.buffer) text (waiting b.buffer) };
+    ghost adds = { λ a text b. Moves (buffered S.emitted S.room a) text (buffered S.emitted S.room b) };
 
-    ghost breaks = { λ a text b. (b.writer.ghost_name ≡ a.writer.ghost_name)
-        × AppendsFront (W.contents a.writer.now) (W.contents b.writer.now) (waiting a.buffer ++ text) };
+    ghost breaks = { λ a text b. MovesFront (buffered S.emitted S.room a) text (buffered S.emitted S.room b) };
 
-    ghost adds_none = { λ a. moves_none a.writer.ghost_name (W.contents a.writer.now) (waiting a.buffer) };
+    ghost adds_none = { λ a. moves_none (buffered S.emitted S.room a) };
 
-    ghost adds_both = { λ a b c s t p q. moves_both a.writer.ghost_name b.writer.ghost_name c.writer.ghost_name
-        (W.contents a.writer.now) (W.contents b.writer.now) (W.contents c.writer.now)
-        (waiting a.buffer) (waiting b.buffer) (waiting c.buffer) s t p q };
+    ghost adds_both = { λ a b c s t. moves_both (buffered S.emitted S.room a) (buffered S.emitted S.room b)
+        (buffered S.emitted S.room c) s t };
 
-    ghost breaks_first = { λ a b s t p. front_first a.writer.ghost_name b.writer.ghost_name
-        (W.contents a.writer.now) (W.contents b.writer.now) (waiting a.buffer) s t p };
+    ghost breaks_first = { λ a b s t. front_first (buffered S.emitted S.room a) (buffered S.emitted S.room b) s t };
 
-    ghost breaks_second = { λ a b c s t p q. front_second a.writer.ghost_name b.writer.ghost_name c.writer.ghost_name
-        (W.contents a.writer.now) (W.contents b.writer.now) (W.contents c.writer.now)
-        (waiting a.buffer) (waiting b.buffer) s t p q };
+    ghost breaks_second = { λ a b c s t. front_second (buffered S.emitted S.room a) (buffered S.emitted S.room b)
+        (buffered S.emitted S.room c) s t };
 
-    ghost breaks_after = { λ a b s p. front_after a.writer.ghost_name b.writer.ghost_name
-        (W.contents a.writer.now) (W.contents b.writer.now) (waiting a.buffer) (waiting b.buffer) s p };
+    ghost breaks_after = { λ a b s. front_after (buffered S.emitted S.room a) (buffered S.emitted S.room b) s };
 
     #[inline(always)]
     fn push_str(&mut self, text: &str) -> io::Result<()> {

@@ -7,6 +7,7 @@ ghost use Rattle.std.specs.Fmt.{decimal, signed_decimal};
 ghost use Rattle.std.specs.Str.{IsUtf8};
 ghost use Rattle.kmip_ttlv_types.specs.declared.typ.TtlvType.TheVariants.{Structure as TheStructure};
 ghost use Rattle.kmip_ttlv_types.specs.Leaves.{is_valid};
+ghost use Rattle.kmip_ttlv_types.specs.Held.{held};
 ghost use Rattle.kmip_ttlv_util.specs.Lines.{hex_padded};
 ghost use Rattle.kmip_ttlv_util.specs.TagNames.{name_in};
 ghost use Rattle.kmip_ttlv_util.specs.Pieces.{SomeText, WritesText, unreadable};
@@ -21,8 +22,8 @@ use crate::sink::TextSink;
 use crate::walk::{Next, Walk};
 use itoa::Buffer;
 use kmip_ttlv_types::TtlvType;
+use kmip_ttlv_types::stream::Sink;
 use std::alloc::{AllocError, Allocator};
-use std::io::Write;
 use std::{io, str};
 
 /// The number in four bytes.
@@ -247,17 +248,17 @@ pub fn print<A: Allocator + Copy>(
 }
 
 /// Writes the readable text of any bytes, in pieces.
-pub fn write_printed<A: Allocator + Copy, W: Write>(
-    writer: &mut W,
+pub fn write_printed<A: Allocator + Copy, S: Sink>(
+    writer: &mut S,
     alloc: A,
     names: &LentTagMap<'_, A>,
     closed: bool,
     bytes: &[u8],
 ) -> io::Result<()>
     ensures { WritesText (IsPrinted (name_in names.now) closed bytes.now)
-        (W.contents writer.old) (W.contents writer.new) result }
+        (held S.emitted S.room writer.old) (held S.emitted S.room writer.new) result }
 {
     let mut pieces = Pieces::new(writer);
-    print_to(&mut pieces, alloc, names, closed, bytes)?;
-    pieces.finish()
+    let printed = print_to(&mut pieces, alloc, names, closed, bytes);
+    pieces.close(printed)
 }

@@ -2,6 +2,7 @@
 
 ghost use Rattle.std.specs.Prelude.{◌≡◌, ℕ, ◌+◌, ◌/◌, ◌≤◌, ◌<◌, Bool, false, List, [], length, IfOk, IfErr, string_bytes};
 ghost use Rattle.std.specs.Borrow.{sem};
+ghost use Rattle.kmip_ttlv_types.specs.Held.{held};
 ghost use Rattle.kmip_ttlv_util.specs.Traces.{trace};
 ghost use Rattle.kmip_ttlv_util.specs.Diagnostics.{hostile};
 ghost use Rattle.kmip_ttlv_util.specs.CheckedDiagnostics.{ShowsMessage, ShowsNothing};
@@ -19,10 +20,10 @@ use crate::lines::TagMap;
 use crate::pretty::{print, write_printed};
 use crate::undiag::read_back;
 use kmip_ttlv_items::find_fault;
+use kmip_ttlv_types::stream::Sink;
 use std::alloc::{AllocError, Allocator, Global};
 use std::collections::HashMap;
 use std::io;
-use std::io::Write;
 
 /// Prints TTLV bytes as readable text and as redacted diagnostics, and reads diagnostics back.
 ///
@@ -160,7 +161,8 @@ impl<A: Allocator + Copy> PrettyPrinter<A> {
     /// It uses 8,192 bytes of stack, and allocates eight bytes for each open structure.
     ///
     /// It returns the writer's error if the writer fails, `WriteZero` if it takes no byte, and `OutOfMemory` if
-    /// there is no memory for the open structures. On error a beginning of the text may have been written.
+    /// there is no memory for the open structures. Memory that has room for the text, as a `MemorySink` with that
+    /// capacity, doesn't fail. On error a beginning of the text may have been written.
     /// Interrupted writes are retried, as often as a 64-bit counter allows. The writer is not flushed.
     ///
     /// ```
@@ -168,9 +170,9 @@ impl<A: Allocator + Copy> PrettyPrinter<A> {
     /// printer.write_text(&mut written, b"")?;
     /// assert!(rt; written.as_slice() == "ERROR: cannot read the item at byte 0".as_bytes());
     /// ```
-    pub fn write_text<W: Write>(&self, writer: &mut W, bytes: &[u8]) -> io::Result<()>
+    pub fn write_text<S: Sink>(&self, writer: &mut S, bytes: &[u8]) -> io::Result<()>
         ensures { WritesText (IsReadable (names_of self.now) (closes_empty self.now) bytes.now)
-            (W.contents writer.old) (W.contents writer.new) result }
+            (held S.emitted S.room writer.old) (held S.emitted S.room writer.new) result }
     {
         write_printed(
             writer,
@@ -264,9 +266,9 @@ impl<A: Allocator + Copy> PrettyPrinter<A> {
     /// printer.write_diag(&mut written, b"")?;
     /// assert!(rt; written.as_slice() == "ERR".as_bytes());
     /// ```
-    pub fn write_diag<W: Write>(&self, writer: &mut W, bytes: &[u8]) -> io::Result<()>
+    pub fn write_diag<S: Sink>(&self, writer: &mut S, bytes: &[u8]) -> io::Result<()>
         ensures { WritesText (IsDiagnostic (prefix_of self.now) (closes_empty self.now) bytes.now)
-            (W.contents writer.old) (W.contents writer.new) result }
+            (held S.emitted S.room writer.old) (held S.emitted S.room writer.new) result }
     {
         write_diagnostic(
             writer,

@@ -1,23 +1,20 @@
-use Rattle.std.proofs.Common.{rules, ◌≡◌, ℕ, List, length, ap, refl, ◌∙◌}
-use Rattle.kmip_ttlv_util.specs.{Diagnostics.hostile, Traces.trace}
-use Rattle.kmip_ttlv_util.proofs.Saying.{piece_fails, piece_ends}
+use Rattle.std.proofs.Common.{rules, ◌≡◌, ℕ, List, length, refl}
+use Rattle.kmip_ttlv_types.specs.Held.{held}
+use Rattle.kmip_ttlv_util.specs.{Pieces.buffered, Diagnostics.hostile, Traces.trace}
+use Rattle.kmip_ttlv_util.proofs.Saying.{closed_lent, lent_buffer, ok_text, err_text}
 use Rattle.kmip_ttlv_util.proofs.diagnostic.write_diagnostic.Goals as goal
 
-pub returns-in_err-diagnose_to : goal.returns-in_err-diagnose_to
-returns-in_err-diagnose_to g c =
+pub returns-in_err-close : goal.returns-in_err-close
+returns-in_err-close g c =
+    let of = buffered g.S.Sink.emitted g.S.Sink.room in
     let whole = hostile c.args.prefix.now c.args.closed (length c.args.bytes.now) (trace c.args.closed c.args.bytes.now) in
-    let s = c.in_err-diagnose_to.ensures.err in
-    let name = s.0 ∙ c.new-pieces.ensures.same_reference in
-    let written = piece_fails (λ (t : List ℕ). t ≡ whole) _ _ _ _ _ _ record { text = whole; is = refl; holds = s }
-    (ap g.W.Write.contents c.new-pieces.ensures.writer) c.new-pieces.ensures.empty in
-    search rules
-
-pub returns : goal.returns
-returns g c =
-    let whole = hostile c.args.prefix.now c.args.closed (length c.args.bytes.now) (trace c.args.closed c.args.bytes.now) in
-    let s = c.in_ok-diagnose_to.ensures.ok in
-    let name = c.finish.ensures.same_reference ∙ s.0 ∙ c.new-pieces.ensures.same_reference in
-    let written = piece_ends c.finish.result (λ (t : List ℕ). t ≡ whole) _ _ _ _ _ (g.W.Write.contents c.finish.new.self.writer.now) _ _
-    record { text = whole; is = refl; holds = s } (ap g.W.Write.contents c.new-pieces.ensures.writer) c.new-pieces.ensures.empty c.finish.ensures.ok
-    c.finish.ensures.err in
+    let new = c.new-pieces.ensures in
+    let printed = c.diagnose_to-printed in
+    let done = closed_lent (λ (t : List ℕ). t ≡ whole) printed.result c.close.result (of c.new-pieces.result) (of printed.new.out) (of c.close.new.self)
+    _ (held g.S.Sink.emitted g.S.Sink.room c.args.writer.now)
+    (lent_buffer g.S.Sink.emitted g.S.Sink.room c.new-pieces.result new.same_reference new.sink new.empty new.going)
+    (ok_text printed.result _ _ whole printed.ensures.ok refl)
+    (err_text printed.result _ _ whole printed.ensures.err refl) c.close.ensures in
+    let name = done.0 in
+    let written = done.1 in
     search rules

@@ -1,21 +1,18 @@
-use Rattle.std.proofs.Common.{rules, ap, ◌∙◌}
-use Rattle.kmip_ttlv_util.specs.{Pretty.IsPrinted, TagNames.name_in}
-use Rattle.kmip_ttlv_util.proofs.Saying.{piece_fails, piece_ends}
+use Rattle.std.proofs.Common.{rules}
+use Rattle.kmip_ttlv_types.specs.Held.{held}
+use Rattle.kmip_ttlv_util.specs.{Pieces.buffered, Pretty.IsPrinted, TagNames.name_in}
+use Rattle.kmip_ttlv_util.proofs.Saying.{closed_lent, lent_buffer}
 use Rattle.kmip_ttlv_util.proofs.pretty.write_printed.Goals as goal
-
-pub returns-in_err-print_to : goal.returns-in_err-print_to
-returns-in_err-print_to g c =
-    let s = c.in_err-print_to.ensures.err in
-    let name = s.holds.0 ∙ c.new-pieces.ensures.same_reference in
-    let written = piece_fails (IsPrinted (name_in c.args.names.now) c.args.closed c.args.bytes.now) _ _ _ _ _ _ s
-    (ap g.W.Write.contents c.new-pieces.ensures.writer) c.new-pieces.ensures.empty in
-    search rules
 
 pub returns : goal.returns
 returns g c =
-    let s = c.in_ok-print_to.ensures.ok in
-    let name = c.finish.ensures.same_reference ∙ s.holds.0 ∙ c.new-pieces.ensures.same_reference in
-    let written = piece_ends c.finish.result (IsPrinted (name_in c.args.names.now) c.args.closed c.args.bytes.now) _ _ _ _ _ (g.W.Write.contents
-    c.finish.new.self.writer.now) _ _ s (ap g.W.Write.contents c.new-pieces.ensures.writer) c.new-pieces.ensures.empty c.finish.ensures.ok
-    c.finish.ensures.err in
+    let of = buffered g.S.Sink.emitted g.S.Sink.room in
+    let new = c.new-pieces.ensures in
+    let printed = c.print_to-printed in
+    let done = closed_lent (IsPrinted (name_in c.args.names.now) c.args.closed c.args.bytes.now) printed.result c.close.result (of c.new-pieces.result)
+    (of printed.new.out) (of c.close.new.self) _ (held g.S.Sink.emitted g.S.Sink.room c.args.writer.now)
+    (lent_buffer g.S.Sink.emitted g.S.Sink.room c.new-pieces.result new.same_reference new.sink new.empty new.going)
+    printed.ensures.ok printed.ensures.err c.close.ensures in
+    let name = done.0 in
+    let written = done.1 in
     search rules
