@@ -1,26 +1,26 @@
 -- How a run ends.
-use Rattle.std.proofs.Common.{◌≡◌, ℕ, List, ◌++◌, Option, Some, None, Result, Ok, Err, OnOk, OnErr, length, sym, ap, ◌∙◌, subst, append-nil, take_all, le_refl}
+use Rattle.std.proofs.Common.{◌≡◌, ℕ, List, ◌++◌, Option, Some, None, Result, Ok, Err, OnOk, OnErr, length, inl, inr, sym, ap, ◌∙◌, subst, append-nil}
 use Rattle.std.specs.Io.KnownBytes.{Appends, Keeps}
-use Rattle.kmip_ttlv.specs.Streams.{AppendsFront}
+use Rattle.kmip_ttlv.specs.Streams.{AppendsFront, IsTight}
 use Rattle.hex_to_txt_run.specs.{Inputs.TakesAll, TaskTexts.TaskPrints, TaskTexts.TaskFails}
 use Rattle.hex_to_txt_run.specs.Reasons.{Reason, unknown_words, unreadable_input, not_hexadecimal, not_utf8, not_a_pair, unwritable_output, no_memory, line_of}
 use Rattle.hex_to_txt_run.specs.Tasks.{Task, pair_task, readable_task, diagnostic_task, read_back_task}
-use Rattle.hex_to_txt_run.specs.Runs.{Streams, Fails, Failed, HasNoText, Printed, Responds}
+use Rattle.hex_to_txt_run.specs.Runs.{Streams, Fails, Failed, Reports, HasNoText, Printed, Responds}
 
--- whether the line was written in full or not, a beginning of it was
-reported : {T E : Type 0} (a b : Option (List ℕ)) (bytes : List ℕ) (r : Result T E) → OnOk r (Appends a b bytes) → OnErr r (AppendsFront a b bytes)
-    → AppendsFront a b bytes
-reported a b bytes (Ok x) all front = record {
-  count = length bytes;
-  within = le_refl _;
-  appends =
-      subst (Appends a b) (sym (take_all (length bytes) bytes (le_refl _))) all;
+-- the line was written in full, or a beginning of it
+reported : {T E : Type 0} (a b : Option (List ℕ)) (room : Option ℕ) (bytes : List ℕ) (r : Result T E) → OnOk r (Appends a b bytes)
+    → OnErr r (AppendsFront a b bytes) → OnErr r (IsTight room (length bytes)) → Reports a room b bytes
+reported a b room bytes (Ok x) all front tight = inl all
+reported a b room bytes (Err e) all front tight = inr (front, tight)
+
+pub failed : {T E : Type 0} (task : Option Task) (s : Streams) (why : Reason) (a b : Option (List ℕ)) (room : Option ℕ) (bytes : List ℕ) (r : Result T E)
+    → Fails task s why → bytes ≡ line_of why → OnOk r (Appends a b bytes) → OnErr r (AppendsFront a b bytes) → OnErr r (IsTight room (length bytes))
+    → Failed task s a room b
+failed task s why a b room bytes r fails is all front tight = record {
+  why = why;
+  fails = fails;
+  reported = subst (Reports a room b) is (reported a b room bytes r all front tight);
 }
-reported a b bytes (Err e) all front = front
-
-pub failed : {T E : Type 0} (task : Option Task) (s : Streams) (why : Reason) (a b : Option (List ℕ)) (bytes : List ℕ) (r : Result T E) → Fails task s why
-    → bytes ≡ line_of why → OnOk r (Appends a b bytes) → OnErr r (AppendsFront a b bytes) → Failed task s a b
-failed task s why a b bytes r fails is all front = record { why = why; fails = fails; reported = subst (AppendsFront a b) is (reported a b bytes r all front) }
 
 -- the input that was read has a text
 no_text : (task : Task) (old new : Option (List ℕ)) (input text : List ℕ) → TakesAll old new input → TaskPrints task input text → HasNoText (Some task) old → ⊥
@@ -41,7 +41,7 @@ output_stays None s (not_a_pair line) fails none = absurd fails
 output_stays None s unwritable_output fails none = absurd fails
 output_stays None s no_memory fails none = absurd fails
 output_stays (Some task) s unknown_words fails none = absurd fails
-output_stays (Some task) s unreadable_input fails none = fails
+output_stays (Some task) s unreadable_input fails none = fails.1
 output_stays (Some task) s not_hexadecimal fails none = fails.1
 output_stays (Some task) s not_utf8 fails none = fails.1
 output_stays (Some task) s (not_a_pair line) fails none = fails.1

@@ -1,6 +1,6 @@
 -- What was read from a reader, and the bytes that hexadecimal input is decoded as.
 use Rattle.std.specs.Prelude.{◌≡◌, ℕ, ◌-◌, Bool, false, not, ◌==◌, ◌||◌, List, ◌++◌, ◌<◌, length, slice_index, filter}
-use Rattle.std.specs.Prelude.{Option, Result, IsErr}
+use Rattle.std.specs.Prelude.{Option, Result, IsErr, IsTrue}
 use Rattle.std.specs.List.{AllPass}
 use Rattle.std.specs.Str.{IsUtf8}
 use Rattle.std.specs.Io.KnownBytes.{Consumes, IsAtEnd}
@@ -21,11 +21,11 @@ is_kept b = not (b == 10 || b == 13 || b == 32 || b == 34 || b == 44)
 abbrev pub decoded : List ℕ → Result (List ℕ) FromHexError
 decoded input = decode_of (filter is_kept input)
 
--- why an input was not read
-abbrev pub IsUnread : Reason → Type 0
-IsUnread unreadable_input = Unit {0}
-IsUnread no_memory = Unit {0}
-IsUnread _ = ⊥
+-- why an input was not read: reading failed, if it can, or memory ran out
+abbrev pub IsUnread : Bool → Reason → Type 0
+IsUnread can_fail unreadable_input = IsTrue can_fail
+IsUnread can_fail no_memory = Unit {0}
+IsUnread can_fail _ = ⊥
 
 -- why an input can't be decoded
 abbrev pub IsUndecoded : List ℕ → Reason → Type 0

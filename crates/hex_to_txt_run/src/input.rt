@@ -10,19 +10,18 @@ ghost use Rattle.hex_to_txt_run.specs.Reasons.{reason_of};
 
 use crate::failure::Failure;
 use hex::FromHexError;
+use kmip_ttlv::types::Error;
+use kmip_ttlv::types::stream::{Source, take_all};
 use std::alloc::{AllocError, Allocator};
-use std::io;
-use std::io::{ErrorKind, Read};
 
-/// Reads all bytes of a reader. Interrupted reads are retried.
-pub fn read_all<A: Allocator, R: Read>(alloc: A, input: &mut R) -> Result<Vec<u8, A>, Failure<A>>
-    ensures ok { IfOk result (λ all. TakesAll (R.remaining input.old) (R.remaining input.new) all.items) }
-    ensures err { IfErr result (λ e. IsUnread (reason_of e)) }
+/// Reads all bytes of a reader, or of memory. Interrupted reads are retried.
+pub fn read_all<A: Allocator, S: Source>(alloc: A, input: &mut S) -> Result<Vec<u8, A>, Failure<A>>
+    ensures ok { IfOk result (λ all. TakesAll (S.left input.old) (S.left input.new) all.items) }
+    ensures err { IfErr result (λ e. IsUnread S.can_fail (reason_of e)) }
 {
-    let mut bytes = Vec::new(alloc);
-    match input.read_to_end(&mut bytes) {
-        Ok(_) => Ok(bytes),
-        Err(e) if e.kind() == ErrorKind::OutOfMemory => Err(Failure::OutOfMemory),
+    match take_all(alloc, input) {
+        Ok(bytes) => Ok(bytes),
+        Err(Error::OutOfMemory) => Err(Failure::OutOfMemory),
         Err(_) => Err(Failure::UnreadableInput),
     }
 }
