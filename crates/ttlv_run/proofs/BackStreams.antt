@@ -2,20 +2,21 @@
 use Rattle.std.proofs.Common.{arith, ◌≡◌, ◌⊎◌, inl, inr, ℕ, ◌+◌, Bool, true, false, List, [], ◌∷◌, ◌++◌, length, take, drop, take-add, Option, None, ap, sym}
 use Rattle.std.proofs.Common.{refl, subst, ◌∙◌, append-nil, append_assoc, length-append, take-append-drop}
 use Rattle.std.specs.{Option.option_or, Str.IsUtf8}
-use Rattle.std.specs.Io.KnownBytes.{Appends, Consumes, IsAtEnd}
-use Rattle.std.proofs.KnownBytes.{Appends-nil, Appends-trans, Consumes-trans}
+use Rattle.std.specs.Io.KnownBytes.{Consumes, IsAtEnd}
+use Rattle.std.proofs.KnownBytes.{Consumes-trans}
 use Rattle.std.proofs.lemmas.List.{drop-drop, drop_all, length-drop, length-take-le, take-append-le, drop-append-le}
 use Rattle.std.proofs.lemmas.Str.{IsUtf8-append}
 use Rattle.kmip_ttlv_names.specs.NameTables.{lines_of}
-use Rattle.kmip_ttlv_types.specs.Streams.{AppendsFront}
-use Rattle.kmip_ttlv_types.proofs.Taken.{AppendsFront-second}
+use Rattle.kmip_ttlv_types.specs.Held.{Held, Gets}
+use Rattle.kmip_ttlv_types.proofs.Held.{gets_none, gets_both}
 use Rattle.kmip_ttlv_util.specs.Pieces.{SomeText}
 use Rattle.ttlv_run.specs.{declared.back.BackFault.BackFault, declared.back.BackReached.BackReached, declared.back.BackReached.TheVariants.Behind}
 use Rattle.ttlv_run.specs.{declared.back.BackReached.TheVariants.NoText, declared.job.BackJob.BackJob, declared.run_error.RunError.RunError, Inputs.IsUnread}
 use Rattle.ttlv_run.specs.{Streaming.Yields, Streaming.LinesFail, Texts.Names, Texts.text_back}
 use Rattle.ttlv_run.specs.Backs.{FirstBreak, IsOneLine, AreLines, Finds, ReadsLines, ReadsBack, ReadsFront}
 use Rattle.ttlv_run.specs.Runs.{PrintedBack, NoTextBack, UnwrittenBack, FailsBack}
-use Rattle.ttlv_run.proofs.{BackEnds.first_break, Decided.unread_by, Windows.left_of}
+use Rattle.ttlv_run.specs.{declared.run_error.RunError.TheVariants.NoMemory, Reasons.PrintsFront}
+use Rattle.ttlv_run.proofs.{Appending.prints_behind, Appending.memory_ended, BackEnds.first_break, Decided.unread_by, Windows.left_of}
 use Rattle.ttlv_run.proofs.BackLines.{Lined, lined_none, lines_append, back_append, finds_on, finds_last, first_text, rest_text, front_none}
 
 -- lines stay the same, whatever comes behind them
@@ -59,21 +60,21 @@ module _ {tags : ℕ → Option (List ℕ)} {prefix s : List ℕ} {base : ℕ} {
     }
 
 -- what is known of an input whose lines are read back as they come
-pub record BackReading (names : Names) (job : BackJob) (known now output output_now : Option (List ℕ)) (base : ℕ) (bytes : List ℕ)
+pub record BackReading (names : Names) (job : BackJob) (known now : Option (List ℕ)) (output output_now : Held) (base : ℕ) (bytes : List ℕ)
     (found : Option BackFault) : Type 0 where
   pub taken : List ℕ
   pub text : List ℕ
   pub consumed : Consumes known now taken
   pub lined : Lined names.tags job.prefix.now 0 taken base found text
   pub are : drop base taken ≡ bytes
-  pub appended : Appends output output_now text
+  pub appended : Gets output output_now text
 
-pub back_starts : {names : Names} {job : BackJob} {known output : Option (List ℕ)} → Consumes known known []
+pub back_starts : {names : Names} {job : BackJob} {known : Option (List ℕ)} {output : Held} → Consumes known known []
     → BackReading names job known known output output 0 [] None
 back_starts {output = output} consumed =
-    record { taken = []; text = []; consumed = consumed; lined = lined_none; are = refl; appended = Appends-nil output }
+    record { taken = []; text = []; consumed = consumed; lined = lined_none; are = refl; appended = gets_none output }
 
-module _ {names : Names} {job : BackJob} {known now output mid : Option (List ℕ)} {base : ℕ} {bytes : List ℕ} {found : Option BackFault}
+module _ {names : Names} {job : BackJob} {known now : Option (List ℕ)} {output mid : Held} {base : ℕ} {bytes : List ℕ} {found : Option BackFault}
     (p : BackReading names job known now output mid base bytes found) where
   pub back_of : {b : List ℕ} → b ≡ bytes → BackReading names job known now output mid base b found
   back_of is = subst (λ (b : List ℕ). BackReading names job known now output mid base b found) (sym is) p
@@ -99,8 +100,8 @@ module _ {names : Names} {job : BackJob} {known now output mid : Option (List �
     appended = p.appended;
   }
 
-  module _ {last : Bool} {reached : BackReached} (new : Option (List ℕ))
-      (reported : SomeText (ReadsBack names.tags job.prefix.now base bytes last reached) (Appends mid new))
+  module _ {last : Bool} {reached : BackReached} (new : Held)
+      (reported : SomeText (ReadsBack names.tags job.prefix.now base bytes last reached) (Gets mid new))
     where
       -- lines were read back, and others are waited for
       pub back_goes : {count : ℕ} {more all : Option BackFault} → last ≡ false → reached ≡ Behind count more → all ≡ option_or found more
@@ -118,15 +119,15 @@ module _ {names : Names} {job : BackJob} {known now output mid : Option (List �
                     (finds_on job.prefix.now 0 (take base p.taken) (take count bytes) found more p.lined.finds finds);
               };
               are = sym (drop-drop count base p.taken) ∙ ap (drop count) p.are;
-              appended = Appends-trans output mid new p.text reported.text p.appended reported.holds;
+              appended = gets_both p.text reported.text p.appended reported.holds;
             },
             q.2,
           )
 
       -- all lines were read back
-      pub back_printed : {count : ℕ} {more all : Option BackFault} → last ≡ true → reached ≡ Behind count more → all ≡ option_or found more → IsAtEnd now
-          → PrintedBack names job (record { input = known; input_left = now; output = output; output_now = new }) all
-      back_printed {count} {more} ended is all_is end =
+      pub back_printed : {can_fail : Bool} {count : ℕ} {more all : Option BackFault} → last ≡ true → reached ≡ Behind count more → all ≡ option_or found more
+          → IsAtEnd now → PrintedBack names job (record { can_fail = can_fail; input = known; input_left = now; output = output; output_now = new }) all
+      back_printed {count = count} {more} ended is all_is end =
           let q = rw (ended, is) at reported.is in
           let first = subst (λ (n : ℕ). FirstBreak job.prefix.now n (lines_of bytes) more) (sym here) q.3 in
           let whole : take base p.taken ++ bytes ≡ p.taken = ap (λ (s : List ℕ). take base p.taken ++ s) (sym p.are) ∙ take-append-drop base p.taken in
@@ -139,12 +140,12 @@ module _ {names : Names} {job : BackJob} {known now output mid : Option (List �
               is = texts lines p.are reported.text bytes q.2 ∙ ap (text_back names.tags job.prefix.now) whole;
               first = rw (all_is, ← whole) (finds_last job.prefix.now 0 (take base p.taken) bytes found more p.lined.finds first);
             };
-            appended = Appends-trans output mid new p.text reported.text p.appended reported.holds;
+            appended = gets_both p.text reported.text p.appended reported.holds;
           }
 
       -- a line is no text
-      pub back_no_text : reached ≡ NoText → (last ≡ true → IsAtEnd now)
-          → NoTextBack names job (record { input = known; input_left = now; output = output; output_now = new })
+      pub back_no_text : {can_fail : Bool} → reached ≡ NoText → (last ≡ true → IsAtEnd now)
+          → NoTextBack names job (record { can_fail = can_fail; input = known; input_left = now; output = output; output_now = new })
       back_no_text is end =
           let q = rw is at reported.is in
           let l = left_of now last end in
@@ -167,14 +168,14 @@ module _ {names : Names} {job : BackJob} {known now output mid : Option (List �
             others = begins.0;
             first = first;
             line_no_text = q.2.no_text;
-            appended = Appends-trans output mid new p.text reported.text p.appended reported.holds;
+            appended = gets_both p.text reported.text p.appended reported.holds;
           }
 
   -- printing failed
-  pub back_unwritten : {new : Option (List ℕ)} {last : Bool} → (last ≡ true → IsAtEnd now)
-      → SomeText (ReadsFront names.tags job.prefix.now bytes last) (AppendsFront mid new)
-      → UnwrittenBack names job (record { input = known; input_left = now; output = output; output_now = new })
-  back_unwritten {new} {last} end reported =
+  pub back_unwritten : {can_fail : Bool} {why : RunError} {new : Held} {last : Bool} → (last ≡ true → IsAtEnd now)
+      → SomeText (ReadsFront names.tags job.prefix.now bytes last) (PrintsFront why mid new)
+      → UnwrittenBack names job (record { can_fail = can_fail; input = known; input_left = now; output = output; output_now = new }) why
+  back_unwritten {can_fail} {why} {new} {last} end reported =
       let l = left_of now last end in
       let n = reported.is.count in
       let whole = up_to lines p.are n in
@@ -198,8 +199,8 @@ module _ {names : Names} {job : BackJob} {known now output mid : Option (List �
         are = are;
         ends = ends;
         is_text = subst IsUtf8 (sym whole) (IsUtf8-append (take base p.taken) (take n bytes) lines.is_text reported.is.is_text);
-        appended = subst (AppendsFront output new) (texts lines p.are reported.text (take n bytes) reported.is.is
-            ∙ ap (text_back names.tags job.prefix.now) (sym whole)) (AppendsFront-second output mid new p.text reported.text p.appended reported.holds);
+        appended = subst (PrintsFront why output new) (texts lines p.are reported.text (take n bytes) reported.is.is
+            ∙ ap (text_back names.tags job.prefix.now) (sym whole)) (prints_behind p.text reported.text p.appended reported.holds);
       }
     where
       by : (left : List ℕ) → (last ≡ true → left ≡ []) → AreLines (take reported.is.count bytes) ⊎ ((last ≡ true) × (reported.is.count ≡ length bytes))
@@ -209,27 +210,32 @@ module _ {names : Names} {job : BackJob} {known now output mid : Option (List �
           inr (ap (λ (s : List ℕ). s ++ left) (drop_all (base + reported.is.count) p.taken (omega (arith, long lines p.are, b.1))) ∙ none b.0)
 
   -- nothing more was printed
-  pub back_no_memory : UnwrittenBack names job (record { input = known; input_left = now; output = output; output_now = mid })
+  pub back_no_memory : {can_fail : Bool}
+      → UnwrittenBack names job (record { can_fail = can_fail; input = known; input_left = now; output = output; output_now = mid }) NoMemory
   back_no_memory =
-      let none : AppendsFront mid mid [] = record { count = 0; within = omega arith; appends = Appends-nil mid } in
+      let none = memory_ended [] (gets_none mid) in
       back_unwritten (λ e. cc) (record { text = []; is = front_none names.tags job.prefix.now bytes false; holds = none })
 
-  unread : IsOneLine bytes → (why : RunError) → IsUnread why
-      → FailsBack names job (record { input = known; input_left = now; output = output; output_now = mid }) why
-  unread one why h = unread_by (FailsBack names job (record { input = known; input_left = now; output = output; output_now = mid })) why h (record {
-    bytes = p.taken;
-    taken = p.consumed;
-    place = base;
-    text = p.text;
-    reads = lines;
-    one_line = subst IsOneLine (sym p.are) one;
-    appended = p.appended;
-  }) back_no_memory
+  unread : (can_fail : Bool) → IsOneLine bytes → (why : RunError) → IsUnread can_fail why
+      → FailsBack names job (record { can_fail = can_fail; input = known; input_left = now; output = output; output_now = mid }) why
+  unread can_fail one why h =
+      unread_by (FailsBack names job (record { can_fail = can_fail; input = known; input_left = now; output = output; output_now = mid })) why h (λ can. (
+        can,
+        record {
+          bytes = p.taken;
+          taken = p.consumed;
+          place = base;
+          text = p.text;
+          reads = lines;
+          one_line = subst IsOneLine (sym p.are) one;
+          appended = p.appended;
+        },
+      )) back_no_memory
 
 -- reading failed, or memory ran out for it
-pub back_read_fails : {names : Names} {job : BackJob} {known now next output mid : Option (List ℕ)} {base : ℕ} {bytes before after : List ℕ}
-    {found : Option BackFault}
+pub back_read_fails : {names : Names} {job : BackJob} (can_fail : Bool) {known now next : Option (List ℕ)} {output mid : Held} {base : ℕ}
+    {bytes before after : List ℕ} {found : Option BackFault}
     → BackReading names job known now output mid base bytes found → before ≡ bytes → IsOneLine bytes → LinesFail now next before after
-    → (why : RunError) → IsUnread why
-    → FailsBack names job (record { input = known; input_left = next; output = output; output_now = mid }) why
-back_read_fails p is one f = unread (back_came p is f.yields) (f.one_line (subst IsOneLine (sym is) one))
+    → (why : RunError) → IsUnread can_fail why
+    → FailsBack names job (record { can_fail = can_fail; input = known; input_left = next; output = output; output_now = mid }) why
+back_read_fails can_fail p is one f = unread (back_came p is f.yields) can_fail (f.one_line (subst IsOneLine (sym is) one))

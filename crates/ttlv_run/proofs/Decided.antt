@@ -1,6 +1,6 @@
 -- What is decided of an input, and why a run fails.
 use Rattle.std.proofs.Common.{◌≡◌, inl, inr, ℕ, suc, List, [], ◌∷◌, ◌++◌, Option, Result, Ok, Err, OnOk, OnErr, Bool, true, is_ok, length, take, refl, sym, ap}
-use Rattle.std.proofs.Common.{subst, ◌∙◌, ◌+◌, arith, codes, length-append}
+use Rattle.std.proofs.Common.{IsTrue, subst, ◌∙◌, ◌+◌, arith, codes, length-append}
 use Rattle.std.proofs.KnownBytes.{Appends-trans}
 use Rattle.std.specs.{Io.KnownBytes.Appends, Fmt.decimal}
 use Rattle.kmip_ttlv_types.specs.Streams.{AppendsFront}
@@ -42,15 +42,17 @@ printing_by P (inr (inl is)) output pipe memory = subst P (sym is) pipe
 printing_by P (inr (inr is)) output pipe memory = subst P (sym is) memory
 
 -- behind a beginning of the text
-pub unwritten : {names : Names} {job : Job} {s : Streams} {why : RunError} → IsOfPrinting why → Unwritten names job s → Fails names job s why
-unwritten {names} {job} {s} is h = printing_by (Fails names job s) is h h (inr h)
+pub unwritten : {names : Names} {job : Job} {s : Streams} {why : RunError} → IsOfPrinting why → Unwritten names job s why → Fails names job s why
+unwritten {names} {job} {s} is h = printing_by (λ why. Unwritten names job s why → Fails names job s why) is (λ h. h) (λ h. h) (λ h. inr h) h
 
-pub unwritten_back : {names : Names} {job : BackJob} {s : Streams} {why : RunError} → IsOfPrinting why → UnwrittenBack names job s → FailsBack names job s why
-unwritten_back {names} {job} {s} is h = printing_by (FailsBack names job s) is h h h
+pub unwritten_back : {names : Names} {job : BackJob} {s : Streams} {why : RunError} → IsOfPrinting why → UnwrittenBack names job s why
+    → FailsBack names job s why
+unwritten_back {names} {job} {s} is h = printing_by (λ why. UnwrittenBack names job s why → FailsBack names job s why) is (λ h. h) (λ h. h) (λ h. h) h
 
 -- an input was not read
-pub unread_by : (P : RunError → Type 0) (why : RunError) → IsUnread why → P UnreadableInput → P NoMemory → P why
-unread_by P UnreadableInput h read memory = read
+pub unread_by : (P : RunError → Type 0) {can_fail : Bool} (why : RunError) → IsUnread can_fail why → (IsTrue can_fail → P UnreadableInput) → P NoMemory
+    → P why
+unread_by P UnreadableInput h read memory = read h
 unread_by P NoMemory h read memory = memory
 unread_by P why h read memory = absurd h
 

@@ -1,9 +1,11 @@
 -- Lines of JSON that come piece by piece, printed one after the other.
 use Rattle.std.proofs.Common.{arith, ◌≡◌, ◌∙◌, inl, inr, ℕ, ◌+◌, Bool, true, false, List, [], ◌∷◌, ◌++◌, length, take, drop, Option, Some, None, Ok, refl, ap}
 use Rattle.std.proofs.Common.{sym, subst, append_assoc, append-nil, length-append, take-append-drop}
-use Rattle.std.specs.Io.KnownBytes.{Appends, Consumes, IsAtEnd}
+use Rattle.std.specs.Io.KnownBytes.{Consumes, IsAtEnd}
 use Rattle.std.specs.{Prelude.slice_index, Str.IsUtf8}
-use Rattle.std.proofs.KnownBytes.{Appends-trans, Appends-nil, Consumes-trans}
+use Rattle.std.proofs.KnownBytes.{Consumes-trans}
+use Rattle.kmip_ttlv_types.specs.Held.{Held, Gets}
+use Rattle.kmip_ttlv_types.proofs.Held.{gets_none, gets_both}
 use Rattle.std.proofs.lemmas.List.{drop-drop, length-drop, take-append-le, drop-append-le, get_or-drop}
 use Rattle.std.proofs.lemmas.Str.{IsUtf8-append, IsUtf8-nil}
 use Rattle.kmip_ttlv_names.specs.NameTables.{lines_of}
@@ -11,10 +13,11 @@ use Rattle.kmip_ttlv_json.specs.declared.failure.JsonError.{JsonError}
 use Rattle.ttlv_run.specs.{declared.job.JsonJob.JsonJob, declared.run_error.RunError.RunError, declared.run_error.RunError.TheVariants.NotUtf8, Backs.IsOneLine}
 use Rattle.ttlv_run.specs.{Backs.IsLineAt, Inputs.IsUnread, Inputs.TakesSome, Runs.Streams, Streaming.Yields, Streaming.LinesFail}
 use Rattle.ttlv_run.specs.JsonLines.{GivesLine, Spoils, PrintsBytes, FailsAt, no_line, one_more, GivesLines, NextLine, FaultsJson, UnwrittenJson, FailsJson}
+use Rattle.ttlv_run.specs.{declared.run_error.RunError.TheVariants.NoMemory, Reasons.PrintsFront}
 use Rattle.ttlv_run.specs.JsonLines.{RespondsJson, fault_at}
-use Rattle.ttlv_run.proofs.{Appending.all_front, Windows.Left, Windows.left_of}
+use Rattle.ttlv_run.proofs.{Appending.prints_behind, Appending.memory_ended, Windows.Left, Windows.left_of}
 use Rattle.ttlv_run.proofs.BackLines.{with_feed, first_of_lines, only_line, line_text, through_line, behind_line, within_line}
-use Rattle.ttlv_run.proofs.Decided.{front_more, printing_by, unread_by}
+use Rattle.ttlv_run.proofs.Decided.{printing_by, unread_by}
 
 -- ---- lines that were printed
 
@@ -77,19 +80,20 @@ module _ {raw : Bool} {bytes : List ℕ} {place : ℕ} {text : List ℕ} (g : Gi
 
 -- ---- an input whose lines are printed as they come
 
-pub record JsonReading (job : JsonJob) (known now output output_now : Option (List ℕ)) (base at : ℕ) (bytes : List ℕ) : Type 0 where
+pub record JsonReading (job : JsonJob) (known now : Option (List ℕ)) (output output_now : Held) (base at : ℕ) (bytes : List ℕ) : Type 0 where
   pub taken : List ℕ
   pub text : List ℕ
   pub consumed : Consumes known now taken
   pub are : drop base taken ≡ bytes
   pub gives : GivesLines job.raw taken (base + at) text
-  pub appended : Appends output output_now text
+  pub appended : Gets output output_now text
 
-pub json_starts : {job : JsonJob} {known output : Option (List ℕ)} → Consumes known known [] → JsonReading job known known output output 0 0 []
+pub json_starts : {job : JsonJob} {known : Option (List ℕ)} {output : Held} → Consumes known known [] → JsonReading job known known output output 0 0 []
 json_starts {job} {output = output} consumed =
-    record { taken = []; text = []; consumed = consumed; are = refl; gives = gives_none job.raw []; appended = Appends-nil output }
+    record { taken = []; text = []; consumed = consumed; are = refl; gives = gives_none job.raw []; appended = gets_none output }
 
-module _ {job : JsonJob} {known now output mid : Option (List ℕ)} {base at : ℕ} {bytes : List ℕ} (p : JsonReading job known now output mid base at bytes) where
+module _ {job : JsonJob} {known now : Option (List ℕ)} {output mid : Held} {base at : ℕ} {bytes : List ℕ}
+    (p : JsonReading job known now output mid base at bytes) where
   pub json_of : {b : List ℕ} → b ≡ bytes → JsonReading job known now output mid base at b
   json_of is = subst (JsonReading job known now output mid base at) (sym is) p
 
@@ -111,7 +115,7 @@ module _ {job : JsonJob} {known now output mid : Option (List ℕ)} {base at : �
       }
 
   -- a line more
-  pub json_line : {new : Option (List ℕ)} {line : List ℕ} {error : Option JsonError} → IsLineAt bytes at line → error ≡ None
+  pub json_line : {new : Held} {line : List ℕ} {error : Option JsonError} → IsLineAt bytes at line → error ≡ None
       → PrintsBytes job.raw line mid new error
       → JsonReading job known now output new base (at + (length line + 1)) bytes
   json_line {new} {line} l none printed =
@@ -124,7 +128,7 @@ module _ {job : JsonJob} {known now output mid : Option (List ℕ)} {base at : �
         are = p.are;
         gives = subst (λ (n : ℕ). GivesLines job.raw p.taken n (p.text ++ reported.1.0)) here (gives_line p.gives (line_here l) reported.1.0 reported.0
             reported.1.1);
-        appended = Appends-trans output mid new p.text reported.1.0 p.appended reported.1.2;
+        appended = gets_both p.text reported.1.0 p.appended reported.1.2;
       }
 
   -- the next line: one with its line feed, or what is left at the end
@@ -140,12 +144,12 @@ module _ {job : JsonJob} {known now output mid : Option (List ℕ)} {base at : �
       let next = next_last p.gives l.left (l.none refl) (subst IsOneLine (sym place_is) one) in
       (l, subst (NextLine (p.taken ++ l.left) (base + at)) (place_is ∙ sym is) next)
 
-  module _ (new : Option (List ℕ)) where
+  module _ (can_fail : Bool) (new : Held) where
     abbrev streams : Streams
-    streams = record { input = known; input_left = now; output = output; output_now = new }
+    streams = record { can_fail = can_fail; input = known; input_left = now; output = output; output_now = new }
 
-    same_text : Appends mid new [] → Appends output new p.text
-    same_text none = subst (Appends output new) (append-nil p.text) (Appends-trans output mid new p.text [] p.appended none)
+    same_text : Gets mid new [] → Gets output new p.text
+    same_text none = subst (Gets output new) (append-nil p.text) (gets_both p.text [] p.appended none)
 
     -- the next line is bad, or no text, or fails
     module _ {last : Bool} {line : List ℕ} (n : (l : Left now last) × NextLine (p.taken ++ l.left) (base + at) line) where
@@ -172,8 +176,8 @@ module _ {job : JsonJob} {known now output mid : Option (List ℕ)} {base at : �
       whole = all_lines p.gives n.0.left ∙ ap (λ (t : List ℕ). p.gives.lines ++ lines_of t) (sym (rest_behind p.gives n.0.left))
           ∙ ap (λ (ls : List (List ℕ)). p.gives.lines ++ ls) n.1.first
 
-      spoiled : Spoils job.raw line mid new → UnwrittenJson job streams
-      spoiled (inl h) = record {
+      spoiled : (why : RunError) → Spoils job.raw why line mid new → UnwrittenJson job streams why
+      spoiled why (inl h) = record {
         input = p.taken ++ n.0.left;
         front = p.gives.lines ++ line ∷ [];
         rest = n.1.others;
@@ -183,9 +187,9 @@ module _ {job : JsonJob} {known now output mid : Option (List ℕ)} {base at : �
         there = whole ∙ sym (append_assoc p.gives.lines (line ∷ []) n.1.others);
         give = one_more p.gives.lines (p.gives.lines ++ line ∷ []) line p.text h.0 (p.text ++ h.0) (base + at) (base + at + length line + 1) p.gives.give h.1
             refl refl refl;
-        appended = front_more output mid new p.text h.0 p.appended h.2;
+        appended = prints_behind p.text h.0 p.appended h.2;
       }
-      spoiled (inr none) = record {
+      spoiled why (inr (memory, none)) = record {
         input = p.taken ++ n.0.left;
         front = p.gives.lines;
         rest = line ∷ n.1.others;
@@ -194,7 +198,7 @@ module _ {job : JsonJob} {known now output mid : Option (List ℕ)} {base at : �
         taken = taken_some;
         there = whole;
         give = p.gives.give;
-        appended = all_front output new p.text (same_text none);
+        appended = subst (λ (w : RunError). PrintsFront w output new p.text) (sym memory) (memory_ended p.text (same_text none));
       }
 
       pub json_fails : (why : RunError) → FailsAt job.raw line mid new why → FailsJson job streams why
@@ -209,7 +213,8 @@ module _ {job : JsonJob} {known now output mid : Option (List ℕ)} {base at : �
         no_text = reported.0;
         appended = same_text reported.1;
       }
-      json_fails why reported = let u = spoiled reported.1 in printing_by (FailsJson job streams) reported.0 u u u
+      json_fails why reported =
+          printing_by (λ why. UnwrittenJson job streams why → FailsJson job streams why) reported.0 (λ u. u) (λ u. u) (λ u. u) (spoiled why reported.1)
 
     -- the input ended behind a line
     pub json_ended : {line : List ℕ} → line ≡ drop at bytes → IsOneLine (drop at bytes) → IsAtEnd now → (error : Option JsonError)
@@ -231,7 +236,7 @@ module _ {job : JsonJob} {known now output mid : Option (List ℕ)} {base at : �
               (subst IsUtf8 rest reported.0));
           give = one_more p.gives.lines (lines_of p.taken) line p.text reported.1.0 (p.text ++ reported.1.0) (base + at) (base + at + length line + 1)
               p.gives.give reported.1.1 all refl refl;
-          appended = Appends-trans output mid new p.text reported.1.0 p.appended reported.1.2;
+          appended = gets_both p.text reported.1.0 p.appended reported.1.2;
         }
     json_ended is one end (Some error) reported = json_bad (json_rest is one end) refl reported
 
@@ -250,7 +255,8 @@ module _ {job : JsonJob} {known now output mid : Option (List ℕ)} {base at : �
       }
 
   -- nothing more was printed
-  pub json_no_memory : UnwrittenJson job (record { input = known; input_left = now; output = output; output_now = mid })
+  pub json_no_memory : {can_fail : Bool}
+      → UnwrittenJson job (record { can_fail = can_fail; input = known; input_left = now; output = output; output_now = mid }) NoMemory
   json_no_memory =
       let l = left_of now false (λ e. cc e) in
       record {
@@ -262,24 +268,28 @@ module _ {job : JsonJob} {known now output mid : Option (List ℕ)} {base at : �
         taken = record { front = p.taken; left = l.left; are = refl; taken = p.consumed; rest = l.are };
         there = all_lines p.gives l.left;
         give = p.gives.give;
-        appended = all_front output mid p.text p.appended;
+        appended = memory_ended p.text p.appended;
       }
 
-  unread : IsOneLine (drop at bytes) → (why : RunError) → IsUnread why
-      → FailsJson job (record { input = known; input_left = now; output = output; output_now = mid }) why
-  unread one why h = unread_by (FailsJson job (record { input = known; input_left = now; output = output; output_now = mid })) why h (record {
-    bytes = p.taken;
-    place = base + at;
-    text = p.text;
-    taken = p.consumed;
-    gives = p.gives;
-    one_line = subst IsOneLine (sym place_is) one;
-    appended = p.appended;
-  }) json_no_memory
+  unread : (can_fail : Bool) → IsOneLine (drop at bytes) → (why : RunError) → IsUnread can_fail why
+      → FailsJson job (record { can_fail = can_fail; input = known; input_left = now; output = output; output_now = mid }) why
+  unread can_fail one why h =
+      unread_by (FailsJson job (record { can_fail = can_fail; input = known; input_left = now; output = output; output_now = mid })) why h (λ can. (
+        can,
+        record {
+          bytes = p.taken;
+          place = base + at;
+          text = p.text;
+          taken = p.consumed;
+          gives = p.gives;
+          one_line = subst IsOneLine (sym place_is) one;
+          appended = p.appended;
+        },
+      )) json_no_memory
 
 -- reading failed, or memory ran out for it
-pub json_read_fails : {job : JsonJob} {known now next output mid : Option (List ℕ)} {base at : ℕ} {bytes before after : List ℕ}
+pub json_read_fails : {job : JsonJob} (can_fail : Bool) {known now next : Option (List ℕ)} {output mid : Held} {base at : ℕ} {bytes before after : List ℕ}
     → JsonReading job known now output mid base at bytes → before ≡ drop at bytes → IsOneLine (drop at bytes) → LinesFail now next before after
-    → (why : RunError) → IsUnread why
-    → FailsJson job (record { input = known; input_left = next; output = output; output_now = mid }) why
-json_read_fails p is one f = unread (json_came p is f.yields) (f.one_line (subst IsOneLine (sym is) one))
+    → (why : RunError) → IsUnread can_fail why
+    → FailsJson job (record { can_fail = can_fail; input = known; input_left = next; output = output; output_now = mid }) why
+json_read_fails can_fail p is one f = unread (json_came p is f.yields) can_fail (f.one_line (subst IsOneLine (sym is) one))

@@ -4,6 +4,7 @@ use Rattle.std.proofs.Common.{arith, append-nil, append_assoc}
 use Rattle.std.specs.Prelude.{slice_index}
 use Rattle.std.proofs.Math.Seq.{drop-append_seam}
 use Rattle.kmip_ttlv_items.specs.ItemWalks.{AreBytes}
+use Rattle.ttlv_run.specs.declared.run_error.RunError.{RunError}
 use Rattle.ttlv_run.specs.{declared.form.Form.Form, declared.form.LinePart.LinePart, declared.form.Step.Step, declared.job.Encoding.Encoding}
 use Rattle.ttlv_run.specs.{declared.job.Job.Job, declared.messages.Place.Place as FaultPlace, Messages.Breaks, Messages.Continues, Texts.Names}
 use Rattle.ttlv_run.specs.declared.form.Step.TheVariants.{Counts, Skips, Wrong}
@@ -159,8 +160,8 @@ module _ (names : Names) (job : Job) (s : Streams) (all : List ℕ) where
       record { bytes = all; stands = stands; prints = subst (λ (b : List ℕ). Breaks names job.task b f.text place) (sym h.are) (f.prints h.more h.none) }
 
   -- and a beginning is one of what is printed of all bytes
-  pub beginning_of_all : (u : Unwritten names job s) → AreBytes all → Stands job.encoding u.input all → Continues names job.task all u.text
-  beginning_of_all u plain stands =
+  pub beginning_of_all : (why : RunError) (u : Unwritten names job s why) → AreBytes all → Stands job.encoding u.input all → Continues names job.task all u.text
+  beginning_of_all why u plain stands =
       let h = further_of job.encoding u.input u.bytes all u.last u.stands stands in
       let others : AreBytes h.more = subst AreBytes (ap (drop (length u.bytes)) h.are ∙ drop-append_seam u.bytes h.more)
       (bytes_drop (length u.bytes) all plain) in

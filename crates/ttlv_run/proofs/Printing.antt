@@ -1,12 +1,13 @@
 -- What is printed of messages goes on behind each beginning, and what was added where printing failed is a beginning of it.
-use Rattle.std.proofs.Common.{◌≡◌, ◌<◌, ℕ, List, [], ◌++◌, get_or, Option, Result, Ok, Err, OnErr, ap, sym, refl, subst, ◌∙◌}
-use Rattle.std.specs.Borrow.{GName}
+use Rattle.std.proofs.Common.{◌≡◌, ◌<◌, ℕ, List, [], ◌++◌, get_or, inl, inr, Option, Result, Ok, Err, IfOk, OnErr, ap, sym, refl, subst, ◌∙◌}
 use Rattle.kmip_ttlv_items.specs.declared.found.{FoundItem.FoundItem, Fault.Fault}
 use Rattle.kmip_ttlv_items.specs.ItemWalks.{Meets, at_first, Ended, Ends}
 use Rattle.kmip_ttlv_items.proofs.Completes.{ends}
-use Rattle.kmip_ttlv_types.specs.Streams.{AppendsFront}
-use Rattle.kmip_ttlv_util.specs.Pieces.{SomeText, Moves}
-use Rattle.kmip_ttlv_util.proofs.Saying.{piece_ends}
+use Rattle.std.specs.declared.io.Error.{Error as IoFault}
+use Rattle.kmip_ttlv_types.specs.Held.{Held}
+use Rattle.kmip_ttlv_util.specs.Pieces.{SomeText, WritesFront}
+use Rattle.ttlv_run.specs.declared.run_error.RunError.{RunError}
+use Rattle.ttlv_run.specs.Reasons.{IsOfError, PrintsFront}
 use Rattle.ttlv_run.specs.declared.job.{Task.Task, Task.TheVariants.Show, Task.TheVariants.Json, Look.Look}
 use Rattle.kmip_ttlv_json.specs.declared.print.Hiding.{Hiding}
 use Rattle.kmip_ttlv_json.specs.Printings.{secrets_of, shown_of, IsJson}
@@ -68,11 +69,23 @@ broken_lines {names = names} {at} {bytes} {look = look} {q} {es} {xs} breaks a b
       holds = first a b _ _ h;
     }
 
--- ---- pieces over a writer
+-- ---- pieces over a sink
 
--- a beginning of what waited at the end was sent
-pub sent_front : {kind said : List ℕ → Type 0} {m n : GName} {a a' b c : Option (List ℕ)} {w v : List ℕ} → ((t : List ℕ) → said t → kind t)
-    → SomeText said (λ t. (n ≡ m) × Moves a' b w t v) → a' ≡ a → w ≡ [] → AppendsFront b c v
-    → SomeText kind (AppendsFront a c)
-sent_front {kind} {m = m} {n} {a} {a'} {b} {c} {w} {v} kinds s same none h =
-    piece_ends {T = ℕ} {E = ℕ} (Err 0) kind m n a a' b c w v (record { text = s.text; is = kinds s.text s.is; holds = s.holds }) same none tt h
+-- what holds of a result holds of another kind
+pub ok_so : {T E : Type 0} (r : Result T E) {P Q : T → Type 0} → IfOk r P → ((x : T) → P x → Q x) → IfOk r Q
+ok_so (Ok x) h f = f x h
+ok_so (Err e) h f = tt
+
+pub ok_all : {T E : Type 0} (r : Result T E) {Q : T → Type 0} → ((x : T) → Q x) → IfOk r Q
+ok_all (Ok x) f = f x
+ok_all (Err e) f = tt
+
+-- what was written in part, for this reason
+pub printed_front : {e : IoFault} {why : RunError} {old new : Held} {text : List ℕ} → IsOfError e why → WritesFront old new e text
+    → PrintsFront why old new text
+printed_front of h = record { appended = h.appended; reason = elim h.why [ inl tight ↦ inr tight | inr memory ↦ inl (of.1 memory) ] }
+
+-- where printing failed
+pub printed_text : {broken : List ℕ → Type 0} {e : IoFault} {why : RunError} {old new : Held} → IsOfError e why → SomeText broken (WritesFront old new e)
+    → SomeText broken (PrintsFront why old new)
+printed_text of w = record { text = w.text; is = w.is; holds = printed_front of w.holds }

@@ -1,7 +1,8 @@
 -- A text of digits that is decoded and printed as it comes.
 use Rattle.std.proofs.Common.{◌≡◌, ◌⊎◌, inl, inr, ℕ, ◌+◌, ◌≤◌, Bool, true, false, List, [], ◌∷◌, ◌++◌, length, take, drop, Some, None, Option, Ok, ap, sym}
 use Rattle.std.proofs.Common.{refl, subst, ◌∙◌, arith, append-nil, append_assoc, length-append, nat_eq}
-use Rattle.std.specs.Io.KnownBytes.{Appends, Consumes, IsAtEnd, Keeps}
+use Rattle.kmip_ttlv_types.specs.Held.{Held, Gets}
+use Rattle.std.specs.Io.KnownBytes.{Consumes, IsAtEnd, Keeps}
 use Rattle.std.proofs.{KnownBytes.Consumes-trans, KnownBytes.Consumes-kept, lemmas.Bool.le-ltb, lemmas.Bool.eqb-true, lemmas.List.take-append-drop}
 use Rattle.std.proofs.{Math.Seq.drop-append_seam}
 use Rattle.kmip_ttlv_items.specs.ItemWalks.{AreBytes}
@@ -177,7 +178,7 @@ text_starts {e} {known = known} {now} {piece} t mark mark_is piece_is consumed r
     }
 
 -- what is known of a text that is printed as it comes, in front of characters that were not decoded yet
-pub record TextPrinting (names : Names) (job : Job) (form : Form) (known now output output_now : Option (List ℕ)) (base : ℕ) (d : Decoder) (mark : ℕ)
+pub record TextPrinting (names : Names) (job : Job) (form : Form) (known now : Option (List ℕ)) (output output_now : Held) (base : ℕ) (d : Decoder) (mark : ℕ)
     (piece bytes : List ℕ) (ended : Bool) : Type 0 where
   pub m : List ℕ
   pub s : List ℕ
@@ -190,7 +191,7 @@ pub record TextPrinting (names : Names) (job : Job) (form : Form) (known now out
   pub shown : Shown names job.task output output_now base all bytes
 
 -- and when these are decoded
-pub record TextReady (names : Names) (job : Job) (form : Form) (known now output output_now : Option (List ℕ)) (base : ℕ) (d : Decoder) (mark : ℕ)
+pub record TextReady (names : Names) (job : Job) (form : Form) (known now : Option (List ℕ)) (output output_now : Held) (base : ℕ) (d : Decoder) (mark : ℕ)
     (bytes : List ℕ) (ended : Bool) (wrong : Option Undecoded) : Type 0 where
   pub m : List ℕ
   pub s : List ℕ
@@ -201,10 +202,11 @@ pub record TextReady (names : Names) (job : Job) (form : Form) (known now output
   pub input : TextInput job.encoding form known now m s ended
   pub shown : Shown names job.task output output_now base all bytes
 
-module _ {names : Names} {job : Job} {form : Form} {known now output mid : Option (List ℕ)} {base : ℕ} {d : Decoder} {mark : ℕ} {piece bytes : List ℕ}
+module _ {names : Names} {job : Job} {form : Form} {known now : Option (List ℕ)} {output mid : Held} {base : ℕ} {d : Decoder} {mark : ℕ} {piece bytes : List ℕ}
     {ended : Bool} (p : TextPrinting names job form known now output mid base d mark piece bytes ended) where
   -- memory ran out for their bytes
-  pub memory_before : Fails names job (record { input = known; input_left = now; output = output; output_now = mid }) NoMemory
+  pub memory_before : {can_fail : Bool}
+      → Fails names job (record { can_fail = can_fail; input = known; input_left = now; output = output; output_now = mid }) NoMemory
   memory_before =
       let left = (left_here p.input).left in
       let there = subst (λ (t : List ℕ). ReadsBytes form t p.all (one_or_none d.waiting ++ (piece ++ left))) (sym (append_assoc p.s piece left))
@@ -232,8 +234,8 @@ module _ {names : Names} {job : Job} {form : Form} {known now output mid : Optio
       by None h = h
       by (Some why) h = h
 
-module _ {names : Names} {job : Job} {form : Form} {known now output mid : Option (List ℕ)} {base : ℕ} {d : Decoder} {mark : ℕ} {bytes : List ℕ} {ended : Bool}
-    {wrong : Option Undecoded} (r : TextReady names job form known now output mid base d mark bytes ended wrong) where
+module _ {names : Names} {job : Job} {form : Form} {known now : Option (List ℕ)} {output mid : Held} {base : ℕ} {d : Decoder} {mark : ℕ} {bytes : List ℕ}
+    {ended : Bool} {wrong : Option Undecoded} (r : TextReady names job form known now output mid base d mark bytes ended wrong) where
   -- the input, and what it stands for
   abbrev left : Left now ended
   left = left_here r.input
@@ -256,12 +258,12 @@ module _ {names : Names} {job : Job} {form : Form} {known now output mid : Optio
   last_decoded : {b : Bool} → wrong ≡ None → ended ≡ b → DecodesLast d mark r.s b r.all
   last_decoded is end = subst (λ (b : Bool). DecodesLast d mark r.s b r.all) end (subst (State d mark r.s ended r.all) is r.state)
 
-  module _ {new : Option (List ℕ)} {place : ℕ} {rest : List ℕ} (f : Further names job.task output new place r.all rest) where
+  module _ {new : Held} {place : ℕ} {rest : List ℕ} (f : Further names job.task output new place r.all rest) where
     -- an error, behind whole messages
-    pub wrong_there : {why : Undecoded} → wrong ≡ Some why
-        → Fails names job (record { input = known; input_left = now; output = output; output_now = new })
+    pub wrong_there : {can_fail : Bool} {why : Undecoded} → wrong ≡ Some why
+        → Fails names job (record { can_fail = can_fail; input = known; input_left = now; output = output; output_now = new })
         (MisreadInput (record { taken = taken_as form; guessed = is_detected job.encoding; offset = why.offset; kind = why.kind }))
-    wrong_there {why} is =
+    wrong_there {why = why} is =
         let all = r.s ++ left.left in
         let form_is = decided_still r.input left.none in
         let taken = taken_is (encoding_of job.encoding (r.m ++ all)) form form_is in
@@ -276,14 +278,17 @@ module _ {names : Names} {job : Job} {form : Form} {known now output mid : Optio
 
     module _ (is : wrong ≡ None) (unended : ended ≡ false) where
       -- reading failed, or memory ran out for it
-      pub text_read_fails : (next : Option (List ℕ)) (why : RunError) → IsUnread why → Keeps now next
-          → Fails names job (record { input = known; input_left = next; output = output; output_now = new }) why
-      text_read_fails next why h keeps =
-          unread_by (Fails names job (record { input = known; input_left = next; output = output; output_now = new })) why h (record {
-            bytes = r.m ++ r.s;
-            taken = kept.consumed;
-            fronts = rw (le-ltb (length (r.m ++ r.s)) (front_size job.encoding (r.m ++ r.s)) (r.input.enough unended), r.input.reported) all_but_one;
-          }) (inr (no_memory f.shown f.plain (front_standing kept (reads_on r.form_is (last_decoded is unended) (left_here kept).left))))
+      pub text_read_fails : (can_fail : Bool) (next : Option (List ℕ)) (why : RunError) → IsUnread can_fail why → Keeps now next
+          → Fails names job (record { can_fail = can_fail; input = known; input_left = next; output = output; output_now = new }) why
+      text_read_fails can_fail next why h keeps =
+          unread_by (Fails names job (record { can_fail = can_fail; input = known; input_left = next; output = output; output_now = new })) why h (λ can. (
+            can,
+            record {
+              bytes = r.m ++ r.s;
+              taken = kept.consumed;
+              fronts = rw (le-ltb (length (r.m ++ r.s)) (front_size job.encoding (r.m ++ r.s)) (r.input.enough unended), r.input.reported) all_but_one;
+            },
+          )) (inr (no_memory f.shown f.plain (front_standing kept (reads_on r.form_is (last_decoded is unended) (left_here kept).left))))
         where
           kept : TextInput job.encoding form known next r.m r.s false
           kept = record {
@@ -326,9 +331,9 @@ module _ {names : Names} {job : Job} {form : Form} {known now output mid : Optio
       }
 
   -- all is printed
-  pub text_printed : {new : Option (List ℕ)} {last : Bool} {reached : Reached} {count : ℕ} → last ≡ is_last ended wrong → wrong ≡ None → ended ≡ true
-      → reached ≡ Behind count → EndsAt bytes last reached → SomeText (PrintsOn names job.task base bytes last reached) (Appends mid new)
-      → AllPrinted names job (record { input = known; input_left = now; output = output; output_now = new }) (base + count)
+  pub text_printed : {can_fail : Bool} {new : Held} {last : Bool} {reached : Reached} {count : ℕ} → last ≡ is_last ended wrong → wrong ≡ None → ended ≡ true
+      → reached ≡ Behind count → EndsAt bytes last reached → SomeText (PrintsOn names job.task base bytes last reached) (Gets mid new)
+      → AllPrinted names job (record { can_fail = can_fail; input = known; input_left = now; output = output; output_now = new }) (base + count)
   text_printed last_is is end at ends reported =
       let all : AllBytes form r.s r.all = subst (λ (f : Form). AllBytes f r.s r.all) r.form_is (last_decoded is end) in
       printed_all r.shown reported at ends (last_is ∙ ap (is_last ended) is ∙ end) (record { taken = r.input.consumed; ended = r.input.at_end end })

@@ -2,25 +2,25 @@
 use Rattle.std.proofs.Common.{◌≡◌, ◌⊎◌, inl, inr, ℕ, ◌+◌, ◌-◌, ◌<◌, ◌≤◌, Bool, true, false, ◌&&◌, if◌then◌else◌, List, [], ◌++◌, length, take, drop, take-add}
 use Rattle.std.proofs.Common.{get_or, Some, None, Option, Ok, Err, ◌==◌, IfSome, ap, sym, refl, subst, ◌∙◌, arith, append-nil, append_assoc, nat_eq}
 use Rattle.std.specs.Prelude.{◌||◌, nat_le, nat_lt}
-use Rattle.std.specs.Io.KnownBytes.{Appends, Consumes, IsAtEnd, Keeps}
-use Rattle.std.proofs.KnownBytes.{Appends-nil, Appends-trans, Consumes-trans, Consumes-kept}
+use Rattle.std.specs.Io.KnownBytes.{Consumes, IsAtEnd, Keeps}
+use Rattle.std.proofs.KnownBytes.{Consumes-trans, Consumes-kept}
 use Rattle.std.proofs.lemmas.Bool.{cases_lt, or_cases, eqb-true, leb-true, le-leb, ltb-true, le-ltb, and_parts}
 use Rattle.std.proofs.lemmas.List.{take-append-drop, get_or-take, get_or-drop, get_or_past, get_or_append_left, get_or-append_right, take-append-le}
 use Rattle.std.proofs.lemmas.List.{drop-append-le, nil_from_length, length-append, length-drop, length-take-le, drop-drop}
-use Rattle.kmip_ttlv_types.specs.{Places.length_at, Streams.AppendsFront}
-use Rattle.kmip_ttlv_types.proofs.Taken.{AppendsFront-second}
+use Rattle.kmip_ttlv_types.specs.{Places.length_at, Held.Held, Held.Gets}
+use Rattle.kmip_ttlv_types.proofs.Held.{gets_none, gets_both}
 use Rattle.kmip_ttlv_items.specs.{declared.found.Fault.Fault, ItemWalks.AreBytes}
 use Rattle.kmip_ttlv_util.specs.Pieces.{SomeText}
 use Rattle.ttlv_run.specs.declared.{form.Form.Form, job.Encoding.Encoding, job.Job.Job, job.Task.Task, messages.Place.Place, messages.Reached.Reached}
 use Rattle.ttlv_run.specs.declared.{messages.Reached.TheVariants.Behind, messages.Reached.TheVariants.Fault as AtFault, run_error.RunError.RunError}
-use Rattle.ttlv_run.specs.declared.run_error.RunError.TheVariants.{NoMessage}
+use Rattle.ttlv_run.specs.{declared.run_error.RunError.TheVariants.NoMessage, declared.run_error.RunError.TheVariants.NoMemory, Reasons.PrintsFront}
 use Rattle.ttlv_run.specs.Fronts.{front_size, StandsFrontIn, StandsUpTo}
 use Rattle.ttlv_run.specs.Inputs.{TakesAll, TakesSome, IsUnread, form_of, encoding_of, StandsIn, Stands}
 use Rattle.ttlv_run.specs.Messages.{is_there, first_size, message_at, is_taken, wants_message, Whole, whole_none, whole_more, IsWrong, Continues}
 use Rattle.ttlv_run.specs.Runs.{Streams, HasText, Places, Faults, Unwritten, Fronts, Fails}
 use Rattle.ttlv_run.specs.Streaming.{is_due, StandsAt, EndsAt, PrintsUpTo, PrintsOn, ContinuesBehind, Yields, YieldsBy}
 use Rattle.ttlv_run.specs.Texts.{Names, IsMessageText}
-use Rattle.ttlv_run.proofs.{Appending.all_front, Completion.whole_goes, Completion.goes_behind, Decided.unread_by}
+use Rattle.ttlv_run.proofs.{Appending.prints_behind, Appending.memory_ended, Completion.whole_goes, Completion.goes_behind, Decided.unread_by}
 use Rattle.ttlv_run.proofs.FrontsDecided.{Decided, either_by, decided_on}
 
 -- the length in a header is that of its bytes, whatever stands behind them
@@ -204,22 +204,22 @@ as_number false = 0
 
 -- what was printed of messages that come one by one: of the bytes that came, those behind a place are there, and what stands
 -- in front of it was printed
-pub record Shown (names : Names) (task : Task) (output output_now : Option (List ℕ)) (base : ℕ) (came bytes : List ℕ) : Type 0 where
+pub record Shown (names : Names) (task : Task) (output output_now : Held) (base : ℕ) (came bytes : List ℕ) : Type 0 where
   pub text : List ℕ
   pub plain : AreBytes (take base came)
   pub within : base ≤ length came
   pub are : drop base came ≡ bytes
   pub whole : (more : List ℕ) → Whole names task (came ++ more) base text
-  pub appended : Appends output output_now text
+  pub appended : Gets output output_now text
 
-pub shown_none : {names : Names} {task : Task} {output : Option (List ℕ)} {bytes : List ℕ} → Shown names task output output 0 bytes bytes
+pub shown_none : {names : Names} {task : Task} {output : Held} {bytes : List ℕ} → Shown names task output output 0 bytes bytes
 shown_none {output = output} = record {
   text = [];
   plain = no_bytes;
   within = omega arith;
   are = refl;
   whole = λ more. whole_none;
-  appended = Appends-nil output;
+  appended = gets_none output;
 }
 
 -- bytes that came, which an input stands for: all of them, or those of some front
@@ -229,12 +229,12 @@ pub record Standing (e : Encoding) (known now : Option (List ℕ)) (came : List 
   pub stands : StandsUpTo e input came last
 
 -- whole messages were printed up to a place, behind which no other is there as a whole
-pub record Further (names : Names) (task : Task) (output output_now : Option (List ℕ)) (base : ℕ) (came bytes : List ℕ) : Type 0 where
+pub record Further (names : Names) (task : Task) (output output_now : Held) (base : ℕ) (came bytes : List ℕ) : Type 0 where
   pub shown : Shown names task output output_now base came bytes
   pub plain : AreBytes bytes
   pub none : is_there bytes ≡ false
 
-module _ {names : Names} {task : Task} {output mid : Option (List ℕ)} {base : ℕ} {came bytes : List ℕ} (p : Shown names task output mid base came bytes) where
+module _ {names : Names} {task : Task} {output mid : Held} {base : ℕ} {came bytes : List ℕ} (p : Shown names task output mid base came bytes) where
   shown_long : length came ≡ base + length bytes
   shown_long = omega (arith, p.within, ap (λ (s : List ℕ). length s) p.are, length-drop base came)
 
@@ -274,14 +274,14 @@ module _ {names : Names} {task : Task} {output mid : Option (List ℕ)} {base : 
   }
 
   -- what is printed up to where printing ended
-  module _ {last : Bool} (reached : Reached) (now : Option (List ℕ)) (reported : SomeText (PrintsOn names task base bytes last reached) (Appends mid now)) where
+  module _ {last : Bool} (reached : Reached) (now : Held) (reported : SomeText (PrintsOn names task base bytes last reached) (Gets mid now)) where
     prints_to : {r : Reached} → reached ≡ r → (more : List ℕ) → (last ≡ true → more ≡ [])
         → PrintsUpTo names task (came ++ more) base (p.text ++ reported.text) r
     prints_to is more none = subst (PrintsUpTo names task (came ++ more) base (p.text ++ reported.text)) is
         (reported.is (came ++ more) p.text (stands more none) (p.whole more))
 
-    printed_to : Appends output now (p.text ++ reported.text)
-    printed_to = Appends-trans output mid now p.text reported.text p.appended reported.holds
+    printed_to : Gets output now (p.text ++ reported.text)
+    printed_to = gets_both p.text reported.text p.appended reported.holds
 
     -- whole messages, which are let go of
     pub goes_further : {count : ℕ} → reached ≡ Behind count → EndsAt bytes last reached → last ≡ false → AreBytes bytes
@@ -309,7 +309,7 @@ pub record AllPrinted (names : Names) (job : Job) (s : Streams) (count : ℕ) : 
   pub text : List ℕ
   pub taken : TakesAll s.input s.input_left input
   pub has : HasText names job input text None
-  pub appended : Appends s.output s.output_now text
+  pub appended : Gets s.output s.output_now text
   pub long : length has.bytes ≡ count
 
 -- nothing is printed of no bytes
@@ -327,7 +327,7 @@ behind_places {job = job} {s} {count} a true e =
       taken = a.taken;
       stands = subst (Stands job.encoding a.input) (nil_from_length a.has.bytes none) a.has.stands;
       wants = (and_parts (wants_message job.task) (count == 0) e).0;
-      appended = subst (Appends s.output s.output_now) (no_text a.has.prints none) a.appended;
+      appended = subst (Gets s.output s.output_now) (no_text a.has.prints none) a.appended;
     }
 behind_places {job = job} a false e = record {
   input = a.input;
@@ -338,16 +338,17 @@ behind_places {job = job} a false e = record {
   appended = a.appended;
 }
 
-module _ {names : Names} {job : Job} {output mid : Option (List ℕ)} {base : ℕ} {came bytes : List ℕ} (p : Shown names job.task output mid base came bytes)
+module _ {names : Names} {job : Job} {output mid : Held} {base : ℕ} {came bytes : List ℕ} (p : Shown names job.task output mid base came bytes)
   where
-    module _ {last : Bool} {reached : Reached} {now known left : Option (List ℕ)}
-        (reported : SomeText (PrintsOn names job.task base bytes last reached) (Appends mid now))
+    module _ {last : Bool} {reached : Reached} {now : Held} {known left : Option (List ℕ)}
+        (reported : SomeText (PrintsOn names job.task base bytes last reached) (Gets mid now))
       where
         -- whole messages, and all is printed
-        pub printed_all : {count : ℕ} {input : List ℕ} → reached ≡ Behind count → EndsAt bytes last reached → last ≡ true → TakesAll known left input
+        pub printed_all : {can_fail : Bool} {count : ℕ} {input : List ℕ} → reached ≡ Behind count → EndsAt bytes last reached → last ≡ true
+            → TakesAll known left input
             → Stands job.encoding input came
-            → AllPrinted names job (record { input = known; input_left = left; output = output; output_now = now }) (base + count)
-        printed_all {count} {input} is ends end taken stands_for =
+            → AllPrinted names job (record { can_fail = can_fail; input = known; input_left = left; output = output; output_now = now }) (base + count)
+        printed_all {count = count} {input} is ends end taken stands_for =
             let all : count ≡ length bytes = subst (λ (b : Bool). EndsAt bytes b (Behind count)) end (subst (EndsAt bytes last) is ends) in
             let text = p.text ++ reported.text in
             let whole : Whole names job.task (came ++ []) (length came) text =
@@ -367,8 +368,8 @@ module _ {names : Names} {job : Job} {output mid : Option (List ℕ)} {base : �
             }
 
         -- a fault
-        pub faults : {place : Place} → reached ≡ AtFault place → Standing job.encoding known left came last
-            → Faults names job (record { input = known; input_left = left; output = output; output_now = now }) place
+        pub faults : {can_fail : Bool} {place : Place} → reached ≡ AtFault place → Standing job.encoding known left came last
+            → Faults names job (record { can_fail = can_fail; input = known; input_left = left; output = output; output_now = now }) place
         faults is k = record {
           input = k.input;
           bytes = came;
@@ -382,9 +383,9 @@ module _ {names : Names} {job : Job} {output mid : Option (List ℕ)} {base : �
 
     module _ {last : Bool} {known left : Option (List ℕ)} (plain : AreBytes bytes) (k : Standing job.encoding known left came last) where
       -- printing failed
-      pub fails_in : {now : Option (List ℕ)} → SomeText (ContinuesBehind names job.task base bytes last) (AppendsFront mid now)
-          → Unwritten names job (record { input = known; input_left = left; output = output; output_now = now })
-      fails_in {now} reported = record {
+      pub fails_in : {can_fail : Bool} {why : RunError} {now : Held} → SomeText (ContinuesBehind names job.task base bytes last) (PrintsFront why mid now)
+          → Unwritten names job (record { can_fail = can_fail; input = known; input_left = left; output = output; output_now = now }) why
+      fails_in reported = record {
         input = k.input;
         bytes = came;
         last = last;
@@ -392,11 +393,12 @@ module _ {names : Names} {job : Job} {output mid : Option (List ℕ)} {base : �
         taken = k.taken;
         stands = k.stands;
         continues = λ more none others. reported.is (came ++ more) p.text (stands p more none) (plain_all p plain more others) (p.whole more);
-        appended = AppendsFront-second output mid now p.text reported.text p.appended reported.holds;
+        appended = prints_behind p.text reported.text p.appended reported.holds;
       }
 
       -- memory ran out behind whole messages
-      pub no_memory : Unwritten names job (record { input = known; input_left = left; output = output; output_now = mid })
+      pub no_memory : {can_fail : Bool}
+          → Unwritten names job (record { can_fail = can_fail; input = known; input_left = left; output = output; output_now = mid }) NoMemory
       no_memory = record {
         input = k.input;
         bytes = came;
@@ -406,7 +408,7 @@ module _ {names : Names} {job : Job} {output mid : Option (List ℕ)} {base : �
         stands = k.stands;
         continues = λ more none others. whole_goes names job.task (came ++ more) (plain_bytes (came ++ more) (plain_all p plain more others)) base p.text
             (omega (arith, p.within, length-append came more)) (p.whole more);
-        appended = all_front output mid p.text p.appended;
+        appended = memory_ended p.text p.appended;
       }
 
 -- ---- a raw input
@@ -453,24 +455,25 @@ module _ {e : Encoding} {known now : Option (List ℕ)} {came : List ℕ} {ended
       }
 
 -- what is known of raw messages that are printed as they come
-pub record Printing (names : Names) (job : Job) (known now output output_now : Option (List ℕ)) (base : ℕ) (bytes : List ℕ) (ended : Bool) : Type 0 where
+pub record Printing (names : Names) (job : Job) (known now : Option (List ℕ)) (output output_now : Held) (base : ℕ) (bytes : List ℕ)
+    (ended : Bool) : Type 0 where
   pub came : List ℕ
   pub shown : Shown names job.task output output_now base came bytes
   pub input : RawInput job.encoding known now came ended
 
-module _ {names : Names} {job : Job} {known now output mid : Option (List ℕ)} {base : ℕ} {bytes : List ℕ} {ended : Bool}
+module _ {names : Names} {job : Job} {known now : Option (List ℕ)} {output mid : Held} {base : ℕ} {bytes : List ℕ} {ended : Bool}
     (p : Printing names job known now output mid base bytes ended) where
   pub of_bytes : {b : List ℕ} → b ≡ bytes → Printing names job known now output mid base b ended
   of_bytes is = record { came = p.came; shown = subst (Shown names job.task output mid base p.came) (sym is) p.shown; input = p.input }
 
   -- whole messages, and all is printed
-  pub printed : {output_now : Option (List ℕ)} {reached : Reached} {count : ℕ} → reached ≡ Behind count → EndsAt bytes ended reached → ended ≡ true
-      → SomeText (PrintsOn names job.task base bytes ended reached) (Appends mid output_now)
-      → AllPrinted names job (record { input = known; input_left = now; output = output; output_now = output_now }) (base + count)
+  pub printed : {can_fail : Bool} {output_now : Held} {reached : Reached} {count : ℕ} → reached ≡ Behind count → EndsAt bytes ended reached → ended ≡ true
+      → SomeText (PrintsOn names job.task base bytes ended reached) (Gets mid output_now)
+      → AllPrinted names job (record { can_fail = can_fail; input = known; input_left = now; output = output; output_now = output_now }) (base + count)
   printed is ends end reported = printed_all p.shown reported is ends end (record { taken = p.input.consumed; ended = p.input.at_end end })
       (raw_stands job.encoding p.came p.input.raw)
 
-  module _ {new : Option (List ℕ)} {place : ℕ} {rest : List ℕ} (f : Further names job.task output new place p.came rest) (unended : ended ≡ false) where
+  module _ {new : Held} {place : ℕ} {rest : List ℕ} (f : Further names job.task output new place p.came rest) (unended : ended ≡ false) where
     -- more bytes came
     pub more_came : {next : Option (List ℕ)} {before after : List ℕ} {count : ℕ} → before ≡ rest → YieldsBy now next before after count
         → Printing names job known next output new place after (nat_eq count 0)
@@ -481,17 +484,20 @@ module _ {names : Names} {job : Job} {known now output mid : Option (List ℕ)} 
     }
 
     -- reading failed, or memory ran out for it, in front of a message that isn't there as a whole
-    pub read_fails : (next : Option (List ℕ)) (why : RunError) → IsUnread why → Keeps now next
-        → Fails names job (record { input = known; input_left = next; output = output; output_now = new }) why
-    read_fails next why h keeps =
+    pub read_fails : (can_fail : Bool) (next : Option (List ℕ)) (why : RunError) → IsUnread can_fail why → Keeps now next
+        → Fails names job (record { can_fail = can_fail; input = known; input_left = next; output = output; output_now = new }) why
+    read_fails can_fail next why h keeps =
         let still : RawInput job.encoding known next p.came false = record {
           consumed = Consumes-kept known now next p.came p.input.consumed keeps;
           raw = p.input.raw;
           enough = λ _. p.input.enough unended;
           at_end = λ end. cc;
         } in
-        unread_by (Fails names job (record { input = known; input_left = next; output = output; output_now = new })) why h (record {
-          bytes = p.came;
-          taken = still.consumed;
-          fronts = rw (le-ltb (length p.came) (front_size job.encoding p.came) (p.input.enough unended), p.input.raw) (fronts f.shown f.none);
-        }) (inr (no_memory f.shown f.plain (raw_standing still)))
+        unread_by (Fails names job (record { can_fail = can_fail; input = known; input_left = next; output = output; output_now = new })) why h (λ can. (
+          can,
+          record {
+            bytes = p.came;
+            taken = still.consumed;
+            fronts = rw (le-ltb (length p.came) (front_size job.encoding p.came) (p.input.enough unended), p.input.raw) (fronts f.shown f.none);
+          },
+        )) (inr (no_memory f.shown f.plain (raw_standing still)))

@@ -2,8 +2,6 @@
 use Rattle.std.specs.Borrow.{Bor}
 use Rattle.std.specs.Prelude.{◌≡◌, ◌⊎◌, ℕ, ◌≤◌, Bool, true, false, List, [], ◌∷◌, ◌++◌, length, take, nat_lt, if◌then◌else◌}
 use Rattle.std.specs.Prelude.{Option, Some, None, Result, Ok, Err}
-use Rattle.std.specs.Io.KnownBytes.{Keeps}
-use Rattle.kmip_ttlv_types.specs.Streams.{AppendsFront}
 use Rattle.ttlv_run.specs.declared.job.Asked.{Asked}
 use Rattle.ttlv_run.specs.declared.job.Asked.TheVariants.{Print, ReadBack, FromJson}
 use Rattle.ttlv_run.specs.declared.job.BackJob.{BackJob}
@@ -11,6 +9,9 @@ use Rattle.ttlv_run.specs.declared.job.Job.{Job}
 use Rattle.ttlv_run.specs.declared.job.JsonJob.{JsonJob}
 use Rattle.ttlv_run.specs.declared.run_error.RunError.{RunError}
 use Rattle.ttlv_run.specs.declared.run_error.RunError.TheVariants.{UnopenedInput, UnwritableOutput, ClosedPipe}
+use Rattle.std.specs.Io.KnownBytes.{Keeps}
+use Rattle.kmip_ttlv_types.specs.Streams.{AppendsFront}
+use Rattle.kmip_ttlv_types.specs.Held.{Held, Rests}
 use Rattle.ttlv_run.specs.JsonLines.{PrintedJson, MalformedJson, AbortedJson, JsonEnds}
 use Rattle.ttlv_run.specs.Reasons.{status_in, error_line}
 use Rattle.ttlv_run.specs.Runs.{Streams, Printed, Malformed, Lacking, Aborted, RunEnds, PrintedBack, MalformedBack, AbortedBack, BackEnds}
@@ -63,13 +64,14 @@ IsEnded names (FromJson raw) name s errors errors_now outcome =
 -- what opens inputs, and what the output and the errors hold, as far as that is known
 pub record At (O : Type 0) : Type 0 where
   pub opener : O
-  pub output : Option (List ℕ)
+  pub output : Held
   pub errors : Option (List ℕ)
 
--- how inputs are opened, and what they have
+-- how inputs are opened, what they have, and whether they can fail
 pub record Opening (O I : Type 0) : Type 1 where
   pub opens : O → List ℕ → Option I → O → Type 0
-  pub remaining : I → Option (List ℕ)
+  pub left : I → Option (List ℕ)
+  pub can_fail : Bool
 
 -- with a file: the input of its name was opened, and what was asked is done with its bytes; or it could not be opened,
 -- and this is reported
@@ -79,7 +81,8 @@ pub data FileDone
   opened :
       (input : I) (s : Streams)
       → how.opens old.opener name.now (Some input) new.opener
-      → s.input ≡ how.remaining input
+      → s.can_fail ≡ how.can_fail
+      → s.input ≡ how.left input
       → s.output ≡ old.output
       → s.output_now ≡ new.output
       → IsEnded names asked name s old.errors new.errors outcome
@@ -87,7 +90,7 @@ pub data FileDone
   unopened :
       how.opens old.opener name.now None new.opener
       → outcome ≡ Err UnopenedInput
-      → Keeps old.output new.output
+      → Rests old.output new.output
       → AppendsFront old.errors new.errors (error_line name.now UnopenedInput)
       → FileDone how names asked name old new outcome
 

@@ -1,5 +1,5 @@
 -- What was taken from a reader, and the bytes of messages that an input stands for.
-use Rattle.std.specs.Prelude.{◌≡◌, ℕ, ◌-◌, ◌%◌, ◌<◌, Bool, true, false, ◌==◌, ◌&&◌, List, [], ◌++◌, length}
+use Rattle.std.specs.Prelude.{◌≡◌, ℕ, ◌-◌, ◌%◌, ◌<◌, Bool, true, false, ◌==◌, ◌&&◌, List, [], ◌++◌, length, IsTrue}
 use Rattle.std.specs.Prelude.{slice_index, nat_lt, Option, Some, None, IfSome, Result, Ok, Err, if◌then◌else◌}
 use Rattle.std.specs.Io.KnownBytes.{Consumes, IsAtEnd}
 use Rattle.hex.specs.Hex as hex
@@ -33,11 +33,11 @@ pub record TakesSome (old new : Option (List ℕ)) (bytes : List ℕ) : Type 0 w
   pub taken : Consumes old new front
   pub rest : IfSome new (λ known. known ≡ left)
 
--- why an input was not taken
-abbrev pub IsUnread : RunError → Type 0
-IsUnread UnreadableInput = Unit {0}
-IsUnread NoMemory = Unit {0}
-IsUnread _ = ⊥
+-- why an input was not taken: reading failed, if it can, or memory ran out
+abbrev pub IsUnread : Bool → RunError → Type 0
+IsUnread can_fail UnreadableInput = IsTrue can_fail
+IsUnread can_fail NoMemory = Unit {0}
+IsUnread can_fail _ = ⊥
 
 -- the digits of a text
 pub record Kept (form : Form) (s digits : List ℕ) : Type 0 where

@@ -2,10 +2,11 @@
 use Rattle.std.specs.Prelude.{◌≡◌, ◌≢◌, ◌⊎◌, ℕ, ◌+◌, ◌≤◌, Bool, true, false, List, [], ◌∷◌, ◌++◌, length, take, drop, Option, Some, None, Result, Ok, Err}
 use Rattle.std.specs.Prelude.{◌==◌, ◌||◌, IsTrue, EachIndex, slice_index, codes}
 use Rattle.std.specs.Fmt.{decimal}
-use Rattle.std.specs.Io.KnownBytes.{Appends, Consumes, Keeps}
+use Rattle.std.specs.Io.KnownBytes.{Consumes, Keeps}
 use Rattle.std.specs.Str.{IsUtf8}
 use Rattle.hex.specs.Hex.{encode_upper}
 use Rattle.kmip_ttlv_types.specs.Streams.{AppendsFront}
+use Rattle.kmip_ttlv_types.specs.Held.{Held, Gets}
 use Rattle.kmip_ttlv_json.specs.declared.failure.JsonError.{JsonError}
 use Rattle.kmip_ttlv_json.specs.declared.failure.JsonError.TheVariants.{NotJson, TooDeep, OutOfMemory}
 use Rattle.kmip_ttlv_json.specs.Readings.{IsReadAs, FailsToRead, error_words}
@@ -18,7 +19,7 @@ use Rattle.ttlv_run.specs.declared.run_error.RunError.TheVariants.{UnwritableOut
 use Rattle.ttlv_run.specs.Backs.{IsOneLine}
 use Rattle.ttlv_run.specs.Columns.{body}
 use Rattle.ttlv_run.specs.Inputs.{TakesAll, TakesSome}
-use Rattle.ttlv_run.specs.Reasons.{IsOfPrinting, place_report, status_of, error_line}
+use Rattle.ttlv_run.specs.Reasons.{IsOfPrinting, place_report, status_of, error_line, PrintsFront}
 use Rattle.ttlv_run.specs.Runs.{Streams}
 
 -- what is printed of a message: its bytes, or these in hexadecimal and a line feed
@@ -47,14 +48,14 @@ pub record IsBad (line : List ℕ) (error : JsonError) : Type 0 where
   pub reported : error ≢ OutOfMemory
 
 -- what was appended to the output of a line, or why it is bad
-abbrev pub Prints : Bool → List ℕ → Option (List ℕ) → Option (List ℕ) → Option JsonError → Type 0
-Prints raw line old new None = (text : List ℕ) × GivesLine raw line text × Appends old new text
-Prints raw line old new (Some error) = IsBad line error × Appends old new []
+abbrev pub Prints : Bool → List ℕ → Held → Held → Option JsonError → Type 0
+Prints raw line old new None = (text : List ℕ) × GivesLine raw line text × Gets old new text
+Prints raw line old new (Some error) = IsBad line error × Gets old new []
 
--- what was appended of a line by a call that failed: a beginning of what is printed of it, or nothing
-abbrev pub Spoils : Bool → List ℕ → Option (List ℕ) → Option (List ℕ) → Type 0
-Spoils raw line old new =
-    ((text : List ℕ) × GivesLine raw line text × AppendsFront old new text) ⊎ Appends old new []
+-- what was appended of a line by a call that failed: a beginning of what is printed of it, or nothing as memory ran out
+abbrev pub Spoils : Bool → RunError → List ℕ → Held → Held → Type 0
+Spoils raw why line old new =
+    ((text : List ℕ) × GivesLine raw line text × PrintsFront why old new text) ⊎ ((why ≡ NoMemory) × Gets old new [])
 
 -- what is printed of some lines, none of which is bad, and where the next line begins
 pub data AllGive (raw : Bool) : List (List ℕ) → List ℕ → ℕ → Type 0 where
@@ -69,13 +70,13 @@ pub data AllGive (raw : Bool) : List (List ℕ) → List ℕ → ℕ → Type 0 
       → AllGive raw more all next
 
 -- the bytes of a line are text, and what is said above was appended
-abbrev pub PrintsBytes : Bool → List ℕ → Option (List ℕ) → Option (List ℕ) → Option JsonError → Type 0
+abbrev pub PrintsBytes : Bool → List ℕ → Held → Held → Option JsonError → Type 0
 PrintsBytes raw line old new error = IsUtf8 line × Prints raw line old new error
 
 -- or they aren't, or printing failed
-abbrev pub FailsAt : Bool → List ℕ → Option (List ℕ) → Option (List ℕ) → RunError → Type 0
-FailsAt raw line old new NotUtf8 = (IsUtf8 line → ⊥) × Appends old new []
-FailsAt raw line old new why = IsOfPrinting why × Spoils raw line old new
+abbrev pub FailsAt : Bool → List ℕ → Held → Held → RunError → Type 0
+FailsAt raw line old new NotUtf8 = (IsUtf8 line → ⊥) × Gets old new []
+FailsAt raw line old new why = IsOfPrinting why × Spoils raw why line old new
 
 -- where a line begins, and what is wrong with it, if anything is
 abbrev pub fault_at : ℕ → Option JsonError → Option LineFault
@@ -115,7 +116,7 @@ pub record PrintedJson (job : JsonJob) (s : Streams) : Type 0 where
   pub taken : TakesAll s.input s.input_left input
   pub is_text : IsUtf8 input
   pub give : AllGive job.raw (lines_of input) text place
-  pub appended : Appends s.output s.output_now text
+  pub appended : Gets s.output s.output_now text
 
 -- a line of the input is bad, and exactly what is printed of the lines before it was appended
 pub record FaultsJson (job : JsonJob) (s : Streams) (fault : LineFault) : Type 0 where
@@ -127,7 +128,7 @@ pub record FaultsJson (job : JsonJob) (s : Streams) (fault : LineFault) : Type 0
   pub next : NextLine input fault.offset line
   pub is_text : IsUtf8 line
   pub bad : IsBad line fault.error
-  pub appended : Appends s.output s.output_now text
+  pub appended : Gets s.output s.output_now text
 
 -- and a beginning of the line that says so was appended to the errors
 pub record MalformedJson (job : JsonJob) (s : Streams) (errors errors_now : Option (List ℕ)) : Type 0 where
@@ -143,7 +144,7 @@ pub record UnreadJson (job : JsonJob) (s : Streams) : Type 0 where
   pub taken : Consumes s.input s.input_left bytes
   pub gives : GivesLines job.raw bytes place text
   pub one_line : IsOneLine (drop place bytes)
-  pub appended : Appends s.output s.output_now text
+  pub appended : Gets s.output s.output_now text
 
 -- a line of the input is no text, and exactly what is printed of the lines before it was appended
 pub record NoTextJson (job : JsonJob) (s : Streams) : Type 0 where
@@ -155,10 +156,10 @@ pub record NoTextJson (job : JsonJob) (s : Streams) : Type 0 where
   pub gives : GivesLines job.raw input place text
   pub next : NextLine input place line
   pub no_text : IsUtf8 line → ⊥
-  pub appended : Appends s.output s.output_now text
+  pub appended : Gets s.output s.output_now text
 
 -- a beginning of what is printed of a front of the input's lines was appended
-pub record UnwrittenJson (job : JsonJob) (s : Streams) : Type 0 where
+pub record UnwrittenJson (job : JsonJob) (s : Streams) (why : RunError) : Type 0 where
   pub input : List ℕ
   pub front : List (List ℕ)
   pub rest : List (List ℕ)
@@ -167,15 +168,15 @@ pub record UnwrittenJson (job : JsonJob) (s : Streams) : Type 0 where
   pub taken : TakesSome s.input s.input_left input
   pub there : lines_of input ≡ front ++ rest
   pub give : AllGive job.raw front text place
-  pub appended : AppendsFront s.output s.output_now text
+  pub appended : PrintsFront why s.output s.output_now text
 
 -- why not all lines were printed, and what was done by then
 abbrev pub FailsJson : JsonJob → Streams → RunError → Type 0
-FailsJson job s UnreadableInput = UnreadJson job s
+FailsJson job s UnreadableInput = IsTrue s.can_fail × UnreadJson job s
 FailsJson job s NotUtf8 = NoTextJson job s
-FailsJson job s UnwritableOutput = UnwrittenJson job s
-FailsJson job s ClosedPipe = UnwrittenJson job s
-FailsJson job s NoMemory = UnwrittenJson job s
+FailsJson job s UnwritableOutput = UnwrittenJson job s UnwritableOutput
+FailsJson job s ClosedPipe = UnwrittenJson job s ClosedPipe
+FailsJson job s NoMemory = UnwrittenJson job s NoMemory
 FailsJson job s _ = ⊥
 
 abbrev pub RespondsJson : JsonJob → Streams → Result (Option LineFault) RunError → Type 0

@@ -1,12 +1,16 @@
 -- Why a run ends early, and the line that says so.
-use Rattle.std.specs.Prelude.{◌≡◌, ◌⊎◌, ℕ, Bool, true, false, List, [], ◌++◌, Option, Some, None, Result, Ok, Err, codes}
-use Rattle.std.specs.Io.KnownBytes.{Appends}
+use Rattle.std.specs.Prelude.{◌≡◌, ◌⊎◌, ℕ, Bool, true, false, List, [], ◌++◌, length, Option, Some, None, Result, Ok, Err, codes}
 use Rattle.std.specs.Fmt.{decimal}
-use Rattle.kmip_ttlv_types.specs.Streams.{AppendsFront}
+use Rattle.std.specs.IoError.{error_kind}
+use Rattle.std.specs.declared.io.Error.{Error as IoFault}
+use Rattle.std.specs.declared.io.ErrorKind.TheVariants.{OutOfMemory}
 use Rattle.ttlv_run.specs.declared.run_error.RunError.{RunError}
 use Rattle.ttlv_run.specs.declared.run_error.RunError.TheVariants.{UnopenedInput, UnreadableInput, MisreadInput}
 use Rattle.ttlv_run.specs.declared.run_error.RunError.TheVariants.{NotUtf8, NoMessage, UnwritableOutput, ClosedPipe, NoMemory}
 use Rattle.ttlv_run.specs.Escapes.{escaped}
+use Rattle.std.specs.Io.KnownBytes.{Appends}
+use Rattle.kmip_ttlv_types.specs.Held.{Held}
+use Rattle.kmip_ttlv_types.specs.Streams.{AppendsFront, IsTight}
 use Rattle.ttlv_run.specs.Misreadings.{misread_line}
 
 -- 1 for an input without a message, 2 for one that can't be read or decoded, 3 where memory or the output fails
@@ -40,6 +44,15 @@ words_of NoMemory = codes "out of memory"
 -- the output, or out of memory: why printing can fail
 abbrev pub IsOfPrinting : RunError → Type 0
 IsOfPrinting why = (why ≡ UnwritableOutput) ⊎ (why ≡ ClosedPipe) ⊎ (why ≡ NoMemory)
+
+-- a beginning of a text was printed, for this reason: memory ran out, or there is no room for all of it, if that is known
+pub record PrintsFront (why : RunError) (old new : Held) (text : List ℕ) : Type 0 where
+  pub appended : AppendsFront old.pending new.pending text
+  pub reason : (why ≡ NoMemory) ⊎ IsTight old.room (length text)
+
+-- the error of a write that failed, or of memory that ran out
+abbrev pub IsOfError : IoFault → RunError → Type 0
+IsOfError e why = IsOfPrinting why × (error_kind e ≡ OutOfMemory → why ≡ NoMemory)
 
 -- the beginning of a line: what the input is called, and the offset in it, if one is given
 abbrev pub place_report : List ℕ → Option ℕ → List ℕ

@@ -1,8 +1,7 @@
 -- What a run takes, prints and says.
-use Rattle.std.specs.Prelude.{◌≡◌, ◌⊎◌, ℕ, Bool, true, false, List, [], ◌∷◌, ◌++◌, ◌≤◌, ◌==◌, ◌&&◌, length, drop, nat_lt, Option, Some, None, Result, Ok, Err, if◌then◌else◌}
-use Rattle.std.specs.Io.KnownBytes.{Appends, Consumes, Keeps}
+use Rattle.std.specs.Prelude.{◌≡◌, ◌⊎◌, ℕ, Bool, true, false, List, [], ◌∷◌, ◌++◌, ◌≤◌, ◌==◌, ◌&&◌, length, drop, nat_lt, Option, Some, None, Result, Ok, Err, IsTrue, if◌then◌else◌}
+use Rattle.std.specs.Io.KnownBytes.{Consumes, Keeps}
 use Rattle.kmip_ttlv_items.specs.ItemWalks.{AreBytes}
-use Rattle.kmip_ttlv_types.specs.Streams.{AppendsFront}
 use Rattle.std.specs.Str.{IsUtf8}
 use Rattle.ttlv_run.specs.declared.form.Form.{Form}
 use Rattle.ttlv_run.specs.declared.job.Job.{Job}
@@ -16,18 +15,21 @@ use Rattle.ttlv_run.specs.declared.run_error.RunError.TheVariants.{UnwritableOut
 use Rattle.kmip_ttlv_names.specs.NameTables.{lines_of}
 use Rattle.ttlv_run.specs.declared.back.BackFault.{BackFault}
 use Rattle.ttlv_run.specs.Backs.{FirstBreak, IsOneLine, AreLines, ReadsLines, back_line}
+use Rattle.kmip_ttlv_types.specs.Streams.{AppendsFront}
+use Rattle.kmip_ttlv_types.specs.Held.{Held, Gets, Rests}
 use Rattle.ttlv_run.specs.Fronts.{front_size, DecodesTo, StandsUpTo}
 use Rattle.ttlv_run.specs.Inputs.{TakesAll, TakesSome, form_of, encoding_of, Stands, Misreads}
 use Rattle.ttlv_run.specs.Messages.{is_there, wants_message, Whole, Prints, Continues, Breaks as MessageBreaks, fault_line, told}
-use Rattle.ttlv_run.specs.Reasons.{status_of, error_line}
+use Rattle.ttlv_run.specs.Reasons.{status_of, error_line, PrintsFront}
 use Rattle.ttlv_run.specs.Texts.{Names, text_back}
 
--- what the input has and what the output holds, before and after a run, as far as that is known
+-- whether the input can fail, what it has, and what the output holds, before and after a run, as far as that is known
 pub record Streams : Type 0 where
+  pub can_fail : Bool
   pub input : Option (List ℕ)
   pub input_left : Option (List ℕ)
-  pub output : Option (List ℕ)
-  pub output_now : Option (List ℕ)
+  pub output : Held
+  pub output_now : Held
 
 -- no message stands in bytes, and the task wants one
 abbrev pub lacks_message : Task → List ℕ → Bool
@@ -47,7 +49,7 @@ pub record Printed (names : Names) (job : Job) (s : Streams) : Type 0 where
   pub taken : TakesAll s.input s.input_left input
   pub has : HasText names job input text None
   pub some : lacks_message job.task has.bytes ≡ false
-  pub appended : Appends s.output s.output_now text
+  pub appended : Gets s.output s.output_now text
 
 -- the whole input was taken, it stands for no bytes, and the task wants a message; nothing was appended
 pub record Empty (job : Job) (s : Streams) : Type 0 where
@@ -55,7 +57,7 @@ pub record Empty (job : Job) (s : Streams) : Type 0 where
   pub taken : TakesAll s.input s.input_left input
   pub stands : Stands job.encoding input []
   pub wants : wants_message job.task ≡ true
-  pub appended : Appends s.output s.output_now []
+  pub appended : Gets s.output s.output_now []
 
 -- behind a front of the input, or all of it, stands a message that is wrong, whatever follows; and exactly what is printed up to
 -- its fault was appended to the output
@@ -67,7 +69,7 @@ pub record Faults (names : Names) (job : Job) (s : Streams) (place : Place) : Ty
   pub taken : TakesSome s.input s.input_left input
   pub stands : StandsUpTo job.encoding input bytes last
   pub prints : (more : List ℕ) → (last ≡ true → more ≡ []) → MessageBreaks names job.task (bytes ++ more) text place
-  pub appended : Appends s.output s.output_now text
+  pub appended : Gets s.output s.output_now text
 
 -- and this line says so
 pub record Breaks (names : Names) (job : Job) (s : Streams) (line : List ℕ) : Type 0 where
@@ -75,9 +77,9 @@ pub record Breaks (names : Names) (job : Job) (s : Streams) (line : List ℕ) : 
   pub faults : Faults names job s place
   pub says : line ≡ fault_line names job.name.now (told job.task place)
 
--- a beginning of what is printed of the input was appended to the output, whatever follows the bytes that a front of it, or all
--- of it, stands for
-pub record Unwritten (names : Names) (job : Job) (s : Streams) : Type 0 where
+-- for this reason a beginning of what is printed of the input was appended to the output, whatever follows the bytes that a front
+-- of it, or all of it, stands for
+pub record Unwritten (names : Names) (job : Job) (s : Streams) (why : RunError) : Type 0 where
   pub input : List ℕ
   pub bytes : List ℕ
   pub last : Bool
@@ -85,19 +87,19 @@ pub record Unwritten (names : Names) (job : Job) (s : Streams) : Type 0 where
   pub taken : TakesSome s.input s.input_left input
   pub stands : StandsUpTo job.encoding input bytes last
   pub continues : (more : List ℕ) → (last ≡ true → more ≡ []) → AreBytes more → Continues names job.task (bytes ++ more) text
-  pub appended : AppendsFront s.output s.output_now text
+  pub appended : PrintsFront why s.output s.output_now text
 
 -- exactly what is printed of the messages that are whole among bytes was appended to the output
-pub record Fronts (names : Names) (task : Task) (bytes : List ℕ) (output output_now : Option (List ℕ)) : Type 0 where
+pub record Fronts (names : Names) (task : Task) (bytes : List ℕ) (output output_now : Held) : Type 0 where
   pub place : ℕ
   pub text : List ℕ
   pub whole : Whole names task bytes place text
   pub no_more : is_there (drop place bytes) ≡ false
-  pub appended : Appends output output_now text
+  pub appended : Gets output output_now text
 
 -- exactly what is printed of the messages that are whole among the bytes of a text up to a rest was appended to the output
 pub record TextFronts
-    (names : Names) (task : Task) (form : Form) (s rest : List ℕ) (output output_now : Option (List ℕ)) : Type 0 where
+    (names : Names) (task : Task) (form : Form) (s rest : List ℕ) (output output_now : Held) : Type 0 where
   pub bytes : List ℕ
   pub decodes : DecodesTo form s bytes rest
   pub fronts : Fronts names task bytes output output_now
@@ -112,14 +114,14 @@ pub record Undecoded (names : Names) (job : Job) (s : Streams) (m : Misread) : T
 
 -- these bytes came before reading failed, raw or a text, and exactly what is printed of the messages that are whole was appended:
 -- of a text those in front of the last character or behind it
-abbrev pub FrontsIn : Option Form → Names → Task → List ℕ → Option (List ℕ) → Option (List ℕ) → Type 0
+abbrev pub FrontsIn : Option Form → Names → Task → List ℕ → Held → Held → Type 0
 FrontsIn None names task s output output_now = Fronts names task s output output_now
 FrontsIn (Some form) names task s output output_now =
     (rest : List ℕ) × (length rest ≤ 1) × TextFronts names task form s rest output output_now
 
 -- or nothing, where they don't decide the encoding
-abbrev pub FrontsIf : Bool → Names → Job → List ℕ → Option (List ℕ) → Option (List ℕ) → Type 0
-FrontsIf true names job bytes output output_now = Keeps output output_now
+abbrev pub FrontsIf : Bool → Names → Job → List ℕ → Held → Held → Type 0
+FrontsIf true names job bytes output output_now = Rests output output_now
 FrontsIf false names job bytes output output_now =
     FrontsIn (form_of (encoding_of job.encoding bytes)) names job.task bytes output output_now
 
@@ -131,10 +133,10 @@ pub record Unread (names : Names) (job : Job) (s : Streams) : Type 0 where
 
 -- why a run ends with status 2 or 3, and what it did by then
 abbrev pub Fails : Names → Job → Streams → RunError → Type 0
-Fails names job s UnreadableInput = Unread names job s
-Fails names job s UnwritableOutput = Unwritten names job s
-Fails names job s ClosedPipe = Unwritten names job s
-Fails names job s NoMemory = Keeps s.output s.output_now ⊎ Unwritten names job s
+Fails names job s UnreadableInput = IsTrue s.can_fail × Unread names job s
+Fails names job s UnwritableOutput = Unwritten names job s UnwritableOutput
+Fails names job s ClosedPipe = Unwritten names job s ClosedPipe
+Fails names job s NoMemory = Rests s.output s.output_now ⊎ Unwritten names job s NoMemory
 Fails names job s (MisreadInput m) = Undecoded names job s m
 Fails names job s NoMessage = Empty job s
 Fails names job s UnopenedInput = ⊥
@@ -197,7 +199,7 @@ pub record HasBack
 pub record PrintedBack (names : Names) (job : BackJob) (s : Streams) (fault : Option BackFault) : Type 0 where
   pub text : List ℕ
   pub has : HasBack names job s text fault
-  pub appended : Appends s.output s.output_now text
+  pub appended : Gets s.output s.output_now text
 
 -- a line is not whole, and a beginning of the line that says so was appended to the errors
 pub record MalformedBack
@@ -214,7 +216,7 @@ pub record UnreadBack (names : Names) (job : BackJob) (s : Streams) : Type 0 whe
   pub text : List ℕ
   pub reads : ReadsLines names.tags job.prefix.now bytes place text
   pub one_line : IsOneLine (drop place bytes)
-  pub appended : Appends s.output s.output_now text
+  pub appended : Gets s.output s.output_now text
 
 -- a line of the input is no text, and so is the input; exactly what the lines before it are read back as was appended
 pub record NoTextBack (names : Names) (job : BackJob) (s : Streams) : Type 0 where
@@ -228,10 +230,10 @@ pub record NoTextBack (names : Names) (job : BackJob) (s : Streams) : Type 0 whe
   pub others : List (List ℕ)
   pub first : lines_of (drop place input) ≡ line ∷ others
   pub line_no_text : IsUtf8 line → ⊥
-  pub appended : Appends s.output s.output_now text
+  pub appended : Gets s.output s.output_now text
 
 -- a beginning of what lines in front of the input, or all of it, are read back as was appended; those lines are text
-pub record UnwrittenBack (names : Names) (job : BackJob) (s : Streams) : Type 0 where
+pub record UnwrittenBack (names : Names) (job : BackJob) (s : Streams) (why : RunError) : Type 0 where
   pub input : List ℕ
   pub fault : Option BackFault
   pub taken : TakesSome s.input s.input_left input
@@ -243,15 +245,15 @@ pub record UnwrittenBack (names : Names) (job : BackJob) (s : Streams) : Type 0 
   pub is_text : IsUtf8 front
   pub rest : List ℕ
   pub is : text_back names.tags job.prefix.now input ≡ text_back names.tags job.prefix.now front ++ rest
-  pub appended : AppendsFront s.output s.output_now (text_back names.tags job.prefix.now front)
+  pub appended : PrintsFront why s.output s.output_now (text_back names.tags job.prefix.now front)
 
 -- why reading back ended early, and what was printed by then
 abbrev pub FailsBack : Names → BackJob → Streams → RunError → Type 0
-FailsBack names job s UnreadableInput = UnreadBack names job s
+FailsBack names job s UnreadableInput = IsTrue s.can_fail × UnreadBack names job s
 FailsBack names job s NotUtf8 = NoTextBack names job s
-FailsBack names job s UnwritableOutput = UnwrittenBack names job s
-FailsBack names job s ClosedPipe = UnwrittenBack names job s
-FailsBack names job s NoMemory = UnwrittenBack names job s
+FailsBack names job s UnwritableOutput = UnwrittenBack names job s UnwritableOutput
+FailsBack names job s ClosedPipe = UnwrittenBack names job s ClosedPipe
+FailsBack names job s NoMemory = UnwrittenBack names job s NoMemory
 FailsBack names job s _ = ⊥
 
 abbrev pub RespondsBack : Names → BackJob → Streams → Result (Option BackFault) RunError → Type 0

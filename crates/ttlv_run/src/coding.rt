@@ -12,8 +12,9 @@ use crate::job::Encoding;
 use crate::misread::{Misread, MisreadKind};
 use crate::run_error::RunError;
 use base64::engine::general_purpose::{STANDARD, URL_SAFE, URL_SAFE_NO_PAD};
+use kmip_ttlv_types::Error;
+use kmip_ttlv_types::stream::{Source, take_all};
 use std::alloc::Allocator;
-use std::io::{ErrorKind, Read};
 
 /// The digits that bytes are written in.
 #[derive(Clone, Copy, PartialEq, Eq)]
@@ -25,14 +26,13 @@ pub enum Alphabet {
 }
 
 /// All bytes of a reader.
-pub fn read_all<A: Allocator, R: Read>(alloc: A, input: &mut R) -> Result<Vec<u8, A>, RunError>
-    ensures ok { IfOk result (λ all. TakesAll (R.remaining input.old) (R.remaining input.new) all.items) }
-    ensures err { IfErr result IsUnread }
+pub fn read_all<A: Allocator, R: Source>(alloc: A, input: &mut R) -> Result<Vec<u8, A>, RunError>
+    ensures ok { IfOk result (λ all. TakesAll (R.left input.old) (R.left input.new) all.items) }
+    ensures err { IfErr result (IsUnread R.can_fail) }
 {
-    let mut bytes = Vec::new(alloc);
-    match input.read_to_end(&mut bytes) {
-        Ok(_) => Ok(bytes),
-        Err(e) if e.kind() == ErrorKind::OutOfMemory => Err(RunError::NoMemory),
+    match take_all(alloc, input) {
+        Ok(bytes) => Ok(bytes),
+        Err(Error::OutOfMemory) => Err(RunError::NoMemory),
         Err(_) => Err(RunError::UnreadableInput),
     }
 }

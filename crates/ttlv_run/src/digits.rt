@@ -2,6 +2,7 @@
 
 ghost use Rattle.std.specs.Prelude.{◌≡◌, ◌<◌, ◌≤◌, ◌+◌, ◌-◌, ◌^◌, ◌++◌, true, false, ℕ, List, [], Some, None, Ok, Option, OnOk, length};
 ghost use Rattle.std.specs.Io.KnownBytes.{Consumes, IsAtEnd};
+ghost use Rattle.kmip_ttlv_types.specs.Held.{held};
 ghost use Rattle.ttlv_run.specs.Decoding.{characters, Reading, Grows, Puts, DecodesPiece, DecodesMore, is_last};
 ghost use Rattle.ttlv_run.specs.Fronts.{front_size};
 ghost use Rattle.ttlv_run.specs.Inputs.{form_of, encoding_of};
@@ -19,8 +20,8 @@ use crate::messages::{Place, Reached};
 use crate::run::{behind_all, print_messages};
 use crate::run_error::RunError;
 use crate::window::Window;
+use kmip_ttlv_types::stream::{Sink, Source};
 use std::alloc::Allocator;
-use std::io::{Read, Write};
 
 // Puts what a character came to behind bytes; gives the error, if it is one.
 fn put<A: Allocator>(made: Made, bytes: &mut Window<A>) -> Result<Option<Undecoded>, RunError>
@@ -99,7 +100,7 @@ fn is_last(ended: bool, wrong: Option<Undecoded>) -> bool
 
 /// Prints what a job asks for of a text's messages, each when the character behind its last digit is there, and gives the
 /// first fault.
-pub fn print_digits<A: Allocator + Copy, B: Allocator + Copy, R: Read, W: Write>(
+pub fn print_digits<A: Allocator + Copy, B: Allocator + Copy, R: Source, W: Sink>(
     memory: Memory<A, B>,
     job: &Job<'_>,
     names: &Names<'_, B>,
@@ -111,14 +112,15 @@ pub fn print_digits<A: Allocator + Copy, B: Allocator + Copy, R: Read, W: Write>
 ) -> Result<Option<Place>, RunError>
     requires form { form_of (encoding_of job.now.encoding (buffered text)) ≡ Some form }
     requires front { ended ≡ false → front_size job.now.encoding (buffered text) ≤ length (buffered text) }
-    requires at_end { ended ≡ true → IsAtEnd (R.remaining input.old) }
-    ensures { (known : Option (List ℕ)) → Consumes known (R.remaining input.old) (buffered text)
+    requires at_end { ended ≡ true → IsAtEnd (R.left input.old) }
+    ensures { (known : Option (List ℕ)) → Consumes known (R.left input.old) (buffered text)
         → Places (names_of names.now) job.now
         (record {
+          can_fail = R.can_fail;
           input = known;
-          input_left = R.remaining input.new;
-          output = W.contents output.old;
-          output_now = W.contents output.new;
+          input_left = R.left input.new;
+          output = held W.emitted W.room output.old;
+          output_now = held W.emitted W.room output.new;
         }) result }
 {
     let mark = mark_length(text.buffered());

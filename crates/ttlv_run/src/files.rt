@@ -1,6 +1,7 @@
 //! A run over several inputs, one after the other, and which of them is which.
 
 ghost use Rattle.std.specs.Prelude.{◌≡◌, ℕ, List, Option};
+ghost use Rattle.kmip_ttlv_types.specs.Held.{held};
 ghost use Rattle.ttlv_run.specs.Files.{IsDone, IsEnded, FileDone, greater, stops, FilesDone};
 ghost use Rattle.ttlv_run.specs.Texts.{names_of};
 
@@ -9,13 +10,14 @@ use crate::job::{Asked, BackJob, Job, JsonJob, Names};
 use crate::memory::Memory;
 use crate::run::{read_back, read_back_to_end, report_error, run, run_to_end};
 use crate::run_error::{RunError, status_in};
+use kmip_ttlv_types::stream::{Sink, Source};
 use std::alloc::{Allocator, Global};
-use std::io::{Read, Write};
+use std::io::Write;
 
 /// What opens inputs by their names.
 pub trait Opener {
     /// An input that was opened.
-    type Input: Read + Drop;
+    type Input: Source + Drop;
 
     // Whether opening the input of a name comes to this: the input or none, and what opens the next.
     ghost opens: { Self → List ℕ → Option Self.Input → Self → Type 0 };
@@ -26,7 +28,7 @@ pub trait Opener {
 }
 
 /// Does with an input what is asked, and returns the exit status, of [`run`], [`read_back`] or [`read_json`].
-pub fn run_asked<B: Allocator + Copy, R: Read, W: Write, E: Write>(
+pub fn run_asked<B: Allocator + Copy, R: Source, W: Sink, E: Write>(
     memory: Memory<Global, B>,
     asked: Asked<'_>,
     name: &str,
@@ -37,10 +39,11 @@ pub fn run_asked<B: Allocator + Copy, R: Read, W: Write, E: Write>(
 ) -> u8
     ensures { IsDone (names_of names.now) asked.entry name.entry
         (record {
-          input = R.remaining input.old;
-          input_left = R.remaining input.new;
-          output = W.contents output.old;
-          output_now = W.contents output.new;
+          can_fail = R.can_fail;
+          input = R.left input.old;
+          input_left = R.left input.new;
+          output = held W.emitted W.room output.old;
+          output_now = held W.emitted W.room output.new;
         })
         (E.contents errors.old) (E.contents errors.new) result }
 {
@@ -65,7 +68,7 @@ pub fn run_asked<B: Allocator + Copy, R: Read, W: Write, E: Write>(
 }
 
 // Does the same, and returns whether all of the input is whole, or why not all of it was printed.
-fn end_asked<B: Allocator + Copy, R: Read, W: Write, E: Write>(
+fn end_asked<B: Allocator + Copy, R: Source, W: Sink, E: Write>(
     memory: Memory<Global, B>,
     asked: Asked<'_>,
     name: &str,
@@ -76,10 +79,11 @@ fn end_asked<B: Allocator + Copy, R: Read, W: Write, E: Write>(
 ) -> Result<bool, RunError>
     ensures { IsEnded (names_of names.now) asked.entry name.entry
         (record {
-          input = R.remaining input.old;
-          input_left = R.remaining input.new;
-          output = W.contents output.old;
-          output_now = W.contents output.new;
+          can_fail = R.can_fail;
+          input = R.left input.old;
+          input_left = R.left input.new;
+          output = held W.emitted W.room output.old;
+          output_now = held W.emitted W.room output.new;
         })
         (E.contents errors.old) (E.contents errors.new) result }
 {
@@ -104,7 +108,7 @@ fn end_asked<B: Allocator + Copy, R: Read, W: Write, E: Write>(
 }
 
 // Does it with a file.
-fn run_file<B: Allocator + Copy, O: Opener, W: Write, E: Write>(
+fn run_file<B: Allocator + Copy, O: Opener, W: Sink, E: Write>(
     memory: Memory<Global, B>,
     asked: Asked<'_>,
     name: &str,
@@ -113,10 +117,10 @@ fn run_file<B: Allocator + Copy, O: Opener, W: Write, E: Write>(
     output: &mut W,
     errors: &mut E,
 ) -> Result<bool, RunError>
-    ensures { FileDone (record { opens = O.opens; remaining = O.Input.remaining })
+    ensures { FileDone (record { opens = O.opens; left = O.Input.left; can_fail = O.Input.can_fail })
         (names_of names.now) asked.entry name.entry
-        (record { opener = opener.old; output = W.contents output.old; errors = E.contents errors.old })
-        (record { opener = opener.new; output = W.contents output.new; errors = E.contents errors.new }) result }
+        (record { opener = opener.old; output = held W.emitted W.room output.old; errors = E.contents errors.old })
+        (record { opener = opener.new; output = held W.emitted W.room output.new; errors = E.contents errors.new }) result }
 {
     match opener.open(name) {
         Some(mut input) => end_asked(memory, asked, name, names, &mut input, output, errors),
@@ -148,7 +152,7 @@ fn stops(outcome: Result<bool, RunError>) -> bool
 /// Does with each file what is asked, one after the other, and returns the greatest of their exit statuses:
 /// those of [`run`], [`read_back`] and [`read_json`], and 2 for a file that can't be opened. If the output can't be
 /// written, no other file is read; behind a file for which memory doesn't suffice the others are.
-pub fn run_files<B: Allocator + Copy, O: Opener, W: Write, E: Write>(
+pub fn run_files<B: Allocator + Copy, O: Opener, W: Sink, E: Write>(
     memory: Memory<Global, B>,
     asked: Asked<'_>,
     names: &Names<'_, B>,
@@ -157,10 +161,10 @@ pub fn run_files<B: Allocator + Copy, O: Opener, W: Write, E: Write>(
     output: &mut W,
     errors: &mut E,
 ) -> u8
-    ensures { FilesDone (record { opens = O.opens; remaining = O.Input.remaining })
+    ensures { FilesDone (record { opens = O.opens; left = O.Input.left; can_fail = O.Input.can_fail })
         (names_of names.now) asked.entry files.now
-        (record { opener = opener.old; output = W.contents output.old; errors = E.contents errors.old })
-        (record { opener = opener.new; output = W.contents output.new; errors = E.contents errors.new }) result }
+        (record { opener = opener.old; output = held W.emitted W.room output.old; errors = E.contents errors.old })
+        (record { opener = opener.new; output = held W.emitted W.room output.new; errors = E.contents errors.new }) result }
 {
     let mut status = 0;
     'files: for name in files {

@@ -1,9 +1,10 @@
 //! Lines of JSON, each of which is a message, printed as the messages that they are.
 
 ghost use Rattle.std.specs.Prelude.{◌≡◌, ◌↔◌, IsTrue, ◌≤◌, ◌++◌, ◌⊎◌, ℕ, List, Option, None, IfOk, IfErr, OnOk, OnErr, codes};
-ghost use Rattle.std.specs.Io.KnownBytes.{Appends, Keeps};
+ghost use Rattle.kmip_ttlv_types.specs.Held.{held, Gets};
+ghost use Rattle.std.specs.Io.KnownBytes.{Keeps};
 ghost use Rattle.kmip_ttlv_types.specs.Streams.{AppendsFront};
-ghost use Rattle.ttlv_run.specs.Reasons.{IsOfPrinting, Reports};
+ghost use Rattle.ttlv_run.specs.Reasons.{IsOfPrinting, PrintsFront, Reports};
 ghost use Rattle.ttlv_run.specs.JsonLines.{shown, IsBlank, Prints, Spoils, PrintsBytes, FailsAt, fault_at, bad_line, column_report, RespondsJson, PrintedJson, MalformedJson, AbortedJson, JsonEnds};
 
 use crate::back::{behind, line_at};
@@ -14,9 +15,9 @@ use crate::run_error::RunError;
 use crate::window::Window;
 use itoa::Buffer;
 use kmip_ttlv_json::{JsonError, from_json};
-use kmip_ttlv_types::stream::Sink;
+use kmip_ttlv_types::stream::{Sink, Source};
 use std::alloc::Global;
-use std::io::{Read, Write};
+use std::io::Write;
 use std::str;
 
 /// The first line that is not the JSON of a message.
@@ -29,10 +30,10 @@ pub struct LineFault {
 }
 
 // Writes bytes to the output.
-fn send<W: Write>(output: &mut W, bytes: &[u8]) -> Result<(), RunError>
-    ensures ok { OnOk result (Appends (W.contents output.old) (W.contents output.new) bytes.now) }
+fn send<W: Sink>(output: &mut W, bytes: &[u8]) -> Result<(), RunError>
+    ensures ok { OnOk result (Gets (held W.emitted W.room output.old) (held W.emitted W.room output.new) bytes.now) }
     ensures why { IfErr result IsOfPrinting }
-    ensures err { OnErr result (AppendsFront (W.contents output.old) (W.contents output.new) bytes.now) }
+    ensures err { IfErr result (λ why. PrintsFront why (held W.emitted W.room output.old) (held W.emitted W.room output.new) bytes.now) }
 {
     match output.send(bytes) {
         Ok(()) => Ok(()),
@@ -41,15 +42,15 @@ fn send<W: Write>(output: &mut W, bytes: &[u8]) -> Result<(), RunError>
 }
 
 // Writes what is printed of a message.
-fn print_message<W: Write>(
+fn print_message<W: Sink>(
     heap: Global,
     raw: bool,
     message: &[u8],
     output: &mut W,
 ) -> Result<(), RunError>
-    ensures ok { OnOk result (Appends (W.contents output.old) (W.contents output.new) (shown raw message.now)) }
+    ensures ok { OnOk result (Gets (held W.emitted W.room output.old) (held W.emitted W.room output.new) (shown raw message.now)) }
     ensures why { IfErr result IsOfPrinting }
-    ensures err { OnErr result (AppendsFront (W.contents output.old) (W.contents output.new) (shown raw message.now)) }
+    ensures err { IfErr result (λ why. PrintsFront why (held W.emitted W.room output.old) (held W.emitted W.room output.new) (shown raw message.now)) }
 {
     if raw {
         return send(output, message);
@@ -67,15 +68,15 @@ fn is_blank(text: &[u8]) -> bool
 }
 
 // Prints the message that a line is, behind its mark, and gives why it is none.
-fn print_line<W: Write>(
+fn print_line<W: Sink>(
     heap: Global,
     raw: bool,
     line: &str,
     output: &mut W,
 ) -> Result<Option<JsonError>, RunError>
-    ensures ok { IfOk result (Prints raw line.now (W.contents output.old) (W.contents output.new)) }
+    ensures ok { IfOk result (Prints raw line.now (held W.emitted W.room output.old) (held W.emitted W.room output.new)) }
     ensures why { IfErr result IsOfPrinting }
-    ensures err { OnErr result (Spoils raw line.now (W.contents output.old) (W.contents output.new)) }
+    ensures err { IfErr result (λ why. Spoils raw why line.now (held W.emitted W.room output.old) (held W.emitted W.room output.new)) }
 {
     let text = unmarked(line);
     if is_blank(text.as_bytes()) {
@@ -92,14 +93,14 @@ fn print_line<W: Write>(
 }
 
 // Prints the message that the bytes of a line are, and gives why they are none.
-fn print_bytes<W: Write>(
+fn print_bytes<W: Sink>(
     heap: Global,
     raw: bool,
     line: &[u8],
     output: &mut W,
 ) -> Result<Option<JsonError>, RunError>
-    ensures ok { IfOk result (PrintsBytes raw line.now (W.contents output.old) (W.contents output.new)) }
-    ensures err { IfErr result (FailsAt raw line.now (W.contents output.old) (W.contents output.new)) }
+    ensures ok { IfOk result (PrintsBytes raw line.now (held W.emitted W.room output.old) (held W.emitted W.room output.new)) }
+    ensures err { IfErr result (FailsAt raw line.now (held W.emitted W.room output.old) (held W.emitted W.room output.new)) }
 {
     let Ok(text) = str::from_utf8(line) else {
         return Err(RunError::NotUtf8);
@@ -118,7 +119,7 @@ fn fault_at(offset: usize, error: Option<JsonError>) -> Option<LineFault>
 }
 
 // Prints the messages that the lines of an input are, each when it is there, and gives the first line that is none.
-fn respond<R: Read, W: Write>(
+fn respond<R: Source, W: Sink>(
     heap: Global,
     job: &JsonJob<'_>,
     input: &mut R,
@@ -126,10 +127,11 @@ fn respond<R: Read, W: Write>(
 ) -> Result<Option<LineFault>, RunError>
     ensures { RespondsJson job.now
         (record {
-          input = R.remaining input.old;
-          input_left = R.remaining input.new;
-          output = W.contents output.old;
-          output_now = W.contents output.new;
+          can_fail = R.can_fail;
+          input = R.left input.old;
+          input_left = R.left input.new;
+          output = held W.emitted W.room output.old;
+          output_now = held W.emitted W.room output.new;
         }) result }
 {
     let mut window = Window::new(heap);
@@ -188,7 +190,7 @@ fn report_fault<E: Write>(errors: &mut E, name: &str, fault: LineFault)
 }
 
 // Does what [`read_json`] does, and returns whether all lines are messages or empty, or why not all were printed.
-pub(crate) fn read_json_to_end<R: Read, W: Write, E: Write>(
+pub(crate) fn read_json_to_end<R: Source, W: Sink, E: Write>(
     heap: Global,
     job: &JsonJob<'_>,
     input: &mut R,
@@ -197,10 +199,11 @@ pub(crate) fn read_json_to_end<R: Read, W: Write, E: Write>(
 ) -> Result<bool, RunError>
     ensures { JsonEnds job.now
         (record {
-          input = R.remaining input.old;
-          input_left = R.remaining input.new;
-          output = W.contents output.old;
-          output_now = W.contents output.new;
+          can_fail = R.can_fail;
+          input = R.left input.old;
+          input_left = R.left input.new;
+          output = held W.emitted W.room output.old;
+          output_now = held W.emitted W.room output.new;
         })
         (E.contents errors.old) (E.contents errors.new) result }
 {
@@ -225,7 +228,7 @@ pub(crate) fn read_json_to_end<R: Read, W: Write, E: Write>(
 /// none are printed, nothing more is read, and `errors` says why that is none. With status 2 those of the lines before are printed:
 /// that came before reading failed, or are in front of the one that is not UTF-8. Statuses 2 and 3 are reported there as
 /// [`run`](crate::run::run) reports them; with status 3 the output has a beginning of what is printed.
-pub fn read_json<R: Read, W: Write, E: Write>(
+pub fn read_json<R: Source, W: Sink, E: Write>(
     heap: Global,
     job: &JsonJob<'_>,
     input: &mut R,
@@ -236,29 +239,32 @@ pub fn read_json<R: Read, W: Write, E: Write>(
     // With status 0 each line is a message or empty, and exactly what is printed of them was appended.
     ensures printed { result ≡ 0 → PrintedJson job.now
         (record {
-          input = R.remaining input.old;
-          input_left = R.remaining input.new;
-          output = W.contents output.old;
-          output_now = W.contents output.new;
+          can_fail = R.can_fail;
+          input = R.left input.old;
+          input_left = R.left input.new;
+          output = held W.emitted W.room output.old;
+          output_now = held W.emitted W.room output.new;
         })
         × Keeps (E.contents errors.old) (E.contents errors.new) }
     // With status 1 a line is bad: what is printed of the lines before it was appended, and the errors have its line. A front of
     // the input was read.
     ensures malformed { result ≡ 1 → MalformedJson job.now
         (record {
-          input = R.remaining input.old;
-          input_left = R.remaining input.new;
-          output = W.contents output.old;
-          output_now = W.contents output.new;
+          can_fail = R.can_fail;
+          input = R.left input.old;
+          input_left = R.left input.new;
+          output = held W.emitted W.room output.old;
+          output_now = held W.emitted W.room output.new;
         })
         (E.contents errors.old) (E.contents errors.new) }
     // With statuses 2 and 3 there is a reason that is true of the input or of the output, and it is reported.
     ensures refused { (result ≡ 2) ⊎ (result ≡ 3) → AbortedJson job.now
         (record {
-          input = R.remaining input.old;
-          input_left = R.remaining input.new;
-          output = W.contents output.old;
-          output_now = W.contents output.new;
+          can_fail = R.can_fail;
+          input = R.left input.old;
+          input_left = R.left input.new;
+          output = held W.emitted W.room output.old;
+          output_now = held W.emitted W.room output.new;
         })
         result (E.contents errors.old) (E.contents errors.new) }
 {

@@ -4,6 +4,7 @@ ghost use Rattle.std.specs.Prelude.{◌≡◌, ◌<◌, ◌≤◌, ◌++◌, ℕ
 ghost use Rattle.kmip_ttlv_items.specs.declared.found.Fault.{Fault as AFault};
 ghost use Rattle.kmip_ttlv_items.specs.declared.found.FoundItem.{FoundItem as AnItem};
 ghost use Rattle.kmip_ttlv_items.specs.ItemWalks.{AreBytes, Meets};
+ghost use Rattle.ttlv_run.specs.declared.run_error.RunError.{RunError as AReason};
 ghost use Rattle.ttlv_run.specs.declared.job.Task.{Task as ATask};
 ghost use Rattle.ttlv_run.specs.declared.job.Strict.{Strict as AStrict};
 ghost use Rattle.ttlv_run.specs.declared.job.Strict.TheVariants.{Show as ShowWhole};
@@ -49,7 +50,7 @@ pub fn a_front_stands_for_a_front()
         → (more : List ℕ) × (all ≡ front ++ more) }
     ensures fault { (names : TheNames) (job : AJob) (s : TheStreams) (all : List ℕ) (place : APlace) (f : Faults names job s place)
         → Stands job.encoding f.input all → HasText names job f.input f.text (Some place) }
-    ensures beginning { (names : TheNames) (job : AJob) (s : TheStreams) (all : List ℕ) (u : Unwritten names job s)
+    ensures beginning { (names : TheNames) (job : AJob) (s : TheStreams) (all : List ℕ) (why : AReason) (u : Unwritten names job s why)
         → AreBytes all → Stands job.encoding u.input all → Continues names job.task all u.text }
 {}
 

@@ -1,12 +1,13 @@
 //! The whole run over one input, for any reader and any writers.
 
 ghost use Rattle.std.specs.Prelude.{◌≡◌, true, false, ◌<◌, ◌≤◌, ◌+◌, ◌^◌, ◌⊎◌, ◌++◌, ℕ, length, List, Option, Some, None, IfOk, IfErr, OnErr, string_bytes, codes};
-ghost use Rattle.std.specs.Io.KnownBytes.{Appends, Consumes, IsAtEnd, Keeps};
+ghost use Rattle.std.specs.Io.KnownBytes.{Consumes, IsAtEnd, Keeps};
 ghost use Rattle.kmip_ttlv_types.specs.Streams.{AppendsFront};
+ghost use Rattle.kmip_ttlv_types.specs.Held.{held, Gets};
 ghost use Rattle.kmip_ttlv_util.specs.Pieces.{SomeText};
 ghost use Rattle.ttlv_run.specs.Backs.{ReadsBack, ReadsFront, back_line};
 ghost use Rattle.ttlv_run.specs.Escapes.{escaped};
-ghost use Rattle.ttlv_run.specs.Reasons.{IsOfPrinting, Reports, place_report, error_line};
+ghost use Rattle.ttlv_run.specs.Reasons.{IsOfPrinting, PrintsFront, IsOfError, Reports, place_report, error_line};
 ghost use Rattle.ttlv_run.specs.Fronts.{front_size, Begins, BeginFails};
 ghost use Rattle.ttlv_run.specs.Inputs.{IsUnread, form_of, encoding_of};
 ghost use Rattle.ttlv_run.specs.Streaming.{buffered, EndsAt, PrintsOn, ContinuesBehind};
@@ -25,14 +26,14 @@ use crate::misread::report_misread;
 use crate::run_error::RunError;
 use crate::window::Window;
 use itoa::Buffer;
-use kmip_ttlv_types::stream::Sink;
+use kmip_ttlv_types::stream::{Sink, Source};
 use kmip_ttlv_util::Pieces;
 use std::alloc::Allocator;
-use std::io::{Error, ErrorKind, Read, Write};
+use std::io::{Error, ErrorKind, Write};
 
 /// Why printing failed: the output, or out of memory.
 pub(crate) fn run_error_of(error: &Error) -> RunError
-    ensures { IsOfPrinting result }
+    ensures { IsOfError error.now result }
 {
     match error.kind() {
         ErrorKind::BrokenPipe => RunError::ClosedPipe,
@@ -43,7 +44,7 @@ pub(crate) fn run_error_of(error: &Error) -> RunError
 
 /// Prints what a task prints of messages to the output, in pieces. Their bytes stand at an offset among those of all
 /// messages; where they aren't the last, it ends in front of a message that isn't there as a whole.
-pub(crate) fn print_messages<A: Allocator + Copy, W: Write>(
+pub(crate) fn print_messages<A: Allocator + Copy, W: Sink>(
     alloc: A,
     names: &Names<'_, A>,
     task: Task<'_>,
@@ -55,17 +56,15 @@ pub(crate) fn print_messages<A: Allocator + Copy, W: Write>(
     requires { base + length bytes.now < 2 ^ 64 }
     ensures end { IfOk result (EndsAt bytes.now last) }
     ensures ok { IfOk result (λ reached. SomeText (PrintsOn (names_of names.now) task.entry base bytes.now last reached)
-        (Appends (W.contents output.old) (W.contents output.new))) }
+        (Gets (held W.emitted W.room output.old) (held W.emitted W.room output.new))) }
     ensures why { IfErr result IsOfPrinting }
-    ensures err { OnErr result (SomeText (ContinuesBehind (names_of names.now) task.entry base bytes.now last)
-        (AppendsFront (W.contents output.old) (W.contents output.new))) }
+    ensures err { IfErr result (λ why. SomeText (ContinuesBehind (names_of names.now) task.entry base bytes.now last)
+        (PrintsFront why (held W.emitted W.room output.old) (held W.emitted W.room output.new))) }
 {
     let mut pieces = Pieces::new(output);
-    match print_all(alloc, &mut pieces, names, task, base, bytes, last) {
-        Ok(reached) => match pieces.finish() {
-            Ok(()) => Ok(reached),
-            Err(e) => Err(run_error_of(&e)),
-        },
+    let printed = print_all(alloc, &mut pieces, names, task, base, bytes, last);
+    match pieces.close(printed) {
+        Ok(reached) => Ok(reached),
         Err(e) => Err(run_error_of(&e)),
     }
 }
@@ -81,7 +80,7 @@ pub(crate) fn behind_all(task: Task<'_>, count: usize) -> Result<Option<Place>, 
 }
 
 // Prints what a job asks for of raw messages as they come, each when it is there as a whole, and gives the first fault.
-fn print_raw<A: Allocator, B: Allocator + Copy, R: Read, W: Write>(
+fn print_raw<A: Allocator, B: Allocator + Copy, R: Source, W: Sink>(
     alloc: B,
     job: &Job<'_>,
     names: &Names<'_, B>,
@@ -92,14 +91,15 @@ fn print_raw<A: Allocator, B: Allocator + Copy, R: Read, W: Write>(
 ) -> Result<Option<Place>, RunError>
     requires raw { form_of (encoding_of job.now.encoding (buffered window)) ≡ None }
     requires front { ended ≡ false → front_size job.now.encoding (buffered window) ≤ length (buffered window) }
-    requires at_end { ended ≡ true → IsAtEnd (R.remaining input.old) }
-    ensures { (known : Option (List ℕ)) → Consumes known (R.remaining input.old) (buffered window)
+    requires at_end { ended ≡ true → IsAtEnd (R.left input.old) }
+    ensures { (known : Option (List ℕ)) → Consumes known (R.left input.old) (buffered window)
         → Places (names_of names.now) job.now
         (record {
+          can_fail = R.can_fail;
           input = known;
-          input_left = R.remaining input.new;
-          output = W.contents output.old;
-          output_now = W.contents output.new;
+          input_left = R.left input.new;
+          output = held W.emitted W.room output.old;
+          output_now = held W.emitted W.room output.new;
         }) result }
 {
     let mut base = 0;
@@ -123,14 +123,14 @@ fn print_raw<A: Allocator, B: Allocator + Copy, R: Read, W: Write>(
 }
 
 // Reads until the bytes that are there decide the encoding, or the input ended; returns whether it did.
-fn read_front<A: Allocator, R: Read>(
+fn read_front<A: Allocator, R: Source>(
     encoding: Encoding,
     window: &mut Window<A>,
     input: &mut R,
 ) -> Result<bool, RunError>
-    ensures ok { IfOk result (Begins encoding (R.remaining input.old) (R.remaining input.new) (buffered window.old) (buffered window.new)) }
-    ensures why { IfErr result IsUnread }
-    ensures err { OnErr result (BeginFails encoding (R.remaining input.old) (R.remaining input.new) (buffered window.old) (buffered window.new)) }
+    ensures ok { IfOk result (Begins encoding (R.left input.old) (R.left input.new) (buffered window.old) (buffered window.new)) }
+    ensures why { IfErr result (IsUnread R.can_fail) }
+    ensures err { OnErr result (BeginFails encoding (R.left input.old) (R.left input.new) (buffered window.old) (buffered window.new)) }
 {
     'pieces: while window.buffered().len() < front_size(encoding, window.buffered()) {
         if window.read_more(input)? == 0 {
@@ -141,7 +141,7 @@ fn read_front<A: Allocator, R: Read>(
 }
 
 // Prints what a job asks for, message by message, and gives the first fault.
-fn print_input<A: Allocator + Copy, B: Allocator + Copy, R: Read, W: Write>(
+fn print_input<A: Allocator + Copy, B: Allocator + Copy, R: Source, W: Sink>(
     memory: Memory<A, B>,
     job: &Job<'_>,
     names: &Names<'_, B>,
@@ -150,10 +150,11 @@ fn print_input<A: Allocator + Copy, B: Allocator + Copy, R: Read, W: Write>(
 ) -> Result<Option<Place>, RunError>
     ensures { Places (names_of names.now) job.now
         (record {
-          input = R.remaining input.old;
-          input_left = R.remaining input.new;
-          output = W.contents output.old;
-          output_now = W.contents output.new;
+          can_fail = R.can_fail;
+          input = R.left input.old;
+          input_left = R.left input.new;
+          output = held W.emitted W.room output.old;
+          output_now = held W.emitted W.room output.new;
         }) result }
 {
     let mut window = Window::new(memory.input);
@@ -175,7 +176,7 @@ fn told(task: Task<'_>, place: Place) -> Place
 }
 
 // Prints what a job asks for, and gives the line that says what is malformed, if anything is.
-fn respond<A: Allocator + Copy, B: Allocator + Copy, R: Read, W: Write>(
+fn respond<A: Allocator + Copy, B: Allocator + Copy, R: Source, W: Sink>(
     memory: Memory<A, B>,
     job: &Job<'_>,
     names: &Names<'_, B>,
@@ -184,10 +185,11 @@ fn respond<A: Allocator + Copy, B: Allocator + Copy, R: Read, W: Write>(
 ) -> Result<Option<String<B>>, RunError>
     ensures { Responds string_bytes (names_of names.now) job.now
         (record {
-          input = R.remaining input.old;
-          input_left = R.remaining input.new;
-          output = W.contents output.old;
-          output_now = W.contents output.new;
+          can_fail = R.can_fail;
+          input = R.left input.old;
+          input_left = R.left input.new;
+          output = held W.emitted W.room output.old;
+          output_now = held W.emitted W.room output.new;
         }) result }
 {
     match print_input(memory, job, names, input, output)? {
@@ -201,7 +203,7 @@ fn respond<A: Allocator + Copy, B: Allocator + Copy, R: Read, W: Write>(
 
 // Prints what lines of diagnostics are read back as to the output, in pieces. Their bytes begin at an offset; if they
 // aren't the last, what is behind the last line feed is left.
-fn print_lines<A: Allocator + Copy, W: Write>(
+fn print_lines<A: Allocator + Copy, W: Sink>(
     alloc: A,
     names: &Names<'_, A>,
     prefix: &str,
@@ -212,24 +214,22 @@ fn print_lines<A: Allocator + Copy, W: Write>(
 ) -> Result<BackReached, RunError>
     requires { base + length bytes.now < 2 ^ 64 }
     ensures ok { IfOk result (λ reached. SomeText (ReadsBack (names_of names.now).tags prefix.now base bytes.now last reached)
-        (Appends (W.contents output.old) (W.contents output.new))) }
+        (Gets (held W.emitted W.room output.old) (held W.emitted W.room output.new))) }
     ensures why { IfErr result IsOfPrinting }
-    ensures err { OnErr result (SomeText (ReadsFront (names_of names.now).tags prefix.now bytes.now last)
-        (AppendsFront (W.contents output.old) (W.contents output.new))) }
+    ensures err { IfErr result (λ why. SomeText (ReadsFront (names_of names.now).tags prefix.now bytes.now last)
+        (PrintsFront why (held W.emitted W.room output.old) (held W.emitted W.room output.new))) }
 {
     let mut pieces = Pieces::new(output);
-    match print_back(alloc, &mut pieces, &names.tags, prefix, base, bytes, last) {
-        Ok(reached) => match pieces.finish() {
-            Ok(()) => Ok(reached),
-            Err(e) => Err(run_error_of(&e)),
-        },
+    let printed = print_back(alloc, &mut pieces, &names.tags, prefix, base, bytes, last);
+    match pieces.close(printed) {
+        Ok(reached) => Ok(reached),
         Err(e) => Err(run_error_of(&e)),
     }
 }
 
 // Prints what diagnostics are read back as, each line when it is there as a whole, and gives where the first line that
 // is not whole stops being one, if there is such a line.
-fn respond_back<A: Allocator + Copy, B: Allocator + Copy, R: Read, W: Write>(
+fn respond_back<A: Allocator + Copy, B: Allocator + Copy, R: Source, W: Sink>(
     memory: Memory<A, B>,
     job: &BackJob<'_>,
     names: &Names<'_, B>,
@@ -238,10 +238,11 @@ fn respond_back<A: Allocator + Copy, B: Allocator + Copy, R: Read, W: Write>(
 ) -> Result<Option<BackFault>, RunError>
     ensures { RespondsBack (names_of names.now) job.now
         (record {
-          input = R.remaining input.old;
-          input_left = R.remaining input.new;
-          output = W.contents output.old;
-          output_now = W.contents output.new;
+          can_fail = R.can_fail;
+          input = R.left input.old;
+          input_left = R.left input.new;
+          output = held W.emitted W.room output.old;
+          output_now = held W.emitted W.room output.new;
         }) result }
 {
     let mut window = Window::new(memory.input);
@@ -290,10 +291,8 @@ fn report_name<E: Write>(errors: &mut E, name: &str) -> bool
     ensures { Reports result (E.contents errors.old) (E.contents errors.new) (escaped name.now) }
 {
     let mut pieces = Pieces::new(errors);
-    match push_text(&mut pieces, name) {
-        Ok(()) => pieces.finish().is_ok(),
-        Err(_) => false,
-    }
+    let written = push_text(&mut pieces, name);
+    pieces.close(written).is_ok()
 }
 
 /// Writes what the input is called, and the offset in it, if one is given.
@@ -347,7 +346,7 @@ fn report_back_fault<E: Write>(errors: &mut E, name: &str, fault: BackFault)
 }
 
 // Does what [`run`] does, and returns whether all messages are whole, or why not all were printed.
-pub(crate) fn run_to_end<A: Allocator + Copy, B: Allocator + Copy, R: Read, W: Write, E: Write>(
+pub(crate) fn run_to_end<A: Allocator + Copy, B: Allocator + Copy, R: Source, W: Sink, E: Write>(
     memory: Memory<A, B>,
     job: &Job<'_>,
     names: &Names<'_, B>,
@@ -357,10 +356,11 @@ pub(crate) fn run_to_end<A: Allocator + Copy, B: Allocator + Copy, R: Read, W: W
 ) -> Result<bool, RunError>
     ensures { RunEnds (names_of names.now) job.now
         (record {
-          input = R.remaining input.old;
-          input_left = R.remaining input.new;
-          output = W.contents output.old;
-          output_now = W.contents output.new;
+          can_fail = R.can_fail;
+          input = R.left input.old;
+          input_left = R.left input.new;
+          output = held W.emitted W.room output.old;
+          output_now = held W.emitted W.room output.new;
         })
         (E.contents errors.old) (E.contents errors.new) result }
 {
@@ -389,7 +389,7 @@ pub(crate) fn run_to_end<A: Allocator + Copy, B: Allocator + Copy, R: Read, W: W
 /// of what is printed, or nothing. With statuses 1 to 3 one line on `errors` says why, except for a closed pipe.
 /// Interrupted reads and writes are tried again, as often as a 64-bit count allows. If `errors` can't be written, the
 /// status is the same.
-pub fn run<A: Allocator + Copy, B: Allocator + Copy, R: Read, W: Write, E: Write>(
+pub fn run<A: Allocator + Copy, B: Allocator + Copy, R: Source, W: Sink, E: Write>(
     memory: Memory<A, B>,
     job: &Job<'_>,
     names: &Names<'_, B>,
@@ -401,37 +401,41 @@ pub fn run<A: Allocator + Copy, B: Allocator + Copy, R: Read, W: Write, E: Write
     // With status 0 each message of the input is whole, and exactly what is printed of them was appended.
     ensures printed { result ≡ 0 → Printed (names_of names.now) job.now
         (record {
-          input = R.remaining input.old;
-          input_left = R.remaining input.new;
-          output = W.contents output.old;
-          output_now = W.contents output.new;
+          can_fail = R.can_fail;
+          input = R.left input.old;
+          input_left = R.left input.new;
+          output = held W.emitted W.room output.old;
+          output_now = held W.emitted W.room output.new;
         })
         × Keeps (E.contents errors.old) (E.contents errors.new) }
     // With status 1 a message of the input is malformed: what is printed up to its fault was appended, and the errors
     // have its line. A front of the input was read. Or there is no message, and the task wants one.
     ensures malformed { result ≡ 1 → Malformed (names_of names.now) job.now
         (record {
-          input = R.remaining input.old;
-          input_left = R.remaining input.new;
-          output = W.contents output.old;
-          output_now = W.contents output.new;
+          can_fail = R.can_fail;
+          input = R.left input.old;
+          input_left = R.left input.new;
+          output = held W.emitted W.room output.old;
+          output_now = held W.emitted W.room output.new;
         })
         (E.contents errors.old) (E.contents errors.new)
         ⊎ Lacking job.now
         (record {
-          input = R.remaining input.old;
-          input_left = R.remaining input.new;
-          output = W.contents output.old;
-          output_now = W.contents output.new;
+          can_fail = R.can_fail;
+          input = R.left input.old;
+          input_left = R.left input.new;
+          output = held W.emitted W.room output.old;
+          output_now = held W.emitted W.room output.new;
         })
         (E.contents errors.old) (E.contents errors.new) }
     // With statuses 2 and 3 there is a reason that is true of the input or of the output, and it is reported.
     ensures refused { (result ≡ 2) ⊎ (result ≡ 3) → Aborted (names_of names.now) job.now
         (record {
-          input = R.remaining input.old;
-          input_left = R.remaining input.new;
-          output = W.contents output.old;
-          output_now = W.contents output.new;
+          can_fail = R.can_fail;
+          input = R.left input.old;
+          input_left = R.left input.new;
+          output = held W.emitted W.room output.old;
+          output_now = held W.emitted W.room output.new;
         })
         result (E.contents errors.old) (E.contents errors.new) }
 {
@@ -446,8 +450,8 @@ pub fn run<A: Allocator + Copy, B: Allocator + Copy, R: Read, W: Write, E: Write
 pub(crate) fn read_back_to_end<
     A: Allocator + Copy,
     B: Allocator + Copy,
-    R: Read,
-    W: Write,
+    R: Source,
+    W: Sink,
     E: Write,
 >(
     memory: Memory<A, B>,
@@ -459,10 +463,11 @@ pub(crate) fn read_back_to_end<
 ) -> Result<bool, RunError>
     ensures { BackEnds (names_of names.now) job.now
         (record {
-          input = R.remaining input.old;
-          input_left = R.remaining input.new;
-          output = W.contents output.old;
-          output_now = W.contents output.new;
+          can_fail = R.can_fail;
+          input = R.left input.old;
+          input_left = R.left input.new;
+          output = held W.emitted W.room output.old;
+          output_now = held W.emitted W.room output.new;
         })
         (E.contents errors.old) (E.contents errors.new) result }
 {
@@ -488,7 +493,7 @@ pub(crate) fn read_back_to_end<
 /// With status 2 the output has what the lines before are read back as: those that came before reading failed, or that
 /// are in front of the one that is not UTF-8. Statuses 2 and 3 are reported as [`run`] reports them, and with status 3 the
 /// output is as there.
-pub fn read_back<A: Allocator + Copy, B: Allocator + Copy, R: Read, W: Write, E: Write>(
+pub fn read_back<A: Allocator + Copy, B: Allocator + Copy, R: Source, W: Sink, E: Write>(
     memory: Memory<A, B>,
     job: &BackJob<'_>,
     names: &Names<'_, B>,
@@ -500,29 +505,32 @@ pub fn read_back<A: Allocator + Copy, B: Allocator + Copy, R: Read, W: Write, E:
     // With status 0 each line is whole, and exactly what the whole input is read back as was appended.
     ensures printed { result ≡ 0 → PrintedBack (names_of names.now) job.now
         (record {
-          input = R.remaining input.old;
-          input_left = R.remaining input.new;
-          output = W.contents output.old;
-          output_now = W.contents output.new;
+          can_fail = R.can_fail;
+          input = R.left input.old;
+          input_left = R.left input.new;
+          output = held W.emitted W.room output.old;
+          output_now = held W.emitted W.room output.new;
         }) None
         × Keeps (E.contents errors.old) (E.contents errors.new) }
     // With status 1 a line is not whole: what the whole input is read back as was appended, and the first such line
     // is reported.
     ensures malformed { result ≡ 1 → MalformedBack (names_of names.now) job.now
         (record {
-          input = R.remaining input.old;
-          input_left = R.remaining input.new;
-          output = W.contents output.old;
-          output_now = W.contents output.new;
+          can_fail = R.can_fail;
+          input = R.left input.old;
+          input_left = R.left input.new;
+          output = held W.emitted W.room output.old;
+          output_now = held W.emitted W.room output.new;
         })
         (E.contents errors.old) (E.contents errors.new) }
     // With statuses 2 and 3 there is a reason that is true of the input or of the output, and it is reported.
     ensures refused { (result ≡ 2) ⊎ (result ≡ 3) → AbortedBack (names_of names.now) job.now
         (record {
-          input = R.remaining input.old;
-          input_left = R.remaining input.new;
-          output = W.contents output.old;
-          output_now = W.contents output.new;
+          can_fail = R.can_fail;
+          input = R.left input.old;
+          input_left = R.left input.new;
+          output = held W.emitted W.room output.old;
+          output_now = held W.emitted W.room output.new;
         })
         result (E.contents errors.old) (E.contents errors.new) }
 {

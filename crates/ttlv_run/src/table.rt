@@ -8,9 +8,9 @@ use crate::run::{report_error, report_place};
 use crate::run_error::RunError;
 use itoa::Buffer;
 use kmip_ttlv_names::{TableError, own_names};
-use kmip_ttlv_types::stream::Sink;
+use kmip_ttlv_types::stream::{Sink, Source};
 use std::alloc::{AllocError, Allocator};
-use std::io::{Read, Write};
+use std::io::Write;
 use std::str;
 
 // A table, and behind it another.
@@ -46,14 +46,14 @@ fn refuse<E: Write>(errors: &mut E, name: &str, run_error: RunError) -> u8
 ///
 /// The error is the exit status: 2 where the input can't be read, is not UTF-8 or has a line that names no
 /// tag, and 3 when out of memory.
-pub fn own_table<A: Allocator + Copy, R: Read, E: Write>(
+pub fn own_table<A: Allocator + Copy, R: Source, E: Write>(
     alloc: A,
     standard: &str,
     name: &str,
     input: &mut R,
     errors: &mut E,
 ) -> Result<String<A>, u8>
-    ensures ok { IfOk result (λ all. IsJoined standard.now (R.remaining input.old) (R.remaining input.new)
+    ensures ok { IfOk result (λ all. IsJoined standard.now (R.left input.old) (R.left input.new)
         (string_bytes all)) }
     ensures err { IfErr result (λ status. (status ≡ 2) ⊎ (status ≡ 3)) }
 {

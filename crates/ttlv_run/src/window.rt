@@ -1,6 +1,6 @@
 //! The bytes of an input that were read and that nothing was printed of yet.
 
-ghost use Rattle.std.specs.Prelude.{◌≡◌, ◌<◌, ◌≤◌, ◌+◌, true, false, [], ◌++◌, length, take, drop, IfOk, IfErr, OnOk, OnErr, vec_len};
+ghost use Rattle.std.specs.Prelude.{◌≡◌, ◌<◌, ◌≤◌, ◌+◌, true, false, [], ◌++◌, length, take, drop, IsTrue, IfOk, IfErr, OnOk, OnErr, vec_len};
 ghost use Rattle.std.specs.Io.KnownBytes.{Consumes, IsAtEnd, Keeps};
 ghost use Rattle.kmip_ttlv_items.specs.ItemWalks.{AreBytes};
 ghost use Rattle.ttlv_run.specs.Inputs.{IsUnread};
@@ -9,10 +9,9 @@ ghost use Rattle.ttlv_run.specs.Backs.{IsOneLine};
 use crate::back::line_end;
 use crate::messages::size_stated;
 use crate::run_error::RunError;
-use kmip_ttlv_types::stream::{PIECE, read_some};
+use kmip_ttlv_types::stream::{PIECE, Source};
 use std::alloc::{AllocError, Allocator};
 use std::io;
-use std::io::Read;
 
 // The first bytes of some.
 fn front(bytes: &[u8], count: usize) -> &[u8]
@@ -50,16 +49,16 @@ fn has_line_feed(bytes: &[u8], at: usize) -> bool
 }
 
 // One read into `buf` from a place on.
-fn read_at<R: Read>(reader: &mut R, buf: &mut [u8], at: usize) -> io::Result<usize>
+fn read_at<R: Source>(reader: &mut R, buf: &mut [u8], at: usize) -> io::Result<usize>
     requires { at < length buf.old }
     ensures front { take at buf.new ≡ take at buf.old }
     ensures fits { IfOk result (λ n. at + n ≤ length buf.new) }
-    ensures ok { IfOk result (λ n. Consumes (R.remaining reader.old) (R.remaining reader.new)
+    ensures ok { IfOk result (λ n. Consumes (R.left reader.old) (R.left reader.new)
         (take n (drop at buf.new))) }
-    ensures end { IfOk result (λ n. n ≡ 0 → IsAtEnd (R.remaining reader.new)) }
-    ensures err { OnErr result (Keeps (R.remaining reader.old) (R.remaining reader.new)) }
+    ensures end { IfOk result (λ n. n ≡ 0 → IsAtEnd (R.left reader.new)) }
+    ensures err { OnErr result (IsTrue R.can_fail × Keeps (R.left reader.old) (R.left reader.new)) }
 {
-    read_some(reader, &mut buf[at..])
+    reader.fill_front(&mut buf[at..])
 }
 
 /// Bytes that were read, in front of room for more.
@@ -116,11 +115,11 @@ impl<A: Allocator> Window<A> {
     }
 
     // Reads once, behind the bytes that are there, into room for so many if there is none.
-    fn read_behind<R: Read>(&mut self, input: &mut R, room: usize) -> Result<usize, RunError>
+    fn read_behind<R: Source>(&mut self, input: &mut R, room: usize) -> Result<usize, RunError>
         requires { 0 < room }
-        ensures ok { IfOk result (YieldsBy (R.remaining input.old) (R.remaining input.new) (buffered self.old) (buffered self.new)) }
-        ensures why { IfErr result IsUnread }
-        ensures err { OnErr result (Keeps (R.remaining input.old) (R.remaining input.new)) }
+        ensures ok { IfOk result (YieldsBy (R.left input.old) (R.left input.new) (buffered self.old) (buffered self.new)) }
+        ensures why { IfErr result (IsUnread R.can_fail) }
+        ensures err { OnErr result (Keeps (R.left input.old) (R.left input.new)) }
         ensures same { OnErr result (buffered self.new ≡ buffered self.old) }
     {
         self.make_room(1, room)?;
@@ -134,10 +133,10 @@ impl<A: Allocator> Window<A> {
     }
 
     /// Reads once, behind the bytes that are there; gives how many came: none at the input's end.
-    pub fn read_more<R: Read>(&mut self, input: &mut R) -> Result<usize, RunError>
-        ensures ok { IfOk result (YieldsBy (R.remaining input.old) (R.remaining input.new) (buffered self.old) (buffered self.new)) }
-        ensures why { IfErr result IsUnread }
-        ensures err { OnErr result (Keeps (R.remaining input.old) (R.remaining input.new)) }
+    pub fn read_more<R: Source>(&mut self, input: &mut R) -> Result<usize, RunError>
+        ensures ok { IfOk result (YieldsBy (R.left input.old) (R.left input.new) (buffered self.old) (buffered self.new)) }
+        ensures why { IfErr result (IsUnread R.can_fail) }
+        ensures err { OnErr result (Keeps (R.left input.old) (R.left input.new)) }
         ensures same { OnErr result (buffered self.new ≡ buffered self.old) }
     {
         let room = self.room_to_ask();
@@ -146,10 +145,10 @@ impl<A: Allocator> Window<A> {
 
     /// Reads until a line feed came or the input ended; returns whether it did. How long a line gets isn't known, so room
     /// for it grows by a piece at a time.
-    pub fn read_lines<R: Read>(&mut self, input: &mut R) -> Result<bool, RunError>
-        ensures ok { IfOk result (YieldsLines (R.remaining input.old) (R.remaining input.new) (buffered self.old) (buffered self.new)) }
-        ensures why { IfErr result IsUnread }
-        ensures err { OnErr result (LinesFail (R.remaining input.old) (R.remaining input.new) (buffered self.old) (buffered self.new)) }
+    pub fn read_lines<R: Source>(&mut self, input: &mut R) -> Result<bool, RunError>
+        ensures ok { IfOk result (YieldsLines (R.left input.old) (R.left input.new) (buffered self.old) (buffered self.new)) }
+        ensures why { IfErr result (IsUnread R.can_fail) }
+        ensures err { OnErr result (LinesFail (R.left input.old) (R.left input.new) (buffered self.old) (buffered self.new)) }
     {
         'pieces: loop {
             let before = self.buffered().len();

@@ -71,7 +71,7 @@ returns-in_err-ended g c = λ known h.
     let r = ready (c.pieces.invariant known h) _ _ c.in_ok-wrong.ensures.made c.in_ok-wrong.ensures.form c.buffered-buffered.ensures.are in
     let going = c.is_last-last.ensures ∙ ap (is_last c.pieces.ended) c.in_default.is ∙ c.if-ended.false in
     let f = goes_further r.shown _ _ c.in_ok-count.ensures.ok c.in-Behind.is c.in_ok-count.ensures.end going c.buffered-buffered.ensures.bytes in
-    rw (y.1, y.2) (text_read_fails r f c.in_default.is c.if-ended.false _ _ c.in_err-ended.ensures.why c.in_err-ended.ensures.err)
+    rw (y.1, y.2) (text_read_fails r f c.in_default.is c.if-ended.false _ _ _ c.in_err-ended.ensures.why c.in_err-ended.ensures.err)
 
 pub pieces-preserved : goal.pieces-preserved
 pieces-preserved g c = λ known h.

@@ -5,7 +5,7 @@ use Rattle.ttlv_run.proofs.JsonReads.{json_read_fails}
 use Rattle.ttlv_run.proofs.from_json.respond.Goals as goal
 
 pub lines-init : goal.lines-init
-lines-init g c = record { reading = json_of (json_starts (Consumes-nil (g.R.Read.remaining c.args.input.now))) c.new-window.ensures; at_end = λ e. cc }
+lines-init g c = record { reading = json_of (json_starts (Consumes-nil (g.R.Source.left c.args.input.now))) c.new-window.ensures; at_end = λ e. cc }
 
 -- offsets end
 pub returns-then-base-buffered : goal.returns-then-base-buffered
@@ -16,13 +16,13 @@ pub returns-in_err-error : goal.returns-in_err-error
 returns-in_err-error g c =
     let p = json_of c.lines.invariant.reading c.buffered-buffered.ensures.are in
     let y = err_from_is_err_and c.from_residual.result c.from_residual.ensures.1 in
-    rw (y.1, y.2) (json_fails p _ (json_next p c.in-Some.ensures) _ c.in_err-error.ensures.err)
+    rw (y.1, y.2) (json_fails p _ _ (json_next p c.in-Some.ensures) _ c.in_err-error.ensures.err)
 
 -- a line is bad
 pub returns-in-Some-2 : goal.returns-in-Some-2
 returns-in-Some-2 g c =
     let p = json_of c.lines.invariant.reading c.buffered-buffered.ensures.are in
-    json_bad p _ (json_next p c.in-Some.ensures) c.in-Some-2.is c.in_ok-error.ensures.ok
+    json_bad p _ _ (json_next p c.in-Some.ensures) c.in-Some-2.is c.in_ok-error.ensures.ok
 
 pub lines-preserved-in-Some : goal.lines-preserved-in-Some
 lines-preserved-in-Some g c =
@@ -38,13 +38,13 @@ returns-in_err-error-2 g c =
     let p = json_of c.lines.invariant.reading c.buffered-buffered.ensures.are in
     let y = err_from_is_err_and c.from_residual-in_err-error-2.result c.from_residual-in_err-error-2.ensures.1 in
     let next = json_rest p c.behind.ensures c.in_default.ensures (c.lines.invariant.at_end c.if-ended.true) in
-    rw (y.1, y.2) (json_fails p _ next _ c.in_err-error-2.ensures.err)
+    rw (y.1, y.2) (json_fails p _ _ next _ c.in_err-error-2.ensures.err)
 
 pub returns-then-ended : goal.returns-then-ended
 returns-then-ended g c =
     let p = json_of c.lines.invariant.reading c.buffered-buffered.ensures.are in
     rw c.fault_at.ensures
-    (json_ended p _ c.behind.ensures c.in_default.ensures (c.lines.invariant.at_end c.if-ended.true) c.in_ok-error-2.error c.in_ok-error-2.ensures.ok)
+    (json_ended p _ _ c.behind.ensures c.in_default.ensures (c.lines.invariant.at_end c.if-ended.true) c.in_ok-error-2.error c.in_ok-error-2.ensures.ok)
 
 -- reading failed, or memory ran out for it
 pub returns-in_err-ended : goal.returns-in_err-ended
@@ -52,7 +52,7 @@ returns-in_err-ended g c =
     let p = json_of c.lines.invariant.reading c.buffered-buffered.ensures.are in
     let left = c.discard.ensures ∙ ap (drop c.lines.at) (sym c.buffered-buffered.ensures.are) in
     let y = err_from_is_err_and c.from_residual-in_err-ended.result c.from_residual-in_err-ended.ensures.1 in
-    rw (y.1, y.2) (json_read_fails p left c.in_default.ensures c.in_err-ended.ensures.err _ c.in_err-ended.ensures.why)
+    rw (y.1, y.2) (json_read_fails _ p left c.in_default.ensures c.in_err-ended.ensures.err _ c.in_err-ended.ensures.why)
 
 pub lines-preserved : goal.lines-preserved
 lines-preserved g c =

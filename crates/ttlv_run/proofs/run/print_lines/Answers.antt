@@ -1,18 +1,26 @@
-use Rattle.std.proofs.Common.{rules, ◌∙◌, ap}
-use Rattle.kmip_ttlv_types.specs.Streams.{AppendsFront}
-use Rattle.kmip_ttlv_util.specs.{Pieces.SomeText, TagNames.name_in}
-use Rattle.ttlv_run.specs.Backs.{ReadsFront}
-use Rattle.ttlv_run.proofs.{BackLines.back_front, Printing.sent_front}
+use Rattle.std.proofs.Common.{rules, List, ℕ}
+use Rattle.kmip_ttlv_types.specs.Held.{held}
+use Rattle.kmip_ttlv_util.specs.Pieces.{SomeText, WritesFront, buffered}
+use Rattle.kmip_ttlv_util.proofs.Saying.{closed_by, lent_buffer, sink_of}
+use Rattle.kmip_ttlv_util.specs.TagNames.{name_in}
+use Rattle.ttlv_run.specs.{Backs.ReadsBack, Backs.ReadsFront, Reasons.PrintsFront}
+use Rattle.ttlv_run.proofs.{Printing.ok_all, Printing.printed_text, BackLines.back_front}
 use Rattle.ttlv_run.proofs.run.print_lines.Goals as goal
 
--- the output failed at the end, or out of memory
-pub returns-in-Err-finish-clause-err : goal.returns-in-Err-finish-clause-err
-returns-in-Err-finish-clause-err g c =
-    let has = g.W.Write.contents in
-    let p = c.in-Ok.ensures.ok in
-    let kinds = back_front (name_in c.args.names.now.tags) c.args.prefix.now c.args.bytes.now c.args.base c.args.last c.in-Ok.reached in
-    let name = c.finish.ensures.same_reference ∙ p.holds.0 ∙ c.new-pieces.ensures.same_reference in
-    let written : SomeText (ReadsFront (name_in c.args.names.now.tags) c.args.prefix.now c.args.bytes.now c.args.last)
-    (AppendsFront (has c.args.output.now) (has c.finish.new.self.writer.now)) =
-    sent_front kinds p (ap has c.new-pieces.ensures.writer) c.new-pieces.ensures.empty c.in-Err-finish.ensures.err in
+pub returns-in-Err-clause-err : goal.returns-in-Err-clause-err
+returns-in-Err-clause-err g c =
+    let of = buffered g.W.Sink.emitted g.W.Sink.room in
+    let has = held g.W.Sink.emitted g.W.Sink.room in
+    let tags = name_in c.args.names.now.tags in
+    let front = ReadsFront tags c.args.prefix.now c.args.bytes.now c.args.last in
+    let new = c.new-pieces.ensures in
+    let printed = c.print_back-printed in
+    let done = closed_by (ReadsBack tags c.args.prefix.now c.args.base c.args.bytes.now c.args.last) front printed.result c.close.result
+    (of c.new-pieces.result) (of printed.new.out) (of c.close.new.self) _ (has c.args.output.now)
+    (lent_buffer g.W.Sink.emitted g.W.Sink.room c.new-pieces.result new.same_reference new.sink new.empty new.going) printed.ensures.ok printed.ensures.err
+    (ok_all printed.result (back_front tags c.args.prefix.now c.args.bytes.now c.args.base c.args.last)) c.close.ensures in
+    let name = done.0 in
+    let failed : SomeText front (WritesFront (has c.args.output.now) (has c.close.new.self.sink.now) c.in-Err.e) = rw c.in-Err.is at done.1 in
+    let written : SomeText front (PrintsFront c.run_error_of.result (has c.args.output.now) (has c.close.new.self.sink.now)) =
+    printed_text c.run_error_of.ensures failed in
     search rules

@@ -44,7 +44,7 @@ returns-in_err-ended g c = λ known h.
     let p = of_bytes (c.pieces.invariant known h) c.buffered-buffered.ensures.are in
     let count = c.in_ok-count.ensures in
     let f = goes_further p.shown _ _ count.ok c.in-Behind.is count.end c.if-ended.false c.buffered-buffered.ensures.bytes in
-    rw (y.1, y.2) (read_fails p f c.if-ended.false _ _ c.in_err-ended.ensures.why c.in_err-ended.ensures.err)
+    rw (y.1, y.2) (read_fails p f c.if-ended.false _ _ _ c.in_err-ended.ensures.why c.in_err-ended.ensures.err)
 
 pub pieces-preserved : goal.pieces-preserved
 pieces-preserved g c = λ known h.

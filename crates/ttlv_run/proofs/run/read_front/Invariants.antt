@@ -3,7 +3,7 @@ use Rattle.ttlv_run.specs.Streaming.{buffered, Yields}
 use Rattle.ttlv_run.proofs.run.read_front.Given as goal
 
 abbrev pub invariant-pieces : goal.invariant-pieces
-invariant-pieces g l = Yields (g.R.Read.remaining l.fn.input) (g.R.Read.remaining l.input) (buffered l.fn.window) (buffered l.window)
+invariant-pieces g l = Yields (g.R.Source.left l.fn.input) (g.R.Source.left l.input) (buffered l.fn.window) (buffered l.window)
 
 abbrev pub decreases-pieces : goal.decreases-pieces
 decreases-pieces g l = 1024 - length (buffered l.window)

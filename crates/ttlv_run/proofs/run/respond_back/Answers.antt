@@ -5,7 +5,7 @@ use Rattle.ttlv_run.proofs.Decided.{unwritten_back}
 use Rattle.ttlv_run.proofs.run.respond_back.Goals as goal
 
 pub pieces-init : goal.pieces-init
-pieces-init g c = record { reading = back_of (back_starts (Consumes-nil (g.R.Read.remaining c.args.input.now))) c.new-window.ensures; at_end = λ e. cc }
+pieces-init g c = record { reading = back_of (back_starts (Consumes-nil (g.R.Source.left c.args.input.now))) c.new-window.ensures; at_end = λ e. cc }
 
 -- offsets end
 pub returns-then-base-buffered : goal.returns-then-base-buffered
@@ -37,7 +37,7 @@ returns-in_err-ended g c =
     let on = back_goes p _ c.in_ok-reached.ensures.ok c.if-ended.false c.in-Behind.is refl in
     let left = c.discard.ensures ∙ ap (drop c.in-Behind.count) (sym c.buffered-buffered.ensures.are) in
     let y = err_from_is_err_and c.from_residual-in_err-ended.result c.from_residual-in_err-ended.ensures.1 in
-    rw (y.1, y.2) (back_read_fails on.0 left on.1 c.in_err-ended.ensures.err _ c.in_err-ended.ensures.why)
+    rw (y.1, y.2) (back_read_fails _ on.0 left on.1 c.in_err-ended.ensures.err _ c.in_err-ended.ensures.why)
 
 pub pieces-preserved : goal.pieces-preserved
 pieces-preserved g c =

@@ -1,14 +1,15 @@
 use Rattle.std.proofs.Common.{◌≡◌, ◌+◌, ◌-◌, ◌*◌, ◌^◌, true, length}
 use Rattle.std.specs.Io.KnownBytes.{IsAtEnd}
+use Rattle.kmip_ttlv_types.specs.Held.{held}
 use Rattle.ttlv_run.specs.{Streaming.buffered, Texts.names_of}
 use Rattle.ttlv_run.proofs.{BackStreams.BackReading, Windows.as_number}
 use Rattle.ttlv_run.proofs.run.respond_back.Given as goal
 
 abbrev pub invariant-pieces : goal.invariant-pieces
 invariant-pieces g l = record {
-  reading : BackReading (names_of l.names) l.job (g.R.Read.remaining l.fn.input) (g.R.Read.remaining l.input) (g.W.Write.contents l.fn.output)
-      (g.W.Write.contents l.output) l.base (buffered l.window) l.first;
-  at_end : l.ended ≡ true → IsAtEnd (g.R.Read.remaining l.input);
+  reading : BackReading (names_of l.names) l.job (g.R.Source.left l.fn.input) (g.R.Source.left l.input) (held g.W.Sink.emitted g.W.Sink.room l.fn.output)
+      (held g.W.Sink.emitted g.W.Sink.room l.output) l.base (buffered l.window) l.first;
+  at_end : l.ended ≡ true → IsAtEnd (g.R.Source.left l.input);
 }
 
 abbrev pub decreases-pieces : goal.decreases-pieces

@@ -4,7 +4,7 @@ use Rattle.ttlv_run.proofs.window.Window.read_lines.Given as goal
 
 abbrev pub invariant-pieces : goal.invariant-pieces
 invariant-pieces g l = record {
-  yields : Yields (g.R.Read.remaining l.fn.input) (g.R.Read.remaining l.input) (buffered l.fn.self) (buffered l.self);
+  yields : Yields (g.R.Source.left l.fn.input) (g.R.Source.left l.input) (buffered l.fn.self) (buffered l.self);
   one_line : IsOneLine (buffered l.fn.self) → IsOneLine (buffered l.self);
 }
 
