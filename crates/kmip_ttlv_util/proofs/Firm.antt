@@ -10,7 +10,7 @@ use Rattle.std.proofs.lemmas.Str.{IsUtf8-append, IsUtf8-from_ascii, IsUtf8-from_
 use lib.Utf8.{encode}
 use Rattle.std.proofs.lemmas.{Bool.ne_eqb, Str.Ascii.IsAscii-nil, Str.Ascii.IsAscii-cons, Fmt.IsAscii-decimal}
 use Rattle.kmip_ttlv_types.specs.{declared.typ.TtlvType.TtlvType, declared.typ.TtlvType.TheVariants.Structure, TypeTexts.type_text}
-use Rattle.kmip_ttlv_util.specs.Lines.{at_least, hex_padded, indent, tag_named, tag_part, depth_mark, bounded_part, indented}
+use Rattle.kmip_ttlv_util.specs.Lines.{at_least, hex_padded, indent, tag_named, part_of, depth_mark, bounded_part, indented}
 use Rattle.kmip_ttlv_util.proofs.Trimmed.{AllVisible, ascii_one, Ends, ends_behind, keeps, last_visible, hex_visible}
 
 -- a text that ends with a visible character
@@ -134,30 +134,30 @@ zeros_visible zero ds all = all
 zeros_visible (suc k) ds all = (record { above = omega arith; below = omega arith }, zeros_visible k ds all)
 
 -- a tag's digits
-hex_solid : (n : ℕ) → Solid (hex_padded 4 n)
+hex_solid : (least n : ℕ) → Solid (hex_padded least n)
 unfolding at_least
-hex_solid n = seen 48 _ (
+hex_solid least n = seen 48 _ (
   record { above = omega arith; below = omega arith },
-  (record { above = omega arith; below = omega arith }, zeros_visible (4 - length (hex_upper n)) (hex_upper n) (hex_visible n)),
+  (record { above = omega arith; below = omega arith }, zeros_visible (least - length (hex_upper n)) (hex_upper n) (hex_visible n)),
 )
 
 -- after a name
-tag_solid : (name : Option (Bor (List ℕ))) (tag : ℕ) → IfSome name (λ s. IsUtf8 s.now) → Solid (tag_named (option_map (λ s. s.now) name) tag)
+tag_solid : (least : ℕ) (name : Option (Bor (List ℕ))) (tag : ℕ) → IfSome name (λ s. IsUtf8 s.now) → Solid (tag_named least (option_map (λ s. s.now) name) tag)
 unfolding is_utf8 chars encode
-tag_solid None tag text = hex_solid tag
-tag_solid (Some name) tag text = solid_behind name.now _ text (solid_behind (codes " (") _ (IsUtf8-from_is_utf8 (codes " (") refl)
-    (solid_behind (hex_padded 4 tag) (codes ")") ((hex_solid tag).1) (seen 41 [] (record { above = omega arith; below = omega arith }, tt))))
+tag_solid least None tag text = hex_solid least tag
+tag_solid least (Some name) tag text = solid_behind name.now _ text (solid_behind (codes " (") _ (IsUtf8-from_is_utf8 (codes " (") refl)
+    (solid_behind (hex_padded least tag) (codes ")") ((hex_solid least tag).1) (seen 41 [] (record { above = omega arith; below = omega arith }, tt))))
 
 indent_ascii : (depth : ℕ) → IsAscii (indent depth)
 indent_ascii zero = IsAscii-nil
 indent_ascii (suc d) = IsAscii-cons 32 (32 ∷ indent d) (omega arith) (IsAscii-cons 32 (indent d) (omega arith) (indent_ascii d))
 
-module _ (names : ℕ → Option (List ℕ)) (tag : ℕ) (solid : Solid (tag_named (names tag) tag)) where
+module _ (names : ℕ → Option (List ℕ)) (tag : ℕ) (solid : (least : ℕ) → Solid (tag_named least (names tag) tag)) where
   -- a line up to its tag
-  part_solid : (depth : ℕ) → Solid (tag_part names depth tag)
+  part_solid : (least depth : ℕ) → Solid (part_of least names depth tag)
   unfolding is_utf8 chars encode
-  part_solid depth = solid_behind (indent depth) _ (IsUtf8-from_ascii (indent depth) (indent_ascii depth))
-      (solid_behind (codes "Tag: ") _ (IsUtf8-from_is_utf8 (codes "Tag: ") refl) solid)
+  part_solid least depth = solid_behind (indent depth) _ (IsUtf8-from_ascii (indent depth) (indent_ascii depth))
+      (solid_behind (codes "Tag: ") _ (IsUtf8-from_is_utf8 (codes "Tag: ") refl) (solid least))
 
   mark_utf8 : (depth : ℕ) → depth < 2 ^ 64 → IsUtf8 (depth_mark depth)
   unfolding is_utf8 chars encode depth_mark
@@ -172,8 +172,8 @@ module _ (names : ℕ → Option (List ℕ)) (tag : ℕ) (solid : Solid (tag_nam
 
   pub beginning_solid : (indentation : Indentation) (depth : ℕ) → depth < 2 ^ 64 → Solid (indented indentation names depth tag)
   unfolding bounded_part
-  beginning_solid Full depth small = part_solid depth
-  beginning_solid Bounded depth small = either_solid _ _ _ (part_solid depth) (solid_behind (depth_mark depth) _ (mark_utf8 depth small) (part_solid 0))
+  beginning_solid Full depth small = part_solid 4 depth
+  beginning_solid Bounded depth small = either_solid _ _ _ (part_solid 6 depth) (solid_behind (depth_mark depth) _ (mark_utf8 depth small) (part_solid 6 0))
 
 -- a type
 typed : (words : List ℕ) → words ≡ take (length words - 1) words ++ (41 ∷ []) → is_utf8 words ≡ true → Solid words
@@ -191,9 +191,9 @@ type_solid typ = typed (codes ", Type: " ++ type_text typ) refl refl
 pub same_beginning : (names names' : ℕ → Option (List ℕ)) (indentation : Indentation) (depth tag : ℕ) → names tag ≡ names' tag
     → indented indentation names depth tag ≡ indented indentation names' depth tag
 unfolding bounded_part
-same_beginning names names' Full depth tag same = ap (λ (o : Option (List ℕ)). indent depth ++ (codes "Tag: " ++ tag_named o tag)) same
-same_beginning names names' Bounded depth tag same = ap (λ (o : Option (List ℕ)). cond (nat_le depth 64) (indent depth ++ (codes "Tag: " ++ tag_named o tag))
-    (depth_mark depth ++ (indent 0 ++ (codes "Tag: " ++ tag_named o tag)))) same
+same_beginning names names' Full depth tag same = ap (λ (o : Option (List ℕ)). indent depth ++ (codes "Tag: " ++ tag_named 4 o tag)) same
+same_beginning names names' Bounded depth tag same = ap (λ (o : Option (List ℕ)). cond (nat_le depth 64) (indent depth ++ (codes "Tag: " ++ tag_named 6 o tag))
+    (depth_mark depth ++ (indent 0 ++ (codes "Tag: " ++ tag_named 6 o tag)))) same
 
 -- a line up to its tag
 pub record Begun (beginning : ℕ → ℕ → List ℕ) (depth tag : ℕ) (text : List ℕ) : Type 0 where
@@ -206,7 +206,7 @@ pub begun : (indentation : Indentation) (names : ℕ → Option (List ℕ)) (nam
     → Begun (indented indentation names) depth tag (indented indentation (named name) depth tag)
 begun indentation names name depth tag small same text = record {
   is = same_beginning (named name) names indentation depth tag same;
-  solid = beginning_solid (named name) tag (tag_solid name tag text) indentation depth small;
+  solid = beginning_solid (named name) tag (λ least. tag_solid least name tag text) indentation depth small;
 }
 
 -- and up to its type

@@ -4,7 +4,7 @@ use Rattle.std.specs.{Prelude.codes, Option.option_map, Map.lookup, HashMap.hash
 use Rattle.kmip_ttlv_types.specs.{declared.typ.TtlvType.TtlvType, declared.typ.TtlvType.TheVariants.Structure, TypeTexts.type_text}
 use Rattle.kmip_ttlv_util.specs.TagNames.{NameMap, name_in}
 use Rattle.std.proofs.lemmas.Bool.{le-leb, lt-leb}
-use Rattle.kmip_ttlv_util.specs.Lines.{tag_part, data_part, depth_mark, bounded_part}
+use Rattle.kmip_ttlv_util.specs.Lines.{part_of, tag_part, data_part, depth_mark, bounded_part}
 use Rattle.kmip_ttlv_util.proofs.Saying.{Begins}
 use Rattle.kmip_ttlv_util.specs.Pretty.{value_shown, data_shown, pretty_line}
 
@@ -44,11 +44,11 @@ unfolding pretty_line
 line_front names depth tag typ content = record { more = _; is = append_assoc (tag_part names depth tag) (codes ", Type: " ++ type_text typ) _ }
 
 -- a line in at most 64 structures is fully indented
-pub bounded_low : (names : ℕ → Option (List ℕ)) (depth tag : ℕ) → depth ≤ 64 → tag_part names depth tag ≡ bounded_part names depth tag
+pub bounded_low : (names : ℕ → Option (List ℕ)) (depth tag : ℕ) → depth ≤ 64 → part_of 6 names depth tag ≡ bounded_part names depth tag
 unfolding bounded_part
 bounded_low names depth tag low = rw (le-leb depth 64 low) refl
 
 -- a line in more has their number
-pub bounded_deep : (names : ℕ → Option (List ℕ)) (depth tag : ℕ) → 64 < depth → depth_mark depth ++ tag_part names 0 tag ≡ bounded_part names depth tag
+pub bounded_deep : (names : ℕ → Option (List ℕ)) (depth tag : ℕ) → 64 < depth → depth_mark depth ++ part_of 6 names 0 tag ≡ bounded_part names depth tag
 unfolding bounded_part
 bounded_deep names depth tag deep = rw (lt-leb depth 64 deep) refl

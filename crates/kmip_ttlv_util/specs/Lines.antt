@@ -22,23 +22,27 @@ abbrev pub indent : ℕ → List ℕ
 indent zero = []
 indent (suc d) = 32 ∷ 32 ∷ indent d
 
--- a tag with at least four digits; if it has a name, after the name and in brackets
-abbrev pub tag_named : Option (List ℕ) → ℕ → List ℕ
-tag_named None tag = hex_padded 4 tag
-tag_named (Some name) tag = name ++ (codes " (" ++ (hex_padded 4 tag ++ codes ")"))
+-- a tag with at least so many digits; if it has a name, after the name and in brackets
+abbrev pub tag_named : ℕ → Option (List ℕ) → ℕ → List ℕ
+tag_named least None tag = hex_padded least tag
+tag_named least (Some name) tag = name ++ (codes " (" ++ (hex_padded least tag ++ codes ")"))
 
 -- the beginning of a line at a depth, up to the tag
+abbrev pub part_of : ℕ → (ℕ → Option (List ℕ)) → ℕ → ℕ → List ℕ
+part_of least names depth tag = indent depth ++ (codes "Tag: " ++ tag_named least (names tag) tag)
+
+-- the same with four digits
 abbrev pub tag_part : (ℕ → Option (List ℕ)) → ℕ → ℕ → List ℕ
-tag_part names depth tag = indent depth ++ (codes "Tag: " ++ tag_named (names tag) tag)
+tag_part names = part_of 4 names
 
 -- what precedes the tag of an item in more than 64 structures: their number
 unfoldable pub depth_mark : ℕ → List ℕ
 depth_mark depth = indent 64 ++ (codes "[" ++ (decimal depth ++ codes "] "))
 
--- the same beginning, indented by at most 64 levels
+-- with six digits, and indented by at most 64 levels
 unfoldable pub bounded_part : (ℕ → Option (List ℕ)) → ℕ → ℕ → List ℕ
 bounded_part names depth tag =
-    if nat_le depth 64 then tag_part names depth tag else depth_mark depth ++ tag_part names 0 tag
+    if nat_le depth 64 then part_of 6 names depth tag else depth_mark depth ++ part_of 6 names 0 tag
 
 -- the beginning of a line, by how lines are indented
 abbrev pub indented : Indentation → (ℕ → Option (List ℕ)) → ℕ → ℕ → List ℕ

@@ -20,10 +20,10 @@ use std::alloc::Allocator;
 /// ```
 #[derive(Clone, Copy, Debug, PartialEq, Eq)]
 pub enum Indentation {
-    /// By two spaces for each of them.
+    /// By two spaces for each of them; a tag has at least four digits.
     Full,
     /// By two spaces for each, up to 64 of them. If there are more, their number follows in brackets, so
-    /// that a text can't grow with the square of the depth.
+    /// that a text can't grow with the square of the depth. A tag has six digits.
     Bounded,
 }
 
@@ -41,7 +41,7 @@ fn push_depth<S: TextSink>(out: &mut S, depth: usize) -> Result<(), S::Error>
     out.push_str("] ")
 }
 
-// The beginning of a line that is indented by at most 64 levels.
+// The beginning of a line that is indented by at most 64 levels, and has six digits of its tag.
 fn push_bounded<S: TextSink>(
     out: &mut S,
     name: Option<&str>,
@@ -52,10 +52,10 @@ fn push_bounded<S: TextSink>(
     ensures err { OnErr result (S.breaks out.old (bounded_part (named name.entry) depth tag) out.new) }
 {
     if depth <= 64 {
-        return push_named_part(out, name, depth, tag);
+        return push_named_part(out, 6, name, depth, tag);
     }
     push_depth(out, depth)?;
-    push_named_part(out, name, 0, tag)
+    push_named_part(out, 6, name, 0, tag)
 }
 
 /// The beginning of the line of an item at this depth, up to its tag, with the tag's name if it has
@@ -72,7 +72,7 @@ pub fn push_named_beginning<S: TextSink>(
     ensures err { OnErr result (S.breaks out.old (indented indentation (named name.entry) depth tag) out.new) }
 {
     match indentation {
-        Indentation::Full => push_named_part(out, name, depth, tag),
+        Indentation::Full => push_named_part(out, 4, name, depth, tag),
         Indentation::Bounded => push_bounded(out, name, depth, tag),
     }
 }

@@ -1,9 +1,9 @@
 //! Parts of readable lines: the indent, the tag with its name, and the type.
 
-ghost use Rattle.std.specs.Prelude.{◌≡◌, ℕ, ◌++◌, OnOk, OnErr, IfSome, Some, codes, option_map};
+ghost use Rattle.std.specs.Prelude.{◌≡◌, ◌≤◌, ℕ, ◌++◌, OnOk, OnErr, IfSome, Some, codes, option_map};
 ghost use Rattle.std.specs.Str.{IsUtf8};
 ghost use Rattle.kmip_ttlv_types.specs.TypeTexts.{type_text};
-ghost use Rattle.kmip_ttlv_util.specs.Lines.{indent, hex_padded, tag_named, tag_part, typ_part, data_part};
+ghost use Rattle.kmip_ttlv_util.specs.Lines.{indent, hex_padded, tag_named, part_of, tag_part, typ_part, data_part};
 ghost use Rattle.kmip_ttlv_util.specs.TagNames.{name_in, named};
 
 use crate::digits::{eight, push_prefixed, push_wide, shown};
@@ -59,24 +59,16 @@ pub fn push_six<S: TextSink>(out: &mut S, n: u64) -> Result<(), S::Error>
     push_long(out, n)
 }
 
-/// `0x` and at least four digits.
+/// A name, then a tag in brackets, with at least so many digits.
 #[inline(always)]
-fn push_four<S: TextSink>(out: &mut S, n: u32) -> Result<(), S::Error>
-    ensures ok { OnOk result (S.adds out.old (hex_padded 4 n) out.new) }
-    ensures err { OnErr result (S.breaks out.old (hex_padded 4 n) out.new) }
-{
-    push_prefixed(out, 4, n)
-}
-
-/// A name, then a tag in brackets.
-#[inline(always)]
-fn push_named<S: TextSink>(out: &mut S, name: &str, n: u32) -> Result<(), S::Error>
-    ensures ok { OnOk result (S.adds out.old (tag_named (Some name.now) n) out.new) }
-    ensures err { OnErr result (S.breaks out.old (tag_named (Some name.now) n) out.new) }
+fn push_named<S: TextSink>(out: &mut S, least: usize, name: &str, n: u32) -> Result<(), S::Error>
+    requires { least ≤ 8 }
+    ensures ok { OnOk result (S.adds out.old (tag_named least (Some name.now) n) out.new) }
+    ensures err { OnErr result (S.breaks out.old (tag_named least (Some name.now) n) out.new) }
 {
     out.push_str(name)?;
     out.push_str(" (")?;
-    push_four(out, n)?;
+    push_prefixed(out, least, n)?;
     out.push_str(")")
 }
 
@@ -104,8 +96,7 @@ pub fn name_of<'n, A: Allocator>(names: &LentTagMap<'n, A>, tag: TtlvTag) -> Opt
     }
 }
 
-/// Appends a tag as `0x` and at least four digits; if it has a name, the name and the tag in brackets. Fails only if
-/// the sink does.
+/// Appends a tag as `0x` and its six digits; if it has a name, the name and the tag in brackets. Fails only if the sink does.
 ///
 /// ```
 /// let mut text = String::new(alloc);
@@ -118,33 +109,35 @@ pub fn push_tag<S: TextSink, A: Allocator>(
     names: &LentTagMap<'_, A>,
     tag: TtlvTag,
 ) -> Result<(), S::Error>
-    ensures ok { OnOk result (S.adds out.old (tag_named (name_in names.now tag) tag) out.new) }
-    ensures err { OnErr result (S.breaks out.old (tag_named (name_in names.now tag) tag) out.new) }
+    ensures ok { OnOk result (S.adds out.old (tag_named 6 (name_in names.now tag) tag) out.new) }
+    ensures err { OnErr result (S.breaks out.old (tag_named 6 (name_in names.now tag) tag) out.new) }
 {
     match name_of(names, tag) {
-        Some(name) => push_named(out, name, *tag),
-        None => push_four(out, *tag),
+        Some(name) => push_named(out, 6, name, *tag),
+        None => push_prefixed(out, 6, *tag),
     }
 }
 
 /// `Tag: ` and a tag that doesn't have six digits.
 #[cold]
-fn push_rare<S: TextSink>(out: &mut S, n: u32) -> Result<(), S::Error>
-    ensures ok { OnOk result (S.adds out.old (codes "Tag: " ++ hex_padded 4 n) out.new) }
-    ensures err { OnErr result (S.breaks out.old (codes "Tag: " ++ hex_padded 4 n) out.new) }
+fn push_rare<S: TextSink>(out: &mut S, least: usize, n: u32) -> Result<(), S::Error>
+    requires { least ≤ 8 }
+    ensures ok { OnOk result (S.adds out.old (codes "Tag: " ++ hex_padded least n) out.new) }
+    ensures err { OnErr result (S.breaks out.old (codes "Tag: " ++ hex_padded least n) out.new) }
 {
     out.push_str("Tag: ")?;
-    push_four(out, n)
+    push_prefixed(out, least, n)
 }
 
 /// `Tag: ` and a tag without a name. Six digits are written together with what precedes them.
 #[inline(always)]
-fn push_bare<S: TextSink>(out: &mut S, n: u32) -> Result<(), S::Error>
-    ensures ok { OnOk result (S.adds out.old (codes "Tag: " ++ hex_padded 4 n) out.new) }
-    ensures err { OnErr result (S.breaks out.old (codes "Tag: " ++ hex_padded 4 n) out.new) }
+fn push_bare<S: TextSink>(out: &mut S, least: usize, n: u32) -> Result<(), S::Error>
+    requires { least ≤ 8 }
+    ensures ok { OnOk result (S.adds out.old (codes "Tag: " ++ hex_padded least n) out.new) }
+    ensures err { OnErr result (S.breaks out.old (codes "Tag: " ++ hex_padded least n) out.new) }
 {
-    if shown(4, n) != 6 {
-        return push_rare(out, n);
+    if shown(least, n) != 6 {
+        return push_rare(out, least, n);
     }
     let d = eight(n);
     let text = [
@@ -153,27 +146,29 @@ fn push_bare<S: TextSink>(out: &mut S, n: u32) -> Result<(), S::Error>
     out.push_str(unsafe { str::from_utf8_unchecked(&text) })
 }
 
-/// The beginning of a line, up to the tag, with its name if it has one.
+/// The beginning of a line, up to the tag with at least so many digits, and with its name if it has one.
 #[inline(always)]
 pub fn push_named_part<S: TextSink>(
     out: &mut S,
+    least: usize,
     name: Option<&str>,
     depth: usize,
     tag: TtlvTag,
 ) -> Result<(), S::Error>
-    ensures ok { OnOk result (S.adds out.old (tag_part (named name.entry) depth tag) out.new) }
-    ensures err { OnErr result (S.breaks out.old (tag_part (named name.entry) depth tag) out.new) }
+    requires { least ≤ 8 }
+    ensures ok { OnOk result (S.adds out.old (part_of least (named name.entry) depth tag) out.new) }
+    ensures err { OnErr result (S.breaks out.old (part_of least (named name.entry) depth tag) out.new) }
 {
     push_indent(out, depth)?;
     let Some(name) = name else {
-        return push_bare(out, *tag);
+        return push_bare(out, least, *tag);
     };
     out.push_str("Tag: ")?;
-    push_named(out, name, *tag)
+    push_named(out, least, name, *tag)
 }
 
-/// Appends the beginning of a line: its indent, `Tag: ` and the tag as [`push_tag`] appends it. Fails only if
-/// the sink does.
+/// Appends the beginning of a line: its indent, `Tag: ` and the tag as [`push_tag`] does, but with at least four digits in place of
+/// six. Fails only if the sink does.
 ///
 /// ```
 /// let mut text = String::new(alloc);
@@ -191,7 +186,7 @@ pub fn push_tag_part<S: TextSink, A: Allocator>(
     ensures ok { OnOk result (S.adds out.old (tag_part (name_in names.now) depth tag) out.new) }
     ensures err { OnErr result (S.breaks out.old (tag_part (name_in names.now) depth tag) out.new) }
 {
-    push_named_part(out, name_of(names, tag), depth, tag)
+    push_named_part(out, 4, name_of(names, tag), depth, tag)
 }
 
 /// What follows the tag, up to the type.

@@ -75,7 +75,7 @@ fn a_line_is_printed_before_the_next_read(rt: HostRuntime) {
 const MIXED: &str = "69[]\né\n6A[]";
 
 const MIXED_LINES: &str =
-    "Tag: Protocol Version (0x420069), Type: Structure (0x01), Data:\nTag: 0x4200\nTag: Protocol Version Major (0x42006A), Type: Structure (0x01), Data:\n";
+    "Tag: Protocol Version (0x420069), Type: Structure (0x01), Data:\nTag: 0x004200\nTag: Protocol Version Major (0x42006A), Type: Structure (0x01), Data:\n";
 
 // Whether lines are read back alike, however they are cut.
 fn prints_alike(alloc: Global, most: usize) -> Result<bool, AllocError> {

@@ -14,7 +14,13 @@ const SHOW: Task<'static> = Task::Show { look: Look::PLAIN };
 const BEFORE_MINOR: &str =
     "Tag: Protocol Version (0x420069), Type: Structure (0x01), Data:\n  Tag: Protocol Version Major (0x42006A), Type: Integer (0x02), Data: 0x000001 (1)\n";
 
-const MALFORMED: [Row; 12] = [
+const MALFORMED: [Row; 13] = [
+    (
+        Encoding::Hexadecimal,
+        "00001202000000040000000100000000",
+        "",
+        "capture: byte 0: 0x000012: a message begins with a Structure\n",
+    ),
     (
         Encoding::Detected,
         "42006901",
@@ -408,7 +414,7 @@ const NOT_WHOLE: [(&str, &str, &str, &str); 8] = [
     (
         "4200",
         "69[ERR",
-        "Tag: Protocol Version (0x420069), Type: Structure (0x01), Data: \n  Tag: 0x4200E\n",
+        "Tag: Protocol Version (0x420069), Type: Structure (0x01), Data: \n  Tag: 0x04200E\n",
         "capture: byte 3: no whole part of a diagnostic\n",
     ),
     // One bracket too many.
@@ -426,11 +432,11 @@ const NOT_WHOLE: [(&str, &str, &str, &str); 8] = [
         "capture: byte 3: no whole part of a diagnostic\n",
     ),
     // The second and the third of three lines are not whole; both are read back. No digits precede `é`, so the
-    // prefix alone is the tag, which is printed with at least four digits.
+    // prefix alone is the tag.
     (
         "4200",
         "69[]\né\n6A[]]\n",
-        "Tag: Protocol Version (0x420069), Type: Structure (0x01), Data:\nTag: 0x4200\nTag: Protocol Version Major (0x42006A), Type: Structure (0x01), Data:\n",
+        "Tag: Protocol Version (0x420069), Type: Structure (0x01), Data:\nTag: 0x004200\nTag: Protocol Version Major (0x42006A), Type: Structure (0x01), Data:\n",
         "capture: byte 5: no whole part of a diagnostic\n",
     ),
     // After a prefix of six digits two more give no tag: a tag has three bytes.

@@ -12,7 +12,13 @@ use ttlv_run::table::own_table;
 use ttlv_run::{Encoding, Job, Look, Names, Task};
 
 // A user's table, a message, and its lines.
-const ROWS: [(&str, &str, &str); 4] = [
+const ROWS: [(&str, &str, &str); 5] = [
+    // Of a tag with a name, too, all six digits are shown.
+    (
+        "000012 Small\n",
+        "0000120100000000",
+        "Tag: Small (0x000012), Type: Structure (0x01), Data:\n",
+    ),
     // A tag's name comes before the standard's.
     (
         "420069 Which Version\n",

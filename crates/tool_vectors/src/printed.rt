@@ -50,7 +50,13 @@ const CLOSED: Task<'static> = Task::Diagnose {
     prefix: "4200",
 };
 
-const PRINTED: [Row; 27] = [
+const PRINTED: [Row; 28] = [
+    (
+        SHOW,
+        Encoding::Hexadecimal,
+        "0000120100000000",
+        "Tag: 0x000012, Type: Structure (0x01), Data:\n",
+    ),
     (SHOW, Encoding::Detected, VERSION, VERSION_LINES),
     (SHOW, Encoding::Hexadecimal, VERSION, VERSION_LINES),
     (SHOW, Encoding::Detected, VERSION_BASE64, VERSION_LINES),

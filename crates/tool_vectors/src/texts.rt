@@ -201,7 +201,7 @@ const BROKEN: [Row; 16] = [
         false,
         1,
         "4200690100000000\n4200690100000000\n4200690100000000\n4200690100000000\n000042006B0100000000\n",
-        "capture: byte 32: 0x0042: unknown type\n",
+        "capture: byte 32: 0x000042: unknown type\n",
     ),
     // Within the front all of it tells.
     (

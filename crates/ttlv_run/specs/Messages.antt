@@ -122,7 +122,7 @@ wrong_words NotKmip = codes "neither a Request Message nor a Response Message"
 -- a tag with its name, where there is one
 abbrev pub tag_report : Names → Option ℕ → List ℕ
 tag_report names None = codes "no tag"
-tag_report names (Some tag) = tag_named (names.tags tag) tag
+tag_report names (Some tag) = tag_named 6 (names.tags tag) tag
 
 -- what is told of a fault: of a task that prints whole messages alone no tag
 abbrev pub told : Task → Place → Place

@@ -13,5 +13,5 @@ pub returns : goal.returns
 returns g c =
     let six : c.shown.result ≡ 6 = omega arith in
     let text = c.from_utf8_unchecked.ensures ∙ ap (λ (s : List ℕ). 84 ∷ 97 ∷ 103 ∷ 58 ∷ 32 ∷ 48 ∷ 120 ∷ s)
-    (six_shown 4 c.shown.result c.args.n c.eight-d.result c.eight-d.ensures six c.shown.ensures.digits) in
+    (six_shown c.args.least c.shown.result c.args.n c.eight-d.result c.eight-d.ensures six c.shown.ensures.digits) in
     record { ok = rw (← text) c.push_str.ensures.ok; err = rw (← text) c.push_str.ensures.err }

@@ -12,16 +12,16 @@ returns-in_err-push_str-2-clause-err g c =
     err_now g.S.TextSink.adds g.S.TextSink.breaks _ _ _ _ (g.met.S.TextSink.breaks_second _ _ _ c.args.name.now _ (c.in_ok-push_str.ensures.ok)
     (g.met.S.TextSink.breaks_first _ _ (codes " (") _ (c.in_err-push_str-2.ensures.err)))
 
-pub returns-in_err-push_four-clause-err : goal.returns-in_err-push_four-clause-err
-returns-in_err-push_four-clause-err g c =
+pub returns-in_err-push_prefixed-clause-err : goal.returns-in_err-push_prefixed-clause-err
+returns-in_err-push_prefixed-clause-err g c =
     err_now g.S.TextSink.adds g.S.TextSink.breaks _ _ _ _ (g.met.S.TextSink.breaks_second _ _ _ c.args.name.now _ (c.in_ok-push_str.ensures.ok)
-    (g.met.S.TextSink.breaks_second _ _ _ (codes " (") _ (c.in_ok-push_str-2.ensures.ok) (g.met.S.TextSink.breaks_first _ _ (hex_padded 4 c.args.n)
-    (codes ")") (c.in_err-push_four.ensures.err))))
+    (g.met.S.TextSink.breaks_second _ _ _ (codes " (") _ (c.in_ok-push_str-2.ensures.ok) (g.met.S.TextSink.breaks_first _ _ (hex_padded c.args.least c.args.n)
+    (codes ")") (c.in_err-push_prefixed.ensures.err))))
 
 pub returns : goal.returns
 returns g c =
     let d = does_then g.met.S.TextSink.adds_both g.met.S.TextSink.breaks_second c.push_str-3.result _ c.in_ok-push_str.ensures.ok
     (does_then g.met.S.TextSink.adds_both g.met.S.TextSink.breaks_second _ _ c.in_ok-push_str-2.ensures.ok
-    (does_then g.met.S.TextSink.adds_both g.met.S.TextSink.breaks_second _ _ c.in_ok-push_four.ensures.ok
+    (does_then g.met.S.TextSink.adds_both g.met.S.TextSink.breaks_second _ _ c.in_ok-push_prefixed.ensures.ok
     record { ok = c.push_str-3.ensures.ok; err = c.push_str-3.ensures.err })) in
     record { ok = d.ok; err = d.err }

@@ -11,9 +11,10 @@ returns-in_err-push_str-clause-err g c =
 
 pub returns : goal.returns
 returns g c =
-    let text = ap (λ (o : Option (Bor (List ℕ))). indent c.args.depth ++ (codes "Tag: " ++ tag_named (option_map (λ s. s.now) o) c.args.tag))
+    let text = ap (λ (o : Option (Bor (List ℕ))). indent c.args.depth ++ (codes "Tag: " ++ tag_named c.args.least (option_map (λ s. s.now) o) c.args.tag))
     (sym c.in-Some.is) in
     let d = does_then g.met.S.TextSink.adds_both g.met.S.TextSink.breaks_second c.push_named.result _ c.in_ok-push_indent.ensures.ok
     (does_then g.met.S.TextSink.adds_both g.met.S.TextSink.breaks_second _ _ c.in_ok-push_str.ensures.ok
-    (does_same record { ok = c.push_named.ensures.ok; err = c.push_named.ensures.err } (ap (tag_named (Some c.in-Some.name.now)) c.deref-2.ensures))) in
+    (does_same record { ok = c.push_named.ensures.ok; err = c.push_named.ensures.err }
+    (ap (tag_named c.args.least (Some c.in-Some.name.now)) c.deref-2.ensures))) in
     record { ok = rw (← text) d.ok; err = rw (← text) d.err }

@@ -8,6 +8,6 @@ returns-in_err-push_str-clause-err g c =
 
 pub returns : goal.returns
 returns g c =
-    let d = does_then g.met.S.TextSink.adds_both g.met.S.TextSink.breaks_second c.push_four.result _ c.in_ok-push_str.ensures.ok
-    record { ok = c.push_four.ensures.ok; err = c.push_four.ensures.err } in
+    let d = does_then g.met.S.TextSink.adds_both g.met.S.TextSink.breaks_second c.push_prefixed.result _ c.in_ok-push_str.ensures.ok
+    record { ok = c.push_prefixed.ensures.ok; err = c.push_prefixed.ensures.err } in
     record { ok = d.ok; err = d.err }
