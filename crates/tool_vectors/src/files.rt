@@ -177,6 +177,7 @@ fn outcome_of(
     let mut output = Vec::new(alloc);
     let mut errors = Vec::new(alloc);
     let status = run_files(
+        alloc,
         of(alloc),
         asked,
         &names,
@@ -237,6 +238,7 @@ fn stops_at_three(alloc: Global) -> Result<bool, TableError> {
     let files = ["none", "two", "cut"];
     let mut errors = Vec::new(alloc);
     let status = run_files(
+        alloc,
         of(alloc),
         HEXADECIMAL,
         &names,
@@ -277,6 +279,7 @@ fn goes_on_behind_no_memory(alloc: Global) -> Result<bool, TableError> {
     let mut output = Vec::new(alloc);
     let mut errors = Vec::new(alloc);
     let status = run_files(
+        alloc,
         memory,
         CHECK,
         &names,
@@ -295,7 +298,7 @@ fn a_file_without_memory_does_not_end_it(rt: HostRuntime) {
 }
 
 // A table, the result of reading it, and the error line.
-const TABLES: [(&[u8], Result<&str, u8>, &str); 9] = [
+const TABLES: [(&[u8], Result<&str, u8>, &str); 17] = [
     (
         b"540001 Own Tag\n",
         Ok("420069 Standard\n540001 Own Tag\n"),
@@ -330,7 +333,26 @@ const TABLES: [(&[u8], Result<&str, u8>, &str); 9] = [
         "names: line 3 names no tag\n",
     ),
     (&[0x35, 0xFF], Err(2), "names: it is not UTF-8\n"),
+    // A comment and white space at a line's end may have what a name may not: controls, U+0085, bidirectional, zero-width.
+    (
+        b"# \x1B[31m\xE2\x80\xAE\n540001 Own Tag \t\xC2\x85\r\n",
+        Ok("420069 Standard\n# \x1B[31m\u{202E}\n540001 Own Tag \t\u{85}\r\n"),
+        "",
+    ),
+    (b"540001 Own\x1B[31mTag\n", Err(2), HIDES),
+    (b"540001 Own\tTag\n", Err(2), HIDES),
+    (b"540001 Own\rTag\n", Err(2), HIDES),
+    (b"540001 Own\xC2\x85Tag", Err(2), HIDES),
+    (b"540001:00000002 Own\xE2\x80\xAETag\n", Err(2), HIDES),
+    (b"540001 Own\xE2\x80\xA8Tag\n", Err(2), HIDES),
+    (
+        b"540001 Own Tag\n\n540001:2 Own Value\xE2\x80\x8B\n",
+        Err(2),
+        "names: line 3 has a control character, or one that can't be seen\n",
+    ),
 ];
+
+const HIDES: &str = "names: line 1 has a control character, or one that can't be seen\n";
 
 // The same, of a name with a line feed and a mark of direction.
 fn table_name_is_escaped(alloc: Global) -> bool {

@@ -1,6 +1,7 @@
 //! The tool from its words to what it prints: each option, on messages that hold keys.
 
 use crate::runs::Outcome;
+use kmip_ttlv_memory::Wiping;
 use std::alloc::{AllocError, Global};
 use std::io;
 use std::io::Read;
@@ -271,8 +272,10 @@ fn words_of(alloc: Global, line: &str) -> Result<Vec<String>, AllocError> {
 fn ran(alloc: Global, request: &Request<'_>, terminal: Terminal<'_>, mut stdin: &[u8]) -> Outcome {
     let mut output = Vec::new(alloc);
     let mut errors = Vec::new(alloc);
+    let memory = Wiping::new(alloc);
     let status = run_request(
         alloc,
+        &memory,
         request,
         terminal,
         &mut Folder,

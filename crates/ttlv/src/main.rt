@@ -5,6 +5,7 @@
 #![tactic(auto)]
 
 use either::Either;
+use kmip_ttlv_memory::Wiping;
 use std::alloc::Global;
 use std::fs::File;
 use std::io::{ErrorKind, IsTerminal, Stderr, Stdin};
@@ -140,8 +141,10 @@ fn run_all(rt: &HostRuntime, request: &Request<'_>) -> u8 {
             Err(_) => None,
         },
     };
+    let memory = Wiping::new(rt.alloc());
     run_request(
         rt.alloc(),
+        &memory,
         request,
         terminal,
         &mut Tables { rt },

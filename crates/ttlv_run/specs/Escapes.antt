@@ -40,8 +40,11 @@ is_unseen_high c =
 unfoldable pub is_unseen : ℕ → Bool
 is_unseen c = is_unseen_low c || is_unseen_middle c || is_unseen_high c
 
--- a character in a line: control characters (U+0000 to U+001F, U+007F to U+009F), those that can't be seen and the backslash
--- as Rust escapes them, any other as it is
+-- a character that a line doesn't show as itself: a control character (U+0000 to U+001F, U+007F to U+009F), or one that can't be seen
+abbrev pub is_hidden : ℕ → Bool
+is_hidden c = is_control c || is_unseen c
+
+-- a character in a line: control characters, those that can't be seen and the backslash as Rust escapes them, any other as it is
 unfoldable pub escaped_char : ℕ → List ℕ
 escaped_char c =
     if c == 0 then codes "\\0"
@@ -49,7 +52,7 @@ escaped_char c =
     else if c == 10 then codes "\\n"
     else if c == 13 then codes "\\r"
     else if c == 92 then codes "\\\\"
-    else if is_control c || is_unseen c then codes "\\u{" ++ (number_hex c ++ codes "}")
+    else if is_hidden c then codes "\\u{" ++ (number_hex c ++ codes "}")
     else encode_utf8 c
 
 -- a text in a line, character by character

@@ -5,7 +5,7 @@ ghost use Rattle.std.specs.Fmt.{digit_glyph};
 ghost use Rattle.kmip_ttlv_types.specs.declared.typ.TtlvType.TheVariants.{TextString};
 ghost use Rattle.kmip_ttlv_types.specs.Leaves.{is_valid};
 ghost use Rattle.ttlv_run.specs.Columns.{in_range};
-ghost use Rattle.ttlv_run.specs.Escapes.{byte_hex, short_hex, word_hex, number_hex, is_unseen_low, is_unseen_middle, is_unseen_high, is_unseen, escaped_char, escaped};
+ghost use Rattle.ttlv_run.specs.Escapes.{byte_hex, short_hex, word_hex, number_hex, is_unseen_low, is_unseen_middle, is_unseen_high, is_unseen, is_hidden, escaped_char, escaped};
 
 use kmip_ttlv_util::TextSink;
 use std::str;
@@ -149,6 +149,13 @@ fn is_unseen(c: char) -> bool
     is_unseen_low(c) || is_unseen_middle(c) || is_unseen_high(c)
 }
 
+/// Whether a line doesn't show a character as itself: it is a control character, or can't be seen.
+pub fn is_hidden(c: char) -> bool
+    ensures { result ≡ is_hidden c }
+{
+    c.is_control() || is_unseen(c)
+}
+
 // Adds a character as it is.
 fn push_plain<S: TextSink>(out: &mut S, c: char) -> Result<(), S::Error>
     ensures ok { OnOk result (S.adds out.old (encode_utf8 c) out.new) }
@@ -170,7 +177,7 @@ fn push_char<S: TextSink>(out: &mut S, c: char) -> Result<(), S::Error>
         '\n' => out.push_str("\\n"),
         '\r' => out.push_str("\\r"),
         '\\' => out.push_str("\\\\"),
-        _ if c.is_control() || is_unseen(c) => push_by_number(out, c),
+        _ if is_hidden(c) => push_by_number(out, c),
         _ => push_plain(out, c),
     }
 }

@@ -27,9 +27,11 @@ pub trait Opener {
         ensures { opens self.old name.now result self.new };
 }
 
-/// Does with an input what is asked, and returns the exit status, of [`run`], [`read_back`] or [`read_json`].
-pub fn run_asked<B: Allocator + Copy, R: Source, W: Sink, E: Write>(
-    memory: Memory<Global, B>,
+/// Does with an input what is asked, and returns the exit status, of [`run`], [`read_back`] or [`read_json`]. JSON that is read
+/// takes memory from `json`, all else from `memory`.
+pub fn run_asked<A: Allocator + Copy, B: Allocator + Copy, R: Source, W: Sink, E: Write>(
+    json: Global,
+    memory: Memory<A, B>,
     asked: Asked<'_>,
     name: &str,
     names: &Names<'_, B>,
@@ -62,14 +64,15 @@ pub fn run_asked<B: Allocator + Copy, R: Source, W: Sink, E: Write>(
         }
         Asked::FromJson { raw } => {
             let job = JsonJob { name, raw };
-            read_json(memory.input, &job, input, output, errors)
+            read_json(json, &job, input, output, errors)
         }
     }
 }
 
 // Does the same, and returns whether all of the input is whole, or why not all of it was printed.
-fn end_asked<B: Allocator + Copy, R: Source, W: Sink, E: Write>(
-    memory: Memory<Global, B>,
+fn end_asked<A: Allocator + Copy, B: Allocator + Copy, R: Source, W: Sink, E: Write>(
+    json: Global,
+    memory: Memory<A, B>,
     asked: Asked<'_>,
     name: &str,
     names: &Names<'_, B>,
@@ -102,14 +105,15 @@ fn end_asked<B: Allocator + Copy, R: Source, W: Sink, E: Write>(
         }
         Asked::FromJson { raw } => {
             let job = JsonJob { name, raw };
-            read_json_to_end(memory.input, &job, input, output, errors)
+            read_json_to_end(json, &job, input, output, errors)
         }
     }
 }
 
 // Does it with a file.
-fn run_file<B: Allocator + Copy, O: Opener, W: Sink, E: Write>(
-    memory: Memory<Global, B>,
+fn run_file<A: Allocator + Copy, B: Allocator + Copy, O: Opener, W: Sink, E: Write>(
+    json: Global,
+    memory: Memory<A, B>,
     asked: Asked<'_>,
     name: &str,
     names: &Names<'_, B>,
@@ -123,7 +127,7 @@ fn run_file<B: Allocator + Copy, O: Opener, W: Sink, E: Write>(
         (record { opener = opener.new; output = held W.emitted W.room output.new; errors = E.contents errors.new }) result }
 {
     match opener.open(name) {
-        Some(mut input) => end_asked(memory, asked, name, names, &mut input, output, errors),
+        Some(mut input) => end_asked(json, memory, asked, name, names, &mut input, output, errors),
         None => {
             report_error(errors, name, RunError::UnopenedInput);
             Err(RunError::UnopenedInput)
@@ -151,9 +155,10 @@ fn stops(outcome: Result<bool, RunError>) -> bool
 
 /// Does with each file what is asked, one after the other, and returns the greatest of their exit statuses:
 /// those of [`run`], [`read_back`] and [`read_json`], and 2 for a file that can't be opened. If the output can't be
-/// written, no other file is read; behind a file for which memory doesn't suffice the others are.
-pub fn run_files<B: Allocator + Copy, O: Opener, W: Sink, E: Write>(
-    memory: Memory<Global, B>,
+/// written, no other file is read; behind a file for which memory doesn't suffice the others are. Memory is that of [`run_asked`].
+pub fn run_files<A: Allocator + Copy, B: Allocator + Copy, O: Opener, W: Sink, E: Write>(
+    json: Global,
+    memory: Memory<A, B>,
     asked: Asked<'_>,
     names: &Names<'_, B>,
     files: &[&str],
@@ -168,7 +173,7 @@ pub fn run_files<B: Allocator + Copy, O: Opener, W: Sink, E: Write>(
 {
     let mut status = 0;
     'files: for name in files {
-        let outcome = run_file(memory, asked, name, names, opener, output, errors);
+        let outcome = run_file(json, memory, asked, name, names, opener, output, errors);
         status = greater(status, status_in(outcome));
         if stops(outcome) {
             return status;

@@ -25,9 +25,11 @@ same_names t u o p v w m n s r a b c d e =
     ap (λ (x : Given). names_by x o v m s) a ∙ ap (λ (x : Given). names_by u x v m s) b ∙ ap (λ (x : Given). names_by u p x m s) c
     ∙ ap (λ (x : Given). names_by u p w x s) d ∙ ap (λ (x : Given). names_by u p w n x) e
 
-pub inputs_as : {O I : Type 0} (how : Opening O I) (n m : Names) (a b : Asked) (f g : List (Bor (List ℕ))) (old new : At O) (l r : Option (List ℕ)) (status : ℕ)
-    → n ≡ m → a ≡ b → f ≡ g → InputsDone how n a f old new l r status → InputsDone how m b g old new l r status
-inputs_as how n m a b f g old new l r status p q o h =
-    subst (λ (x : List (Bor (List ℕ))). InputsDone how m b x old new l r status) o
+pub inputs_as : {O I : Type 0} (how : Opening O I) (n m : Names) (a b : Asked) (f g : List (Bor (List ℕ))) (old was new : At O)
+    (l r : Option (List ℕ)) (status : ℕ)
+    → n ≡ m → a ≡ b → f ≡ g → old ≡ was → InputsDone how n a f old new l r status → InputsDone how m b g was new l r status
+inputs_as how n m a b f g old was new l r status p q o s h =
+    subst (λ (x : At _). InputsDone how m b g x new l r status) s
+    (subst (λ (x : List (Bor (List ℕ))). InputsDone how m b x old new l r status) o
     (subst (λ (x : Asked). InputsDone how m x f old new l r status) q
-    (subst (λ (x : Names). InputsDone how x a f old new l r status) p h))
+    (subst (λ (x : Names). InputsDone how x a f old new l r status) p h)))

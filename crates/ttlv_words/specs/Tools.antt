@@ -1,13 +1,14 @@
 -- What a request comes to: its tables, the tag and the colours of lines, and what is done with its inputs.
 use Rattle.std.specs.Borrow.{Bor}
-use Rattle.std.specs.Prelude.{◌≡◌, ◌⊎◌, ℕ, Bool, true, false, ◌&&◌, ◌||◌, List, [], ◌∷◌, length, ◌==◌, codes, is_some, Option, Some, None, option_map}
+use Rattle.std.specs.Prelude.{◌≡◌, ◌⊎◌, ℕ, Bool, true, false, ◌&&◌, List, [], ◌∷◌, ◌++◌, length, ◌==◌, codes, Option, Some, None, option_map}
 use Rattle.std.specs.Option.{option_or}
-use Rattle.std.specs.Io.KnownBytes.{Keeps}
 use Rattle.clap.specs.declared.error.kind.ErrorKind.{ErrorKind}
 use Rattle.clap.specs.declared.error.kind.ErrorKind.TheVariants.{DisplayHelp, DisplayVersion, OutOfMemory}
 use Rattle.kmip_ttlv_types.specs.Names.{tag_of}
 use Rattle.kmip_ttlv_names.specs.NameTables.{names_of as tags_in, first_of, bad_line, tag_named}
-use Rattle.kmip_ttlv_names.specs.OwnNames.{value_names_of}
+use Rattle.kmip_ttlv_names.specs.OwnNames.{value_names_of, bad_own_line}
+use Rattle.kmip_ttlv_types.specs.Held.{Rests}
+use Rattle.kmip_ttlv_types.specs.Streams.{AppendsFront}
 use Rattle.kmip_ttlv_names.specs.declared.standard.TheConstants.{STANDARD_TAGS}
 use Rattle.kmip_ttlv_names.specs.declared.enumerations.TheConstants.{STANDARD_VALUES}
 use Rattle.kmip_ttlv_names.specs.declared.masks.TheConstants.{STANDARD_MASKS}
@@ -17,9 +18,13 @@ use Rattle.ttlv_run.specs.declared.job.Asked.{Asked}
 use Rattle.ttlv_run.specs.declared.job.Asked.TheVariants.{Print}
 use Rattle.ttlv_run.specs.declared.job.Strict.TheVariants.{Show as ShowWhole}
 use Rattle.ttlv_run.specs.declared.job.Task.TheVariants.{Show, Whole}
+use Rattle.ttlv_run.specs.declared.run_error.RunError.TheVariants.{UnopenedInput, NoMemory}
+use Rattle.ttlv_run.specs.declared.table.TableFault.{TableFault}
+use Rattle.ttlv_run.specs.Escapes.{escaped}
 use Rattle.ttlv_run.specs.Files.{At, Opening, IsDone, FilesDone}
 use Rattle.ttlv_run.specs.Masks.{value_named, mask_names}
-use Rattle.ttlv_run.specs.Tables.{IsJoined}
+use Rattle.ttlv_run.specs.Reasons.{error_line}
+use Rattle.ttlv_run.specs.Tables.{IsJoined, LacksTable, table_status, table_line}
 use Rattle.ttlv_run.specs.Texts.{Names}
 use Rattle.ttlv_words.specs.declared.request.Color.{Color}
 use Rattle.ttlv_words.specs.declared.request.Color.TheVariants.{Always, Never, Auto}
@@ -40,16 +45,29 @@ IsUsage DisplayVersion status = (status ≡ 0) ⊎ (status ≡ 3)
 IsUsage OutOfMemory status = status ≡ 3
 IsUsage kind status = status ≡ 2
 
--- a run that reads no input ends so: out of memory, or as wrong usage where words name something
-abbrev pub IsRefusal : Bool → ℕ → Type 0
-IsRefusal named status = (status ≡ 3) ⊎ ((status ≡ 2) × (named ≡ true))
+-- where memory ran out before an input was read
+abbrev pub no_memory_line : List ℕ
+no_memory_line = error_line (codes "ttlv") NoMemory
 
 -- a table, and behind it that of a file, if one is named: the file was opened, and taken to its end
 abbrev pub IsTable : {T I : Type 0} → Opening T I → List ℕ → T → T → Option (Bor (List ℕ)) → List ℕ → Type 0
 IsTable how standard old new None all = (all ≡ standard) × (new ≡ old)
 IsTable {T} {I} how standard old new (Some path) all =
     (input : I) × (left : Option (List ℕ)) × how.opens old path.now (Some input) new
-    × IsJoined standard (how.remaining input) left all
+    × IsJoined standard (how.left input) left all
+
+-- there is none, and this is the status and the line that says so: memory ran out, or the file can't be opened, or has no table
+pub data LacksFile
+    {T I : Type 0} (how : Opening T I) (old new : T) (path : Option (Bor (List ℕ))) (status : ℕ) (line : List ℕ) : Type 0 where
+  no_memory : path ≡ None → status ≡ 3 → line ≡ no_memory_line → LacksFile how old new path status line
+  unopened :
+      (p : Bor (List ℕ)) → path ≡ Some p → how.opens old p.now None new → status ≡ 2 → line ≡ error_line p.now UnopenedInput
+      → LacksFile how old new path status line
+  no_table :
+      (p : Bor (List ℕ)) (input : I) (left : Option (List ℕ)) (fault : TableFault)
+      → path ≡ Some p → how.opens old p.now (Some input) new → LacksTable how.can_fail (how.left input) left fault
+      → status ≡ table_status fault → line ≡ table_line p.now fault
+      → LacksFile how old new path status line
 
 -- the tables of a request: the standard's tags and those that it names; the standard's secrets and those that it names,
 -- tags alone
@@ -58,6 +76,14 @@ pub record AreRead
   pub between : T
   pub tags_are : IsTable how STANDARD_TAGS.now old between names tags
   pub secrets_are : IsTable how STANDARD_SECRETS.now between new secrets secret
+
+-- one of them is none
+pub data LacksOne
+    {T I : Type 0} (how : Opening T I) (names secrets : Option (Bor (List ℕ))) (old new : T) (status : ℕ) (line : List ℕ) : Type 0 where
+  no_tags : LacksFile how old new names status line → LacksOne how names secrets old new status line
+  no_secrets :
+      (between : T) (tags : List ℕ) → IsTable how STANDARD_TAGS.now old between names tags → LacksFile how between new secrets status line
+      → LacksOne how names secrets old new status line
 
 -- the tag that is asked for, if any: that of a name in a table, or of its digits; none where it is no tag
 abbrev pub tag_asked : List ℕ → Option (List ℕ) → Option (Option ℕ)
@@ -72,6 +98,38 @@ with_look (Print (Whole (ShowWhole look)) encoding) colored only =
     Print (Whole (ShowWhole (record look { colored = colored; only = only }))) encoding
 with_look asked colored only = asked
 
+-- a line of a table names nothing; of that of secrets also a line that names a value
+pub data HasBadLine (tags secret : List ℕ) (n : ℕ) : Type 0 where
+  of_tags : bad_own_line tags ≡ Some n → HasBadLine tags secret n
+  of_values : bad_line STANDARD_VALUES.now ≡ Some n → HasBadLine tags secret n
+  of_masks : bad_line STANDARD_MASKS.now ≡ Some n → HasBadLine tags secret n
+  of_secrets : bad_line secret ≡ Some n → HasBadLine tags secret n
+
+-- a word of the request, if it is there
+abbrev pub word_of : Option (Bor (List ℕ)) → List ℕ
+word_of None = []
+word_of (Some word) = word.now
+
+-- the line that says something of it
+abbrev pub line_of : List ℕ → List ℕ → List ℕ
+line_of word words = escaped word ++ codes ": " ++ words ++ codes "\n"
+
+-- why a request is refused, with the status and the line that says so
+pub data IsRefused
+    {T I : Type 0} (tables : Opening T I) (r : Request) (old new : T) (status : ℕ) (line : List ℕ) : Type 0 where
+  lacks_table : LacksOne tables r.names r.secrets old new status line → IsRefused tables r old new status line
+  no_tag :
+      (tags secret : List ℕ) → AreRead tables r.names r.secrets old new tags secret
+      → tag_asked tags (option_map (λ s. s.now) r.tag) ≡ None
+      → status ≡ 2 → line ≡ line_of (word_of r.tag) (codes "no tag has this name")
+      → IsRefused tables r old new status line
+  bad_names :
+      (tags secret : List ℕ) (n : ℕ) → AreRead tables r.names r.secrets old new tags secret → HasBadLine tags secret n
+      → status ≡ 2
+      → line ≡ line_of (word_of r.secrets) (codes "a table of secrets names tags alone, as `540001 Own Secret`")
+      → IsRefused tables r old new status line
+  memory_ended : status ≡ 3 → line ≡ no_memory_line → IsRefused tables r old new status line
+
 -- the names of tags and of values, and the tags of secrets, by their tables
 abbrev pub names_for : List ℕ → List ℕ → Names
 names_for tags secret = record {
@@ -83,28 +141,31 @@ names_for tags secret = record {
 
 -- with each input, or with standard input where none is named, what was asked is done
 abbrev pub InputsDone :
-    {O I : Type 0} → Opening O I → Names → Asked → List (Bor (List ℕ)) → At O → At O → Option (List ℕ) → Option (List ℕ)
-    → ℕ → Type 0
-InputsDone how names asked [] old new input input_left status =
+    {O I : Type 0} → Opening O I → Names → Asked → List (Bor (List ℕ)) → At O → At O → Bool → Option (List ℕ)
+    → Option (List ℕ) → ℕ → Type 0
+InputsDone how names asked [] old new can_fail input input_left status =
     (name : Bor (List ℕ)) × (name.now ≡ codes "standard input") × IsDone names asked name
-    (record { input = input; input_left = input_left; output = old.output; output_now = new.output })
+    (record { can_fail = can_fail; input = input; input_left = input_left; output = old.output; output_now = new.output })
     old.errors new.errors status
-InputsDone how names asked (f ∷ fs) old new input input_left status = FilesDone how names asked (f ∷ fs) old new status
+InputsDone how names asked (f ∷ fs) old new can_fail input input_left status = FilesDone how names asked (f ∷ fs) old new status
 
--- a request is done: by the tables that it names, with its tag and colours; or it is refused, and nothing is printed
+-- a request is done: by the tables that it names, with its tag and colours, and nothing is reported before that; or it is refused: a
+-- beginning of the line that says why is reported, and nothing is printed
 pub data RequestDone
     {T J O I : Type 0} (tables : Opening T J) (files : Opening O I) (r : Request) (terminal : Terminal) (old_tables new_tables : T)
-    (old new : At O) (input input_left : Option (List ℕ)) (status : ℕ) : Type 0 where
+    (old new : At O) (can_fail : Bool) (input input_left : Option (List ℕ)) (status : ℕ) : Type 0 where
   done :
-      (tags secret : List ℕ) (only : Option ℕ) (errors : Option (List ℕ))
+      (tags secret : List ℕ) (only : Option ℕ)
       → AreRead tables r.names r.secrets old_tables new_tables tags secret
       → bad_line secret ≡ None
       → tag_asked tags (option_map (λ s. s.now) r.tag) ≡ Some only
       → InputsDone files (names_for tags secret)
       (with_look r.asked (is_colored r.color terminal.is_one (option_map (λ s. s.now) terminal.no_color)) only)
-      r.files.items (record { opener = old.opener; output = old.output; errors = errors }) new input input_left status
-      → RequestDone tables files r terminal old_tables new_tables old new input input_left status
+      r.files.items old new can_fail input input_left status
+      → RequestDone tables files r terminal old_tables new_tables old new can_fail input input_left status
   refused :
-      (status ≡ 2) ⊎ (status ≡ 3)
-      → Keeps old.output new.output
-      → RequestDone tables files r terminal old_tables new_tables old new input input_left status
+      (line : List ℕ)
+      → IsRefused tables r old_tables new_tables status line
+      → AppendsFront old.errors new.errors line
+      → Rests old.output new.output
+      → RequestDone tables files r terminal old_tables new_tables old new can_fail input input_left status

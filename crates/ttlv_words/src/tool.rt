@@ -1,21 +1,24 @@
 //! What a request comes to: its tables are read, and what it asks for is done with each of its inputs.
 
-ghost use Rattle.std.specs.Prelude.{◌≡◌, ◌||◌, None, IfOk, IfErr, OnOk, is_some, option_map, string_bytes};
+ghost use Rattle.std.specs.Prelude.{◌≡◌, ℕ, List, None, IfOk, IfErr, OnOk, option_map, string_bytes};
 ghost use Rattle.clap.specs.Words.{kind_of};
+ghost use Rattle.kmip_ttlv_types.specs.Held.{held};
 ghost use Rattle.kmip_ttlv_names.specs.NameTables.{bad_line};
+ghost use Rattle.kmip_ttlv_names.specs.declared.table.TableError.TheVariants.{BadLine as ABadLine};
+ghost use Rattle.kmip_ttlv_types.specs.Streams.{AppendsFront};
 ghost use Rattle.ttlv_run.specs.Texts.{names_of};
-ghost use Rattle.ttlv_words.specs.Tools.{is_colored, IsUsage, IsRefusal, IsTable, AreRead, tag_asked, with_look, names_for, InputsDone, RequestDone};
+ghost use Rattle.ttlv_words.specs.Tools.{is_colored, IsUsage, no_memory_line, IsTable, LacksFile, AreRead, LacksOne, HasBadLine, word_of, tag_asked, with_look, names_for, InputsDone, RequestDone};
 
 use crate::request::{Color, Request};
 use clap::Error;
 use clap::error::ErrorKind;
 use kmip_ttlv_names::{
-    STANDARD_SECRETS, STANDARD_TAGS, TableError, own_names, standard_masks, standard_values,
+    STANDARD_MASKS, STANDARD_SECRETS, STANDARD_TAGS, STANDARD_VALUES, TableError, own_names,
     tag_named, tag_names,
 };
 use kmip_ttlv_types::TtlvTag;
 use std::alloc::{AllocError, Allocator, Global};
-use std::io::{Eprint, Print, Read, Write};
+use std::io::{Eprint, Print, Write};
 use ttlv_run::files::{Opener, run_asked, run_files};
 use ttlv_run::run::report_words;
 use ttlv_run::table::own_table;
@@ -52,7 +55,8 @@ fn is_colored(color: Color, terminal: Terminal<'_>) -> bool
 
 // Reports that memory ran out before an input was read, and returns the exit status.
 fn no_memory<E: Write>(errors: &mut E) -> u8
-    ensures { result ≡ 3 }
+    ensures status { result ≡ 3 }
+    ensures reported { AppendsFront (E.contents errors.old) (E.contents errors.new) no_memory_line }
 {
     report_words(errors, "ttlv", "out of memory");
     FAILED
@@ -73,19 +77,22 @@ pub fn report_usage<R: Print + Eprint, E: Write>(rt: &R, errors: &mut E, error: 
 }
 
 // A table of tags, and behind it that of a file, if one is named; or the status where there is none.
-fn table<T: Opener, E: Write>(
-    alloc: Global,
+fn table<B: Allocator + Copy, T: Opener, E: Write>(
+    alloc: B,
     tables: &mut T,
     standard: &str,
     path: Option<&str>,
     errors: &mut E,
-) -> Result<String, u8>
-    ensures ok { IfOk result (λ all. IsTable (record { opens = T.opens; remaining = T.Input.remaining }) standard.now
+) -> Result<String<B>, u8>
+    ensures ok { IfOk result (λ all. IsTable (record { opens = T.opens; left = T.Input.left; can_fail = T.Input.can_fail }) standard.now
         tables.old tables.new path.entry (string_bytes all)) }
-    ensures err { IfErr result (IsRefusal (is_some path.entry)) }
+    ensures quiet { OnOk result (errors.new ≡ errors.old) }
+    ensures err { IfErr result (λ status. (line : List ℕ)
+        × LacksFile (record { opens = T.opens; left = T.Input.left; can_fail = T.Input.can_fail }) tables.old tables.new path.entry status line
+        × AppendsFront (E.contents errors.old) (E.contents errors.new) line) }
 {
     let Some(path) = path else {
-        let alone: Result<String, AllocError> = String::from_str(alloc, standard);
+        let alone: Result<String<B>, AllocError> = String::from_str(alloc, standard);
         return match alone {
             Ok(table) => Ok(table),
             Err(_) => Err(no_memory(errors)),
@@ -97,6 +104,16 @@ fn table<T: Opener, E: Write>(
             report_words(errors, path, "it can't be opened");
             Err(USAGE)
         }
+    }
+}
+
+// A word of the request, if it is there.
+fn word_of<'w>(word: Option<&'w str>) -> &'w str
+    ensures { result.now ≡ word_of word.entry }
+{
+    match word {
+        Some(word) => word,
+        None => "",
     }
 }
 
@@ -157,20 +174,22 @@ fn names_in<'t, B: Allocator + Copy>(
 ) -> Result<Names<'t, B>, TableError>
     ensures names { IfOk result (λ names. names_of names ≡ names_for tags.now secrets.now) }
     ensures tags_alone { OnOk result (bad_line secrets.now ≡ None) }
+    ensures bad { IfErr result (λ e. (n : ℕ) → e ≡ ABadLine n → HasBadLine tags.now secrets.now n) }
 {
     let own = own_names(alloc, tags)?;
     Ok(Names {
         tags: own.tags,
-        values: standard_values(alloc)?,
-        masks: standard_masks(alloc)?,
+        values: tag_names(alloc, STANDARD_VALUES)?,
+        masks: tag_names(alloc, STANDARD_MASKS)?,
         own: own.values,
         secrets: tag_names(alloc, secrets)?,
     })
 }
 
 // Does with each input what is asked.
-fn run_inputs<B: Allocator + Copy, O: Opener, R: Read, W: Write, E: Write>(
-    memory: Memory<Global, B>,
+fn run_inputs<B: Allocator + Copy, O: Opener, R: Source, W: Sink, E: Write>(
+    json: Global,
+    memory: Memory<B, B>,
     asked: Asked<'_>,
     files: &[&str],
     names: &Names<'_, B>,
@@ -179,14 +198,15 @@ fn run_inputs<B: Allocator + Copy, O: Opener, R: Read, W: Write, E: Write>(
     output: &mut W,
     errors: &mut E,
 ) -> u8
-    ensures { InputsDone (record { opens = O.opens; remaining = O.Input.remaining })
+    ensures { InputsDone (record { opens = O.opens; left = O.Input.left; can_fail = O.Input.can_fail })
         (names_of names.now) asked.entry files.now
-        (record { opener = opener.old; output = W.contents output.old; errors = E.contents errors.old })
-        (record { opener = opener.new; output = W.contents output.new; errors = E.contents errors.new })
-        (R.remaining stdin.old) (R.remaining stdin.new) result }
+        (record { opener = opener.old; output = held W.emitted W.room output.old; errors = E.contents errors.old })
+        (record { opener = opener.new; output = held W.emitted W.room output.new; errors = E.contents errors.new })
+        R.can_fail (R.left stdin.old) (R.left stdin.new) result }
 {
     if files.is_empty() {
         return run_asked(
+            json,
             memory,
             asked,
             "standard input",
@@ -196,20 +216,23 @@ fn run_inputs<B: Allocator + Copy, O: Opener, R: Read, W: Write, E: Write>(
             errors,
         );
     }
-    run_files(memory, asked, names, files, opener, output, errors)
+    run_files(json, memory, asked, names, files, opener, output, errors)
 }
 
 // The tables of names and of secrets; or the status where there is none.
-fn tables_of<T: Opener, E: Write>(
-    alloc: Global,
+fn tables_of<B: Allocator + Copy, T: Opener, E: Write>(
+    alloc: B,
     tables: &mut T,
     names: Option<&str>,
     secrets: Option<&str>,
     errors: &mut E,
-) -> Result<(String, String), u8>
-    ensures ok { IfOk result (λ r. AreRead (record { opens = T.opens; remaining = T.Input.remaining }) names.entry secrets.entry
+) -> Result<(String<B>, String<B>), u8>
+    ensures ok { IfOk result (λ r. AreRead (record { opens = T.opens; left = T.Input.left; can_fail = T.Input.can_fail }) names.entry secrets.entry
         tables.old tables.new (string_bytes r.0) (string_bytes r.1)) }
-    ensures err { IfErr result (IsRefusal (is_some names.entry || is_some secrets.entry)) }
+    ensures quiet { OnOk result (errors.new ≡ errors.old) }
+    ensures err { IfErr result (λ status. (line : List ℕ)
+        × LacksOne (record { opens = T.opens; left = T.Input.left; can_fail = T.Input.can_fail }) names.entry secrets.entry tables.old tables.new status line
+        × AppendsFront (E.contents errors.old) (E.contents errors.new) line) }
 {
     let tags = table(alloc, tables, STANDARD_TAGS, names, errors)?;
     let secret = table(alloc, tables, STANDARD_SECRETS, secrets, errors)?;
@@ -218,9 +241,11 @@ fn tables_of<T: Opener, E: Write>(
 
 /// Does what a request asks for, and returns the exit status: those of [`run_asked`] and [`run_files`]; 2 for a table that can't
 /// be read, a table of secrets that names values, and a tag that is none; and 3 when out of memory. Tables are opened by
-/// `tables`, files by `opener`; where none is named, `stdin` is the input.
-pub fn run_request<T: Opener, O: Opener, R: Read, W: Write, E: Write>(
-    alloc: Global,
+/// `tables`, files by `opener`; where none is named, `stdin` is the input. JSON that is read takes memory from `json`, all else from
+/// `alloc`: also the bytes of the input.
+pub fn run_request<B: Allocator + Copy, T: Opener, O: Opener, R: Source, W: Sink, E: Write>(
+    json: Global,
+    alloc: B,
     request: &Request<'_>,
     terminal: Terminal<'_>,
     tables: &mut T,
@@ -229,19 +254,19 @@ pub fn run_request<T: Opener, O: Opener, R: Read, W: Write, E: Write>(
     output: &mut W,
     errors: &mut E,
 ) -> u8
-    ensures { RequestDone (record { opens = T.opens; remaining = T.Input.remaining })
-        (record { opens = O.opens; remaining = O.Input.remaining })
+    ensures { RequestDone (record { opens = T.opens; left = T.Input.left; can_fail = T.Input.can_fail })
+        (record { opens = O.opens; left = O.Input.left; can_fail = O.Input.can_fail })
         request.now terminal.entry tables.old tables.new
-        (record { opener = opener.old; output = W.contents output.old; errors = E.contents errors.old })
-        (record { opener = opener.new; output = W.contents output.new; errors = E.contents errors.new })
-        (R.remaining stdin.old) (R.remaining stdin.new) result }
+        (record { opener = opener.old; output = held W.emitted W.room output.old; errors = E.contents errors.old })
+        (record { opener = opener.new; output = held W.emitted W.room output.new; errors = E.contents errors.new })
+        R.can_fail (R.left stdin.old) (R.left stdin.new) result }
 {
     let (tags, secret) = match tables_of(alloc, tables, request.names, request.secrets, errors) {
         Ok(read) => read,
         Err(status) => return status,
     };
     let Some(only) = tag_asked(tags.as_str(), request.tag) else {
-        report_words(errors, request.tag.unwrap_or(""), "no tag has this name");
+        report_words(errors, word_of(request.tag), "no tag has this name");
         return USAGE;
     };
     let names = match names_in(alloc, tags.as_str(), secret.as_str()) {
@@ -249,7 +274,7 @@ pub fn run_request<T: Opener, O: Opener, R: Read, W: Write, E: Write>(
         Err(TableError::BadLine(_)) => {
             report_words(
                 errors,
-                request.secrets.unwrap_or(""),
+                word_of(request.secrets),
                 "a table of secrets names tags alone, as `540001 Own Secret`",
             );
             return USAGE;
@@ -262,6 +287,7 @@ pub fn run_request<T: Opener, O: Opener, R: Read, W: Write, E: Write>(
         rest: alloc,
     };
     run_inputs(
+        json,
         memory,
         asked,
         request.files.as_slice(),
