@@ -1,6 +1,6 @@
 -- What is done with inputs, by names and in a way that are known in other words.
 use Rattle.std.specs.Borrow.{Bor}
-use Rattle.std.proofs.Common.{◌≡◌, ◌∙◌, ℕ, List, Option, ap, subst}
+use Rattle.std.proofs.Common.{◌≡◌, ◌∙◌, ℕ, Bool, List, Option, ap, subst}
 use Rattle.kmip_ttlv_json.specs.Printings.{is_there}
 use Rattle.ttlv_run.specs.declared.job.Asked.{Asked}
 use Rattle.ttlv_run.specs.Files.{At, Opening}
@@ -26,10 +26,10 @@ same_names t u o p v w m n s r a b c d e =
     ∙ ap (λ (x : Given). names_by u p w x s) d ∙ ap (λ (x : Given). names_by u p w n x) e
 
 pub inputs_as : {O I : Type 0} (how : Opening O I) (n m : Names) (a b : Asked) (f g : List (Bor (List ℕ))) (old was new : At O)
-    (l r : Option (List ℕ)) (status : ℕ)
-    → n ≡ m → a ≡ b → f ≡ g → old ≡ was → InputsDone how n a f old new l r status → InputsDone how m b g was new l r status
-inputs_as how n m a b f g old was new l r status p q o s h =
-    subst (λ (x : At _). InputsDone how m b g x new l r status) s
-    (subst (λ (x : List (Bor (List ℕ))). InputsDone how m b x old new l r status) o
-    (subst (λ (x : Asked). InputsDone how m x f old new l r status) q
-    (subst (λ (x : Names). InputsDone how x a f old new l r status) p h)))
+    (can_fail : Bool) (l r : Option (List ℕ)) (status : ℕ)
+    → n ≡ m → a ≡ b → f ≡ g → old ≡ was → InputsDone how n a f old new can_fail l r status → InputsDone how m b g was new can_fail l r status
+inputs_as how n m a b f g old was new can_fail l r status p q o s h =
+    subst (λ (x : At _). InputsDone how m b g x new can_fail l r status) s
+    (subst (λ (x : List (Bor (List ℕ))). InputsDone how m b x old new can_fail l r status) o
+    (subst (λ (x : Asked). InputsDone how m x f old new can_fail l r status) q
+    (subst (λ (x : Names). InputsDone how x a f old new can_fail l r status) p h)))

@@ -17,6 +17,7 @@ use kmip_ttlv_names::{
     tag_named, tag_names,
 };
 use kmip_ttlv_types::TtlvTag;
+use kmip_ttlv_types::stream::{Sink, Source};
 use std::alloc::{AllocError, Allocator, Global};
 use std::io::{Eprint, Print, Write};
 use ttlv_run::files::{Opener, run_asked, run_files};
