@@ -1,12 +1,13 @@
 //! Tries what values are encoded as.
 
-use crate::errors::{Failure, error_text, has_any_words, wanted_error};
+use crate::errors::{error_text, has_any_words};
 use crate::tally::Tally;
-use crate::values::{Value, data_of};
+use crate::values::{MOST_DEEP, data_of};
 use kmip_ttlv_base::error::Error;
 use kmip_ttlv_base::shape::{Data, Serialize};
 use kmip_ttlv_ser::{TtlvSerializer, to_vec, to_writer};
 use serde::Deserialize;
+use serde_json::Value;
 use std::alloc::{AllocError, Global};
 use std::io;
 
@@ -18,7 +19,7 @@ pub struct Encoding {
     pub comment: String,
     pub value: Value,
     pub bytes: Option<String>,
-    pub error: Option<Failure>,
+    pub error: Option<Value>,
 }
 
 // The bytes in hexadecimal, or the error, in words.
@@ -35,12 +36,10 @@ fn found_text(
 
 // What is wanted, in words.
 fn wanted_text(alloc: Global, test: &Encoding) -> Result<String, AllocError> {
-    if let Some(error) = &test.error {
-        return wanted_error(alloc, error);
-    }
-    match &test.bytes {
-        Some(bytes) => String::from_str(alloc, bytes.as_str()),
-        None => String::from_str(alloc, "bytes or an error"),
+    match (&test.bytes, &test.error) {
+        (Some(bytes), None) => String::from_str(alloc, bytes.as_str()),
+        (None, Some(error)) => error.to_string(alloc),
+        _ => String::from_str(alloc, "bytes or an error"),
     }
 }
 
@@ -58,28 +57,43 @@ fn serialized(alloc: Global, data: &Data) -> Result<Vec<u8>, Error> {
     serializer.into_vec()
 }
 
+// Whether the data of what this data tells is the same.
+fn is_told_again(alloc: Global, data: &Data) -> bool {
+    matches!(&data.to_data(alloc), Ok(again) if again == data)
+}
+
+// Compares what a call found with what is wanted.
+fn try_bytes(
+    tally: &mut Tally<'_>,
+    test: &Encoding,
+    what: &str,
+    found: &Result<Vec<u8>, Error>,
+    wanted: &str,
+) -> io::Result<()> {
+    let found = found_text(tally.alloc(), found, has_any_words(&test.error))?;
+    tally.compare(test.name.as_str(), what, found.as_str(), wanted)
+}
+
 // Tries data: its bytes by each call, and that the data of what it tells is the same.
-fn try_data(tally: &mut Tally<'_>, test: &Encoding, data: &Data) -> io::Result<()> {
+fn try_data(tally: &mut Tally<'_>, test: &Encoding, data: &Data, wanted: &str) -> io::Result<()> {
     let alloc = tally.alloc();
-    let name = test.name.as_str();
-    let any_words = has_any_words(&test.error);
-    let wanted = wanted_text(alloc, test)?;
-    let found = found_text(alloc, &to_vec(alloc, data), any_words)?;
-    tally.compare(name, "encoded", found.as_str(), wanted.as_str())?;
-    let found = found_text(alloc, &written(alloc, data), any_words)?;
-    tally.compare(name, "written", found.as_str(), wanted.as_str())?;
-    let found = found_text(alloc, &serialized(alloc, data), any_words)?;
-    tally.compare(name, "serialized", found.as_str(), wanted.as_str())?;
-    let is_same = data.to_data(alloc)? == *data;
-    let told = if is_same { "the same" } else { "other data" };
-    tally.compare(name, "told", told, "the same")
+    try_bytes(tally, test, "encoded", &to_vec(alloc, data), wanted)?;
+    try_bytes(tally, test, "written", &written(alloc, data), wanted)?;
+    try_bytes(tally, test, "serialized", &serialized(alloc, data), wanted)?;
+    let told = if is_told_again(alloc, data) {
+        "the same"
+    } else {
+        "other data"
+    };
+    tally.compare(test.name.as_str(), "told", told, "the same")
 }
 
 /// Tries a value.
 pub fn try_encoding(tally: &mut Tally<'_>, test: &Encoding) -> io::Result<()> {
     tally.begin();
-    match &data_of(tally.alloc(), &test.value) {
-        Ok(data) => try_data(tally, test, data),
-        Err(_) => tally.compare(test.name.as_str(), "value", "no digits", "digits"),
-    }
+    let Some(data) = &data_of(tally.alloc(), &test.value, MOST_DEEP) else {
+        return tally.compare(test.name.as_str(), "value", "no value", "a value");
+    };
+    let wanted = wanted_text(tally.alloc(), test)?;
+    try_data(tally, test, data, wanted.as_str())
 }

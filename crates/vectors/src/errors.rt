@@ -1,79 +1,60 @@
-//! Errors as JSON, and in words, with their places (docs/VECTORS.md, "An error").
+//! Errors as JSON, with their places (docs/VECTORS.md).
 
-use kmip_ttlv_base::error::{Error, ErrorKind, ErrorLocation};
-use serde::Deserialize;
+use kmip_ttlv_base::error::{Error, ErrorKind, ErrorLocation, SerdeError};
+use serde_json::Value;
 use std::alloc::{AllocError, Global};
 
-/// An error, and its place, as far as it is known.
-#[derive(Drop, Deserialize)]
-#[serde(deny_unknown_fields)]
-pub struct Failure {
-    pub kind: String,
-    pub offset: Option<u64>,
-    #[serde(default)]
-    pub parents: Vec<String>,
-    pub tag: Option<String>,
-    #[serde(rename = "type")]
-    pub typ: Option<String>,
+/// Whether the words of an error don't matter: of kind `SerdeError(Other)`, where none are wanted.
+pub fn has_any_words(wanted: &Option<Value>) -> bool {
+    match wanted {
+        Some(error) => {
+            matches!(error.get("kind"), Some(Value::String(kind)) if kind.as_str() == "SerdeError(Other)")
+        }
+        None => false,
+    }
 }
 
-/// The error that is wanted, in words.
-pub fn wanted_error(alloc: Global, wanted: &Failure) -> Result<String, AllocError> {
-    let mut text = String::from_str(alloc, wanted.kind.as_str())?;
-    if let Some(offset) = wanted.offset {
-        write!(text, "; offset {offset}")?;
+// The kind of an error, in words.
+fn kind_text(alloc: Global, kind: &ErrorKind, any_words: bool) -> Result<String, AllocError> {
+    match kind {
+        ErrorKind::IoError(cause) => format!(in alloc; "{:?}", cause.kind()),
+        ErrorKind::SerdeError(SerdeError::Other(_)) if any_words => {
+            String::from_str(alloc, "SerdeError(Other)")
+        }
+        kind => format!(in alloc; "{kind:?}"),
     }
-    for tag in &wanted.parents {
-        write!(text, "; in {tag}")?;
-    }
-    if let Some(tag) = &wanted.tag {
-        write!(text, "; tag {tag}")?;
-    }
-    if let Some(typ) = &wanted.typ {
-        write!(text, "; type {typ}")?;
-    }
-    Ok(text)
 }
 
-// The place of an error, in words.
+// Adds the tags of the structures around.
+fn push_parents(text: &mut String, place: &ErrorLocation) -> Result<(), AllocError> {
+    let mut before = ",\"parents\":[";
+    for tag in place.parent_tags() {
+        write!(text, "{before}\"{tag}\"")?;
+        before = ",";
+    }
+    text.push_str(if before == "," { "]" } else { "" })
+}
+
+// Adds the place of an error, as far as it is known.
 fn push_place(text: &mut String, place: &ErrorLocation) -> Result<(), AllocError> {
     if let Some(offset) = place.offset() {
         let offset = offset.0;
-        write!(text, "; offset {offset}")?;
+        write!(text, ",\"offset\":{offset}")?;
     }
-    for tag in place.parent_tags() {
-        write!(text, "; in {tag}")?;
-    }
+    push_parents(text, place)?;
     if let Some(tag) = place.tag() {
-        write!(text, "; tag {tag}")?;
+        write!(text, ",\"tag\":\"{tag}\"")?;
     }
     if let Some(typ) = place.typ() {
-        write!(text, "; type {typ:?}")?;
+        write!(text, ",\"type\":\"{typ:?}\"")?;
     }
-    Ok(())
+    text.push('}')
 }
 
-// The kind of an error, in words: those of `Other` only if they matter.
-fn kind_text(alloc: Global, kind: &ErrorKind, any_words: bool) -> Result<String, AllocError> {
-    if let ErrorKind::IoError(cause) = kind {
-        let kind = cause.kind();
-        return format!(in alloc; "{kind:?}");
-    }
-    let text = format!(in alloc; "{kind:?}")?;
-    if any_words && text.as_str().starts_with("SerdeError(Other(") {
-        return String::from_str(alloc, "SerdeError(Other)");
-    }
-    Ok(text)
-}
-
-/// Whether the words of an error don't matter: of kind `Other`, where none are wanted.
-pub fn has_any_words(wanted: &Option<Failure>) -> bool {
-    matches!(wanted, Some(failure) if failure.kind.as_str() == "SerdeError(Other)")
-}
-
-/// An error, in words.
+/// An error as JSON, its members in the order of their names.
 pub fn error_text(alloc: Global, error: &Error, any_words: bool) -> Result<String, AllocError> {
-    let mut text = kind_text(alloc, error.kind(), any_words)?;
+    let kind = kind_text(alloc, error.kind(), any_words)?;
+    let mut text = format!(in alloc; "{{\"kind\":{kind:?}")?;
     push_place(&mut text, error.location())?;
     Ok(text)
 }

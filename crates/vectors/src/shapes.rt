@@ -1,153 +1,117 @@
-//! Shapes as JSON, and as what bytes are decoded by (docs/VECTORS.md, "A shape").
+//! Shapes as JSON, and as what bytes are decoded by (docs/VECTORS.md).
 
-use crate::values::lasting;
+use crate::values::{items, lasting, member, pair};
 use kmip_ttlv_base::shape::{FieldShape, Shape, VariantContent, VariantShape};
-use serde::Deserialize;
-use std::alloc::{AllocError, Global};
+use serde_json::Value;
+use std::alloc::Global;
 
-/// What bytes are decoded by.
-#[derive(Drop, Deserialize)]
-#[serde(recursive, rename_all = "snake_case")]
-#[cycle(forms)]
-pub enum Form {
-    Boolean,
-    Integer,
-    Enumeration,
-    LongInteger,
-    DateTime,
-    Interval,
-    Text,
-    Bytes,
-    BigInteger,
-    Optional(#[serde(recursive)] Box<Form>),
-    Sequence(#[serde(recursive)] Box<Form>),
-    Newtype(String, #[serde(recursive)] Box<Form>),
-    Structure(String, #[serde(recursive)] Vec<Field>),
-    ClosedStructure(String, #[serde(recursive)] Vec<Field>),
-    Choice(String, #[serde(recursive)] Vec<Variant>),
-}
-
-/// A field: its tag, and its shape.
-#[derive(Drop, Deserialize)]
-#[serde(recursive)]
-#[cycle(forms)]
-pub struct Field(String, #[serde(recursive)] Form);
-
-/// A variant: its rule or its number, and its content.
-#[derive(Drop, Deserialize)]
-#[serde(recursive)]
-#[cycle(forms)]
-pub struct Variant(String, #[serde(recursive)] Content);
-
-/// What a variant contains.
-#[derive(Drop, Deserialize)]
-#[serde(recursive, rename_all = "snake_case")]
-#[cycle(forms)]
-pub enum Content {
-    Nothing,
-    One(#[serde(recursive)] Form),
-    Tuple(#[serde(recursive)] Vec<Form>),
-}
-
-// The shape that a form is, in a box.
-#[cycle(shapes)]
-fn boxed(alloc: Global, form: &Form) -> Result<Box<Shape>, AllocError> {
-    Ok(Box::new(alloc, shape_of(alloc, form)?)?)
-}
-
-// The shapes that forms are.
-#[cycle(shapes)]
-fn shapes_of(alloc: Global, forms: &[Form]) -> Result<Vec<Shape>, AllocError> {
-    let mut shapes = Vec::new(alloc);
-    for form in forms {
-        shapes.push(shape_of(alloc, form)?)?;
+// The shape of a leaf.
+fn leaf_of(name: &str) -> Option<Shape> {
+    match name {
+        "boolean" => Some(Shape::Bool),
+        "integer" => Some(Shape::I32),
+        "enumeration" => Some(Shape::U32),
+        "long_integer" => Some(Shape::I64),
+        "date_time" => Some(Shape::DateTime),
+        "interval" => Some(Shape::Interval),
+        "text" => Some(Shape::Text),
+        "bytes" => Some(Shape::Bytes),
+        "big_integer" => Some(Shape::BigInteger),
+        _ => None,
     }
-    Ok(shapes)
+}
+
+// A shape in a box.
+#[cycle(shapes)]
+fn boxed(alloc: Global, json: &Value, depth: u32) -> Option<Box<Shape>> {
+    Box::new(alloc, shape_of(alloc, json, depth)?).ok()
+}
+
+// The shapes of a tuple.
+#[cycle(shapes)]
+fn shapes_of(alloc: Global, json: &Value, depth: u32) -> Option<Vec<Shape>> {
+    let mut shapes = Vec::new(alloc);
+    for item in items(json)? {
+        shapes.push(shape_of(alloc, item, depth)?).ok()?;
+    }
+    Some(shapes)
 }
 
 // The fields of a struct.
 #[cycle(shapes)]
-fn fields_of(alloc: Global, fields: &[Field]) -> Result<Vec<FieldShape>, AllocError> {
-    let mut made = Vec::new(alloc);
-    for field in fields {
-        let shape = shape_of(alloc, &field.1)?;
-        let name = lasting(alloc, &field.0)?;
-        made.push(FieldShape { name, shape })?;
+fn fields_of(alloc: Global, json: &Value, depth: u32) -> Option<Vec<FieldShape>> {
+    let mut fields = Vec::new(alloc);
+    for item in items(json)? {
+        let (name, inner) = pair(item)?;
+        let name = lasting(alloc, name).ok()?;
+        let shape = shape_of(alloc, inner, depth)?;
+        fields.push(FieldShape { name, shape }).ok()?;
     }
-    Ok(made)
+    Some(fields)
 }
 
 // The content of a variant.
 #[cycle(shapes)]
-fn content_of(alloc: Global, content: &Content) -> Result<VariantContent, AllocError> {
-    match content {
-        Content::Nothing => Ok(VariantContent::Unit),
-        Content::One(form) => Ok(VariantContent::Newtype(boxed(alloc, form)?)),
-        Content::Tuple(forms) => Ok(VariantContent::Tuple(shapes_of(alloc, forms)?)),
+fn content_of(alloc: Global, json: &Value, depth: u32) -> Option<VariantContent> {
+    match member(json) {
+        Some(("one", inner)) => Some(VariantContent::Newtype(boxed(alloc, inner, depth)?)),
+        Some(("tuple", inner)) => Some(VariantContent::Tuple(shapes_of(alloc, inner, depth)?)),
+        None if json.as_str() == Some("nothing") => Some(VariantContent::Unit),
+        _ => None,
     }
 }
 
 // The variants of an enum.
 #[cycle(shapes)]
-fn variants_of(alloc: Global, variants: &[Variant]) -> Result<Vec<VariantShape>, AllocError> {
-    let mut made = Vec::new(alloc);
-    for variant in variants {
-        let content = content_of(alloc, &variant.1)?;
-        let name = lasting(alloc, &variant.0)?;
-        made.push(VariantShape { name, content })?;
+fn variants_of(alloc: Global, json: &Value, depth: u32) -> Option<Vec<VariantShape>> {
+    let mut variants = Vec::new(alloc);
+    for item in items(json)? {
+        let (name, inner) = pair(item)?;
+        let name = lasting(alloc, name).ok()?;
+        let content = content_of(alloc, inner, depth)?;
+        variants.push(VariantShape { name, content }).ok()?;
     }
-    Ok(made)
+    Some(variants)
 }
 
-// A struct of these fields.
-fn structure(
-    alloc: Global,
-    name: &str,
-    fields: Vec<FieldShape>,
-    deny_unknown: bool,
-) -> Result<Shape, AllocError> {
-    let name = lasting(alloc, name)?;
-    Ok(Shape::Struct {
-        name,
-        fields,
-        deny_unknown,
-    })
-}
-
-// A newtype of what is in the box.
-fn newtype(alloc: Global, name: &str, inner: Box<Shape>) -> Result<Shape, AllocError> {
-    let name = lasting(alloc, name)?;
-    Ok(Shape::Newtype { name, inner })
-}
-
-// An enum of these variants.
-fn choice(alloc: Global, name: &str, variants: Vec<VariantShape>) -> Result<Shape, AllocError> {
-    let name = lasting(alloc, name)?;
-    Ok(Shape::Enum { name, variants })
-}
-
-/// The shape that a form is.
+// A shape with a name.
 #[cycle(shapes)]
-pub fn shape_of(alloc: Global, form: &Form) -> Result<Shape, AllocError> {
-    match form {
-        Form::Boolean => Ok(Shape::Bool),
-        Form::Integer => Ok(Shape::I32),
-        Form::Enumeration => Ok(Shape::U32),
-        Form::LongInteger => Ok(Shape::I64),
-        Form::DateTime => Ok(Shape::DateTime),
-        Form::Interval => Ok(Shape::Interval),
-        Form::Text => Ok(Shape::Text),
-        Form::Bytes => Ok(Shape::Bytes),
-        Form::BigInteger => Ok(Shape::BigInteger),
-        Form::Optional(inner) => Ok(Shape::Option(boxed(alloc, inner)?)),
-        Form::Sequence(inner) => Ok(Shape::Seq(boxed(alloc, inner)?)),
-        Form::Newtype(name, inner) => newtype(alloc, name, boxed(alloc, inner)?),
-        Form::Structure(name, fields) => {
-            structure(alloc, name, fields_of(alloc, fields)?, false)
+fn named_of(alloc: Global, kind: &str, json: &Value, depth: u32) -> Option<Shape> {
+    let (name, inner) = pair(json)?;
+    let name = lasting(alloc, name).ok()?;
+    match kind {
+        "newtype" => {
+            let inner = boxed(alloc, inner, depth)?;
+            Some(Shape::Newtype { name, inner })
         }
-        Form::ClosedStructure(name, fields) => {
-            structure(alloc, name, fields_of(alloc, fields)?, true)
+        "choice" => {
+            let variants = variants_of(alloc, inner, depth)?;
+            Some(Shape::Enum { name, variants })
         }
-        Form::Choice(name, variants) => choice(alloc, name, variants_of(alloc, variants)?),
+        "structure" | "closed_structure" => {
+            let fields = fields_of(alloc, inner, depth)?;
+            Some(Shape::Struct {
+                name,
+                fields,
+                deny_unknown: kind == "closed_structure",
+            })
+        }
+        _ => None,
+    }
+}
+
+/// The shape that JSON no deeper than this is, if it is one.
+#[cycle(shapes)]
+pub fn shape_of(alloc: Global, json: &Value, depth: u32) -> Option<Shape> {
+    if depth == 0 {
+        return None;
+    }
+    let Some((kind, inner)) = member(json) else {
+        return leaf_of(json.as_str()?);
+    };
+    match kind {
+        "optional" => Some(Shape::Option(boxed(alloc, inner, depth - 1)?)),
+        "sequence" => Some(Shape::Seq(boxed(alloc, inner, depth - 1)?)),
+        _ => named_of(alloc, kind, inner, depth - 1),
     }
 }

@@ -1,39 +1,11 @@
-//! Values as JSON, and the data that they are (docs/VECTORS.md, "A value").
+//! Values as JSON, and the data that they are (docs/VECTORS.md).
 
-use hex::FromHexError;
 use kmip_ttlv_base::shape::Data;
-use serde::Deserialize;
+use serde_json::Value;
 use std::alloc::{AllocError, Global};
 
-/// A value to encode, or one that was decoded.
-#[derive(Drop, Deserialize)]
-#[serde(recursive, rename_all = "snake_case")]
-#[cycle(values)]
-pub enum Value {
-    Boolean(bool),
-    #[serde(rename = "integer_8")]
-    Integer8(i8),
-    #[serde(rename = "integer_16")]
-    Integer16(i16),
-    Integer(i32),
-    Enumeration(u32),
-    LongInteger(i64),
-    DateTimeBits(u64),
-    DateTime(i64),
-    Interval(u32),
-    Text(String),
-    Bytes(String),
-    BigInteger(String),
-    Absent,
-    Present(#[serde(recursive)] Box<Value>),
-    Sequence(#[serde(recursive)] Vec<Value>),
-    Structure(String, #[serde(recursive)] Vec<Value>),
-    Newtype(String, #[serde(recursive)] Box<Value>),
-    Unit(String, String),
-    Variant(String, String, #[serde(recursive)] Box<Value>),
-    Tuple(String, String, #[serde(recursive)] Vec<Value>),
-    Unsupported(String),
-}
+/// How deep JSON is read: no file is read that is deeper.
+pub const MOST_DEEP: u32 = 127;
 
 /// A name for as long as the program runs, as shapes and data have it.
 pub fn lasting(alloc: Global, name: &str) -> Result<&'static str, AllocError> {
@@ -41,101 +13,144 @@ pub fn lasting(alloc: Global, name: &str) -> Result<&'static str, AllocError> {
     Ok(str::from_utf8(bytes).unwrap_or("no text"))
 }
 
-// A value more.
-fn add(all: &mut Vec<Data>, data: Data) -> Result<(), AllocError> {
-    Ok(all.push(data)?)
+/// The only member of an object: its name and its value.
+pub fn member(json: &Value) -> Option<(&str, &Value)> {
+    let Value::Object(members) = json else {
+        return None;
+    };
+    let mut all = members.iter();
+    match (all.next(), all.next()) {
+        (Some((name, inner)), None) => Some((name.as_str(), inner)),
+        _ => None,
+    }
 }
 
-// A value in a box.
-fn in_box(alloc: Global, data: Data) -> Result<Box<Data>, AllocError> {
-    Ok(Box::new(alloc, data)?)
+/// The items of an array.
+pub fn items(json: &Value) -> Option<&[Value]> {
+    match json {
+        Value::Array(items) => Some(items.as_slice()),
+        _ => None,
+    }
+}
+
+/// An array of a text and something else.
+pub fn pair(json: &Value) -> Option<(&str, &Value)> {
+    match items(json)? {
+        [Value::String(name), inner] => Some((name.as_str(), inner)),
+        _ => None,
+    }
+}
+
+// A number that is data, if it is one.
+fn number_of(kind: &str, json: &Value) -> Option<Data> {
+    match kind {
+        "boolean" => Some(Data::Bool(json.as_bool()?)),
+        "integer_8" => Some(Data::I8(i8::try_from(json.as_i64()?).ok()?)),
+        "integer_16" => Some(Data::I16(i16::try_from(json.as_i64()?).ok()?)),
+        "integer" => Some(Data::I32(i32::try_from(json.as_i64()?).ok()?)),
+        "enumeration" => Some(Data::U32(u32::try_from(json.as_u64()?).ok()?)),
+        "long_integer" => Some(Data::I64(json.as_i64()?)),
+        "date_time_bits" => Some(Data::U64(json.as_u64()?)),
+        "date_time" => Some(Data::DateTime(json.as_i64()?)),
+        "interval" => Some(Data::Interval(u32::try_from(json.as_u64()?).ok()?)),
+        _ => None,
+    }
+}
+
+// A text or bytes.
+fn string_of(alloc: Global, kind: &str, text: &str) -> Option<Data> {
+    match kind {
+        "text" => Some(Data::Text(String::from_str(alloc, text).ok()?)),
+        "bytes" => Some(Data::Bytes(hex::decode(alloc, text).ok()?)),
+        "big_integer" => Some(Data::BigInteger(hex::decode(alloc, text).ok()?)),
+        "unsupported" => Some(Data::Unsupported(lasting(alloc, text).ok()?)),
+        _ => None,
+    }
 }
 
 // The data that each value is.
 #[cycle(data)]
-fn all_of(alloc: Global, values: &[Value]) -> Result<Vec<Data>, FromHexError> {
+fn all_of(alloc: Global, json: &Value, depth: u32) -> Option<Vec<Data>> {
     let mut all = Vec::new(alloc);
-    for value in values {
-        add(&mut all, data_of(alloc, value)?)?;
+    for item in items(json)? {
+        all.push(data_of(alloc, item, depth)?).ok()?;
     }
-    Ok(all)
+    Some(all)
 }
 
 // The data that a value is, in a box.
 #[cycle(data)]
-fn boxed(alloc: Global, value: &Value) -> Result<Box<Data>, FromHexError> {
-    Ok(in_box(alloc, data_of(alloc, value)?)?)
+fn boxed(alloc: Global, json: &Value, depth: u32) -> Option<Box<Data>> {
+    Box::new(alloc, data_of(alloc, json, depth)?).ok()
 }
 
-// A Structure of these fields.
-fn structure(alloc: Global, name: &str, fields: Vec<Data>) -> Result<Data, AllocError> {
-    let name = lasting(alloc, name)?;
-    Ok(Data::Struct { name, fields })
-}
-
-// A newtype of what is in the box.
-fn newtype(alloc: Global, name: &str, inner: Box<Data>) -> Result<Data, AllocError> {
-    let name = lasting(alloc, name)?;
-    Ok(Data::Newtype { name, inner })
-}
-
-// A variant without content.
-fn unit(alloc: Global, name: &str, variant: &str) -> Result<Data, AllocError> {
-    let name = lasting(alloc, name)?;
-    let variant = lasting(alloc, variant)?;
-    Ok(Data::UnitVariant { name, variant })
-}
-
-// A variant of what is in the box.
-fn variant_of(alloc: Global, names: (&str, &str), inner: Box<Data>) -> Result<Data, AllocError> {
-    let name = lasting(alloc, names.0)?;
-    let variant = lasting(alloc, names.1)?;
-    Ok(Data::NewtypeVariant {
+// The data of a variant: of a value, or of a list of them.
+#[cycle(data)]
+fn variant_of(alloc: Global, kind: &str, json: &Value, depth: u32) -> Option<Data> {
+    let [Value::String(name), Value::String(variant), inner] = items(json)? else {
+        return None;
+    };
+    let name = lasting(alloc, name.as_str()).ok()?;
+    let variant = lasting(alloc, variant.as_str()).ok()?;
+    if kind == "tuple" {
+        let fields = all_of(alloc, inner, depth)?;
+        return Some(Data::TupleVariant {
+            name,
+            variant,
+            fields,
+        });
+    }
+    let inner = boxed(alloc, inner, depth)?;
+    Some(Data::NewtypeVariant {
         name,
         variant,
         inner,
     })
 }
 
-// A variant of these fields.
-fn tuple(alloc: Global, names: (&str, &str), fields: Vec<Data>) -> Result<Data, AllocError> {
-    let name = lasting(alloc, names.0)?;
-    let variant = lasting(alloc, names.1)?;
-    Ok(Data::TupleVariant {
-        name,
-        variant,
-        fields,
-    })
+// The data under a name.
+#[cycle(data)]
+fn named_of(alloc: Global, kind: &str, json: &Value, depth: u32) -> Option<Data> {
+    let (name, inner) = pair(json)?;
+    let name = lasting(alloc, name).ok()?;
+    match kind {
+        "structure" => {
+            let fields = all_of(alloc, inner, depth)?;
+            Some(Data::Struct { name, fields })
+        }
+        "newtype" => {
+            let inner = boxed(alloc, inner, depth)?;
+            Some(Data::Newtype { name, inner })
+        }
+        "unit" => {
+            let variant = lasting(alloc, inner.as_str()?).ok()?;
+            Some(Data::UnitVariant { name, variant })
+        }
+        _ => None,
+    }
 }
 
-/// The data that a value is. Its error is out of memory, or bytes that are no digits.
+/// The data that JSON no deeper than this is, if it is a value.
 #[cycle(data)]
-pub fn data_of(alloc: Global, value: &Value) -> Result<Data, FromHexError> {
-    match value {
-        Value::Boolean(truth) => Ok(Data::Bool(*truth)),
-        Value::Integer8(number) => Ok(Data::I8(*number)),
-        Value::Integer16(number) => Ok(Data::I16(*number)),
-        Value::Integer(number) => Ok(Data::I32(*number)),
-        Value::Enumeration(number) => Ok(Data::U32(*number)),
-        Value::LongInteger(number) => Ok(Data::I64(*number)),
-        Value::DateTimeBits(bits) => Ok(Data::U64(*bits)),
-        Value::DateTime(seconds) => Ok(Data::DateTime(*seconds)),
-        Value::Interval(seconds) => Ok(Data::Interval(*seconds)),
-        Value::Text(text) => Ok(Data::Text(String::from_str(alloc, text)?)),
-        Value::Bytes(digits) => Ok(Data::Bytes(hex::decode(alloc, digits.as_str())?)),
-        Value::BigInteger(digits) => Ok(Data::BigInteger(hex::decode(alloc, digits.as_str())?)),
-        Value::Absent => Ok(Data::None),
-        Value::Present(inner) => Ok(Data::Some(boxed(alloc, inner)?)),
-        Value::Sequence(values) => Ok(Data::Seq(all_of(alloc, values)?)),
-        Value::Structure(name, fields) => Ok(structure(alloc, name, all_of(alloc, fields)?)?),
-        Value::Newtype(name, inner) => Ok(newtype(alloc, name, boxed(alloc, inner)?)?),
-        Value::Unit(name, variant) => Ok(unit(alloc, name, variant)?),
-        Value::Variant(name, variant, inner) => {
-            Ok(variant_of(alloc, (name, variant), boxed(alloc, inner)?)?)
-        }
-        Value::Tuple(name, variant, fields) => {
-            Ok(tuple(alloc, (name, variant), all_of(alloc, fields)?)?)
-        }
-        Value::Unsupported(name) => Ok(Data::Unsupported(lasting(alloc, name)?)),
+pub fn data_of(alloc: Global, json: &Value, depth: u32) -> Option<Data> {
+    if depth == 0 {
+        return None;
+    }
+    let Some((kind, inner)) = member(json) else {
+        return if json.as_str() == Some("absent") {
+            Some(Data::None)
+        } else {
+            None
+        };
+    };
+    match kind {
+        "present" => Some(Data::Some(boxed(alloc, inner, depth - 1)?)),
+        "sequence" => Some(Data::Seq(all_of(alloc, inner, depth - 1)?)),
+        "variant" | "tuple" => variant_of(alloc, kind, inner, depth - 1),
+        "structure" | "newtype" | "unit" => named_of(alloc, kind, inner, depth - 1),
+        _ => match inner {
+            Value::String(text) => string_of(alloc, kind, text.as_str()),
+            _ => number_of(kind, inner),
+        },
     }
 }
