@@ -20,7 +20,8 @@ returns g c =
     (inputs_as _ _ _ _ _ _ _ _ _ _ _ _ _ _ (c.in-Ok-names_in.ensures.names ∙ ap₂ names_for c.as_str-2.ensures.value c.as_str-3.ensures.value)
     (c.with_look-asked.ensures ∙ ap (λ k. with_look asked k c.in-Some.only) c.is_colored.ensures)
     c.as_slice.ensures.value
-    (ap (λ e. record { opener = c.args.opener.now; output = held g.W.Sink.emitted g.W.Sink.room c.args.output.now; errors = g.E.Write.contents e }) c.in-Ok.ensures.quiet)
+    (ap (λ e. record { opener = c.args.opener.now; output = held g.W.Sink.emitted g.W.Sink.room c.args.output.now; errors = g.E.Write.contents e })
+    c.in-Ok.ensures.quiet)
     c.run_inputs.ensures)
 
 pub returns-in-Err : goal.returns-in-Err
