@@ -1,13 +1,14 @@
 -- A JSON string as it is printed is read back, and passed over by the lexer.
-use Rattle.std.proofs.Common.{◌≡◌, ◌∙◌, inl, inr, ◌⊎◌, ℕ, zero, suc, ◌+◌, ◌-◌, ◌<◌, ◌≤◌, ◌&&◌, Bool, true, false, cond, if◌then◌else◌}
+use Rattle.std.proofs.Common.{◌≡◌, ◌∙◌, inl, inr, ◌⊎◌, ℕ, ◌+◌, ◌*◌, ◌/◌, ◌%◌, ◌<◌, ◌≤◌, ◌&&◌, Bool, true, false, cond, if◌then◌else◌}
 use Rattle.std.proofs.Common.{List, [], ◌∷◌, ◌++◌, Option, Some, None, refl, sym, ap, ap₂, subst, arith, append_assoc, append-nil}
-use Rattle.std.specs.Prelude.{flat_map, nat_lt}
+use Rattle.std.specs.Prelude.{flat_map, nat_lt, option_and_then}
+use Rattle.std.specs.Char.{digit_char, digit_value, is_digit}
 use Rattle.std.specs.Str.{chars, is_utf8}
-use Rattle.std.proofs.lemmas.Bool.{cases_eq, cases_lt, ne_eqb, lt-ltb, le-ltb}
-use Rattle.std.proofs.lemmas.Str.{IsUtf8-from_is_utf8, encodes-chars}
+use Rattle.std.proofs.lemmas.Bool.{cases_eq, cases_lt, ne_eqb, lt-ltb, le-ltb, lt-leb}
+use Rattle.std.proofs.lemmas.Str.{IsUtf8-from_is_utf8, encodes-chars, encode_ascii, digit_value-digit_char}
 use Rattle.std.proofs.Math.Bool.{and-false}
 use lib.Utf8.{encode, encodes}
-use Rattle.json.specs.Text.{content, plain, prepend, code_unit, short_escape}
+use Rattle.json.specs.Text.{content, plain, after_high, prepend, code_unit, short_escape, is_high_surrogate, is_low_surrogate}
 use Rattle.json.specs.Word.{is_operator, is_space}
 use Rattle.json.specs.Lex.{Lexeme, Mode, lex, lex_byte, between, in_string, operator, space, other, token, string_token}
 use Rattle.json.specs.Token.{string}
@@ -42,148 +43,113 @@ both_pass {a = a} {b = b} {x = x} {y = y} p q = record {
   lexed = λ r. ap (lex in_string) (append_assoc a b r) ∙ p.lexed (b ++ r) ∙ q.lexed r;
 }
 
--- P holds below n, counted down from the top
-abbrev Each : (ℕ → Type 0) → ℕ → Type 0
-Each P zero = Unit {0}
-Each P (suc n) = P n × Each P n
+stays_inside : (o s : Bool) (x : ℕ) (r : List ℕ) (k : Mode → List Lexeme) → lex_byte in_string (cond o operator (cond s space other)) x r k ≡ k in_string
+stays_inside true s x r k = refl
+stays_inside false true x r k = refl
+stays_inside false false x r k = refl
 
-each_sound : (P : ℕ → Type 0) (n : ℕ) → Each P n → (x : ℕ) → x < n → P x
-each_sound P zero h x lt = absurd (omega (arith, lt))
-each_sound P (suc n) h x lt = go (each_sound P n h.1 x) (cases_eq x n)
-  where
-    go : (x < n → P x) → (x ≡ n) ⊎ (x ≡ n → ⊥) → P x
-    go below (inl e) = subst P (sym e) h.0
-    go below (inr ne) = below (omega arith)
+skips : (x : ℕ) (r : List ℕ) → (x ≡ 34 → ⊥) → (x ≡ 92 → ⊥) → lex in_string (x ∷ r) ≡ lex in_string r
+unfolding lex
+skips x r q b = rw (ne_eqb x 34 q, ne_eqb x 92 b) (stays_inside (is_operator x) (is_space x) x r (λ m. lex m r))
+
+-- ---- a character by its number
+
+-- a hexadecimal digit is no quote and no backslash
+digit_inside : (d : ℕ) → d < 16 → (digit_char d ≡ 34 → ⊥) × (digit_char d ≡ 92 → ⊥)
+digit_inside d lt = elim (cases_lt d 10) [
+  | inl low ↦
+      let is : digit_char d ≡ 48 + d = ap (λ (b : Bool). cond b (48 + d) (87 + d)) (lt-ltb d 10 low) in
+      (λ e. omega (arith, low, sym is ∙ e), λ e. omega (arith, low, sym is ∙ e))
+  | inr high ↦
+      let is : digit_char d ≡ 87 + d = ap (λ (b : Bool). cond b (48 + d) (87 + d)) (le-ltb d 10 high) in
+      (λ e. omega (arith, high, sym is ∙ e), λ e. omega (arith, high, sym is ∙ e))
+]
+
+-- two zeros and two digits are a number below 256
+unit_is : (n : ℕ) → n < 256 → code_unit 48 48 (digit_char (n / 16)) (digit_char (n % 16)) ≡ Some n
+unfolding code_unit
+unit_is n lt =
+    let unit = λ (a b : Bool) (x y : ℕ).
+    cond (is_digit 48 16 && is_digit 48 16 && a && b) (Some (digit_value 48 * 4096 + digit_value 48 * 256 + x * 16 + y)) None in
+    let whole : digit_value 48 * 4096 + digit_value 48 * 256 + n / 16 * 16 + n % 16 ≡ n = omega arith in
+    ap₂ (λ (x y : ℕ). unit (nat_lt x 16) (nat_lt y 16) x y) (digit_value-digit_char (n / 16) (omega (arith, lt)))
+    (digit_value-digit_char (n % 16) (omega arith))
+    ∙ ap₂ (λ (a b : Bool). unit a b (n / 16) (n % 16)) (lt-ltb (n / 16) 16 (omega (arith, lt))) (lt-ltb (n % 16) 16 (omega arith)) ∙ ap Some whole
+
+number_passes : (n : ℕ) → n < 256 → Passes (by_number n) (encode n)
+unfolding content lex
+number_passes n lt =
+    let h = digit_inside (n / 16) (omega (arith, lt)) in
+    let l = digit_inside (n % 16) (omega arith) in
+    pass (λ r. ap (λ (o : Option ℕ). option_and_then (λ u. cond (is_high_surrogate u) (content (after_high u) r)
+    (cond (is_low_surrogate u) None (prepend (encode u) (content plain r)))) o) (unit_is n lt)
+    ∙ rw (lt-leb 55296 n (omega (arith, lt)), lt-leb 56320 n (omega (arith, lt))) refl)
+    (λ r. skips (digit_char (n / 16)) _ h.0 h.1 ∙ skips (digit_char (n % 16)) r l.0 l.1)
 
 -- ---- one byte
 
 abbrev BytePasses : ℕ → Type 0
 BytePasses x = Passes (escape_byte x) (x ∷ [])
 
-controls : Each BytePasses 32
-unfolding escape_byte content lex code_unit short_escape encode
-controls = (
-  pass (λ r. refl) (λ r. refl),
-  (
-    pass (λ r. refl) (λ r. refl),
-    (
-      pass (λ r. refl) (λ r. refl),
-      (
-        pass (λ r. refl) (λ r. refl),
-        (
-          pass (λ r. refl) (λ r. refl),
-          (
-            pass (λ r. refl) (λ r. refl),
-            (
-              pass (λ r. refl) (λ r. refl),
-              (
-                pass (λ r. refl) (λ r. refl),
-                (
-                  pass (λ r. refl) (λ r. refl),
-                  (
-                    pass (λ r. refl) (λ r. refl),
-                    (
-                      pass (λ r. refl) (λ r. refl),
-                      (
-                        pass (λ r. refl) (λ r. refl),
-                        (
-                          pass (λ r. refl) (λ r. refl),
-                          (
-                            pass (λ r. refl) (λ r. refl),
-                            (
-                              pass (λ r. refl) (λ r. refl),
-                              (
-                                pass (λ r. refl) (λ r. refl),
-                                (
-                                  pass (λ r. refl) (λ r. refl),
-                                  (
-                                    pass (λ r. refl) (λ r. refl),
-                                    (
-                                      pass (λ r. refl) (λ r. refl),
-                                      (
-                                        pass (λ r. refl) (λ r. refl),
-                                        (
-                                          pass (λ r. refl) (λ r. refl),
-                                          (
-                                            pass (λ r. refl) (λ r. refl),
-                                            (
-                                              pass (λ r. refl) (λ r. refl),
-                                              (
-                                                pass (λ r. refl) (λ r. refl),
-                                                (
-                                                  pass (λ r. refl) (λ r. refl),
-                                                  (
-                                                    pass (λ r. refl) (λ r. refl),
-                                                    (
-                                                      pass (λ r. refl) (λ r. refl),
-                                                      (
-                                                        pass (λ r. refl) (λ r. refl),
-                                                        (
-                                                          pass (λ r. refl) (λ r. refl),
-                                                          (
-                                                            pass (λ r. refl) (λ r. refl),
-                                                            (pass (λ r. refl) (λ r. refl), (pass (λ r. refl) (λ r. refl), tt)),
-                                                          ),
-                                                        ),
-                                                      ),
-                                                    ),
-                                                  ),
-                                                ),
-                                              ),
-                                            ),
-                                          ),
-                                        ),
-                                      ),
-                                    ),
-                                  ),
-                                ),
-                              ),
-                            ),
-                          ),
-                        ),
-                      ),
-                    ),
-                  ),
-                ),
-              ),
-            ),
-          ),
-        ),
-      ),
-    ),
-  ),
-)
-
-quote_passes : BytePasses 34
+quote : BytePasses 34
 unfolding escape_byte content lex short_escape
-quote_passes = record { read = λ r. refl; lexed = λ r. refl }
+quote = pass (λ r. refl) (λ r. refl)
 
-backslash_passes : BytePasses 92
+backslash : BytePasses 92
 unfolding escape_byte content lex short_escape
-backslash_passes = record { read = λ r. refl; lexed = λ r. refl }
+backslash = pass (λ r. refl) (λ r. refl)
 
-stays_inside : (o s : Bool) (x : ℕ) (r : List ℕ) (k : Mode → List Lexeme) → lex_byte in_string (cond o operator (cond s space other)) x r k ≡ k in_string
-stays_inside true s x r k = refl
-stays_inside false true x r k = refl
-stays_inside false false x r k = refl
+backspace : BytePasses 8
+unfolding escape_byte content lex short_escape
+backspace = pass (λ r. refl) (λ r. refl)
+
+tab : BytePasses 9
+unfolding escape_byte content lex short_escape
+tab = pass (λ r. refl) (λ r. refl)
+
+line_feed : BytePasses 10
+unfolding escape_byte content lex short_escape
+line_feed = pass (λ r. refl) (λ r. refl)
+
+form_feed : BytePasses 12
+unfolding escape_byte content lex short_escape
+form_feed = pass (λ r. refl) (λ r. refl)
+
+carriage_return : BytePasses 13
+unfolding escape_byte content lex short_escape
+carriage_return = pass (λ r. refl) (λ r. refl)
 
 plain_passes : (x : ℕ) → (x ≡ 34 → ⊥) → (x ≡ 92 → ⊥) → 32 ≤ x → BytePasses x
-unfolding content lex
+unfolding content
 plain_passes x q b l =
     let same = escape_byte_plain x q b l in
-    record {
-      read = λ r. rw (same, ne_eqb x 34 q, ne_eqb x 92 b, le-ltb x 32 l);
-      lexed = λ r. rw (same, ne_eqb x 34 q, ne_eqb x 92 b) (stays_inside (is_operator x) (is_space x) x r (λ m. lex m r));
-    }
+    pass (λ r. rw (same, ne_eqb x 34 q, ne_eqb x 92 b, le-ltb x 32 l)) (λ r. rw same (skips x r q b))
+
+control_passes : (x : ℕ) → x < 32 → (x ≡ 8 → ⊥) → (x ≡ 9 → ⊥) → (x ≡ 10 → ⊥) → (x ≡ 12 → ⊥) → (x ≡ 13 → ⊥) → BytePasses x
+unfolding escape_byte
+control_passes x lt b t n f r =
+    let is : escape_byte x ≡ by_number x = rw (
+      ne_eqb x 34 (λ e. omega (arith, lt, e)),
+      ne_eqb x 92 (λ e. omega (arith, lt, e)),
+      ne_eqb x 8 b,
+      ne_eqb x 12 f,
+      ne_eqb x 10 n,
+      ne_eqb x 13 r,
+      ne_eqb x 9 t,
+      lt-ltb x 32 lt,
+    ) in
+    subst (λ (s : List ℕ). Passes s (x ∷ [])) (sym is)
+    (subst (Passes (by_number x)) (encode_ascii x (omega (arith, lt))) (number_passes x (omega (arith, lt))))
+
+unless : (x y : ℕ) → BytePasses y → ((x ≡ y → ⊥) → BytePasses x) → BytePasses x
+unless x y p more = elim (cases_eq x y) [ inl e ↦ subst BytePasses (sym e) p | inr ne ↦ more ne ]
 
 byte_passes : (x : ℕ) → BytePasses x
-byte_passes x = go (cases_eq x 34) (cases_eq x 92) (cases_lt x 32)
-  where
-    go : (x ≡ 34) ⊎ (x ≡ 34 → ⊥) → (x ≡ 92) ⊎ (x ≡ 92 → ⊥) → (x < 32) ⊎ (32 ≤ x) → BytePasses x
-    go (inl e) b c = subst BytePasses (sym e) quote_passes
-    go (inr q) (inl e) c = subst BytePasses (sym e) backslash_passes
-    go (inr q) (inr b) (inl c) = each_sound BytePasses 32 controls x c
-    go (inr q) (inr b) (inr l) = plain_passes x q b l
+byte_passes x = unless x 34 quote (λ q. unless x 92 backslash (λ s. elim (cases_lt x 32) [
+  | inl lt ↦ unless x 8 backspace (λ b. unless x 9 tab (λ t. unless x 10 line_feed (λ n. unless x 12 form_feed (λ f. unless x 13 carriage_return
+      (λ r. control_passes x lt b t n f r)))))
+  | inr l ↦ plain_passes x q s l
+]))
 
 bytes_pass : (bytes : List ℕ) → Passes (escape bytes) bytes
 bytes_pass [] = nothing_passes
@@ -191,109 +157,9 @@ bytes_pass (x ∷ bytes) = both_pass (byte_passes x) (bytes_pass bytes)
 
 -- ---- one character
 
-abbrev NumberPasses : ℕ → Type 0
-NumberPasses n = Passes (by_number (127 + n)) (encode (127 + n))
-
-late_controls : Each NumberPasses 33
-unfolding content lex code_unit encode
-late_controls = (
-  pass (λ r. refl) (λ r. refl),
-  (
-    pass (λ r. refl) (λ r. refl),
-    (
-      pass (λ r. refl) (λ r. refl),
-      (
-        pass (λ r. refl) (λ r. refl),
-        (
-          pass (λ r. refl) (λ r. refl),
-          (
-            pass (λ r. refl) (λ r. refl),
-            (
-              pass (λ r. refl) (λ r. refl),
-              (
-                pass (λ r. refl) (λ r. refl),
-                (
-                  pass (λ r. refl) (λ r. refl),
-                  (
-                    pass (λ r. refl) (λ r. refl),
-                    (
-                      pass (λ r. refl) (λ r. refl),
-                      (
-                        pass (λ r. refl) (λ r. refl),
-                        (
-                          pass (λ r. refl) (λ r. refl),
-                          (
-                            pass (λ r. refl) (λ r. refl),
-                            (
-                              pass (λ r. refl) (λ r. refl),
-                              (
-                                pass (λ r. refl) (λ r. refl),
-                                (
-                                  pass (λ r. refl) (λ r. refl),
-                                  (
-                                    pass (λ r. refl) (λ r. refl),
-                                    (
-                                      pass (λ r. refl) (λ r. refl),
-                                      (
-                                        pass (λ r. refl) (λ r. refl),
-                                        (
-                                          pass (λ r. refl) (λ r. refl),
-                                          (
-                                            pass (λ r. refl) (λ r. refl),
-                                            (
-                                              pass (λ r. refl) (λ r. refl),
-                                              (
-                                                pass (λ r. refl) (λ r. refl),
-                                                (
-                                                  pass (λ r. refl) (λ r. refl),
-                                                  (
-                                                    pass (λ r. refl) (λ r. refl),
-                                                    (
-                                                      pass (λ r. refl) (λ r. refl),
-                                                      (
-                                                        pass (λ r. refl) (λ r. refl),
-                                                        (
-                                                          pass (λ r. refl) (λ r. refl),
-                                                          (
-                                                            pass (λ r. refl) (λ r. refl),
-                                                            (pass (λ r. refl) (λ r. refl), (pass (λ r. refl) (λ r. refl), (pass (λ r. refl) (λ r. refl), tt))),
-                                                          ),
-                                                        ),
-                                                      ),
-                                                    ),
-                                                  ),
-                                                ),
-                                              ),
-                                            ),
-                                          ),
-                                        ),
-                                      ),
-                                    ),
-                                  ),
-                                ),
-                              ),
-                            ),
-                          ),
-                        ),
-                      ),
-                    ),
-                  ),
-                ),
-              ),
-            ),
-          ),
-        ),
-      ),
-    ),
-  ),
-)
-
 late_passes : (c : ℕ) → 126 < c → c < 160 → Passes (char_text c) (encode c)
 unfolding char_text
-late_passes c low high =
-    let same : 127 + (c - 127) ≡ c = omega (arith, low) in
-    let here = subst (λ n. Passes (by_number n) (encode n)) same (each_sound NumberPasses 33 late_controls (c - 127) (omega (arith, low, high))) in
-    rw (lt-ltb 126 c low, lt-ltb c 160 high) here
+late_passes c low high = rw (lt-ltb 126 c low, lt-ltb c 160 high) (number_passes c (omega (arith, high)))
 
 char_passes : (c : ℕ) → Passes (char_text c) (encode c)
 char_passes c = go (cases_lt 126 c) (cases_lt c 160)
