@@ -90,19 +90,8 @@ fn printed(alloc: Global, form: Form, bytes: &[u8]) -> io::Result<String> {
     }
 }
 
-// A message, a form, and what it begins with, its part, so many times, and its end.
-type Row = (
-    Message,
-    Form,
-    &'static str,
-    &'static str,
-    usize,
-    &'static str,
-);
-
-const MANY: Message = Message::Numbers(8_192);
-
-const LONG: Message = Message::Text(3_100_000);
+// A form, and what it begins with, its part, so many times, and its end.
+type Row = (Form, &'static str, &'static str, usize, &'static str);
 
 const ROOT: &str = "Tag: 0xAAAAAA, Type: Structure (0x01), Data:";
 
@@ -112,91 +101,84 @@ const HIDDEN_ROOT: &str = "Tag: 0xAAAAAA, Type: Structure (0x01), Data: ";
 
 const HIDDEN_LINE: &str = "\n  Tag: 0xBBBBBB, Type: Integer (0x02), Data: <redacted>";
 
+const MANY: Message = Message::Numbers(8_192);
+
+const NUMBERS: [Row; 5] = [
+    (Form::Lines, ROOT, NUMBER_LINE, 8_192, "\n"),
+    (Form::WrittenLines, ROOT, NUMBER_LINE, 8_192, "\n"),
+    (Form::Diagnostic, "AAAAAA[", "BBBBBBi", 8_192, "]"),
+    (Form::WrittenDiagnostic, "AAAAAA[", "BBBBBBi", 8_192, "]"),
+    (Form::ReadBack, HIDDEN_ROOT, HIDDEN_LINE, 8_192, ""),
+];
+
 const TEXT_LINES: &str =
     "Tag: 0xAAAAAA, Type: Structure (0x01), Data:\n  Tag: 0xBBBBBB, Type: TextString (0x07), Data: ";
 
 const HIDDEN_TEXT: &str =
     "Tag: 0xAAAAAA, Type: Structure (0x01), Data: \n  Tag: 0xBBBBBB, Type: TextString (0x07), Data: <redacted>";
 
-const BYTES: Message = Message::Bytes(100_000);
+// A hundred letters.
+const LETTERS: &str =
+    "aaaaaaaaaaaaaaaaaaaaaaaaaaaaaaaaaaaaaaaaaaaaaaaaaaaaaaaaaaaaaaaaaaaaaaaaaaaaaaaaaaaaaaaaaaaaaaaaaaaa";
+
+const LONG: Message = Message::Text(3_100_000);
+
+const TEXTS: [Row; 5] = [
+    (Form::Lines, TEXT_LINES, LETTERS, 31_000, "\n"),
+    (Form::WrittenLines, TEXT_LINES, LETTERS, 31_000, "\n"),
+    (Form::Diagnostic, "AAAAAA[BBBBBBt]", "", 0, ""),
+    (Form::WrittenDiagnostic, "AAAAAA[BBBBBBt]", "", 0, ""),
+    (Form::ReadBack, HIDDEN_TEXT, "", 0, ""),
+];
 
 const BYTES_LINES: &str =
     "Tag: 0xAAAAAA, Type: Structure (0x01), Data:\n  Tag: 0xBBBBBB, Type: ByteString (0x08), Data: ";
 
-const ROWS: [Row; 18] = [
-    (MANY, Form::Lines, ROOT, NUMBER_LINE, 8_192, "\n"),
-    (MANY, Form::WrittenLines, ROOT, NUMBER_LINE, 8_192, "\n"),
-    (MANY, Form::Diagnostic, "AAAAAA[", "BBBBBBi", 8_192, "]"),
-    (
-        MANY,
-        Form::WrittenDiagnostic,
-        "AAAAAA[",
-        "BBBBBBi",
-        8_192,
-        "]",
-    ),
-    (MANY, Form::ReadBack, HIDDEN_ROOT, HIDDEN_LINE, 8_192, ""),
-    (LONG, Form::Lines, TEXT_LINES, "a", 3_100_000, "\n"),
-    (LONG, Form::WrittenLines, TEXT_LINES, "a", 3_100_000, "\n"),
-    (LONG, Form::Diagnostic, "AAAAAA[BBBBBBt]", "", 0, ""),
-    (LONG, Form::WrittenDiagnostic, "AAAAAA[BBBBBBt]", "", 0, ""),
-    (LONG, Form::ReadBack, HIDDEN_TEXT, "", 0, ""),
-    (BYTES, Form::Lines, BYTES_LINES, "61", 100_000, "\n"),
-    (BYTES, Form::WrittenLines, BYTES_LINES, "61", 100_000, "\n"),
-    (BYTES, Form::Diagnostic, "AAAAAA[BBBBBBo]", "", 0, ""),
-    (BYTES, Form::WrittenDiagnostic, "AAAAAA[BBBBBBo]", "", 0, ""),
-    // Each stays open, in the one before; or the first one is the whole message.
-    (
-        Message::Empties(1_000),
-        Form::Open,
-        "",
-        "420069[",
-        1_000,
-        "ERR",
-    ),
-    (
-        Message::Empties(10_000),
-        Form::Open,
-        "",
-        "420069[",
-        10_000,
-        "ERR",
-    ),
-    (
-        Message::Empties(1_000),
-        Form::Diagnostic,
-        "420069[]",
-        "",
-        0,
-        "",
-    ),
-    (
-        Message::Empties(10_000),
-        Form::Diagnostic,
-        "420069[]",
-        "",
-        0,
-        "",
-    ),
+const BYTES: [Row; 4] = [
+    (Form::Lines, BYTES_LINES, "61", 100_000, "\n"),
+    (Form::WrittenLines, BYTES_LINES, "61", 100_000, "\n"),
+    (Form::Diagnostic, "AAAAAA[BBBBBBo]", "", 0, ""),
+    (Form::WrittenDiagnostic, "AAAAAA[BBBBBBo]", "", 0, ""),
 ];
 
-fn is_printed(alloc: Global, row: Row) -> bool {
-    let (message, form, first, part, times, end) = row;
-    let Ok(bytes) = made(alloc, message) else {
-        return false;
-    };
-    match printed(alloc, form, bytes.as_slice()) {
+// Each stays open, in the one before; or the first one is the whole message.
+const EMPTIES: [Row; 2] = [
+    (Form::Open, "", "420069[", 10_000, "ERR"),
+    (Form::Diagnostic, "420069[]", "", 0, ""),
+];
+
+const FEWER_EMPTIES: [Row; 2] = [
+    (Form::Open, "", "420069[", 1_000, "ERR"),
+    (Form::Diagnostic, "420069[]", "", 0, ""),
+];
+
+fn is_printed(alloc: Global, bytes: &[u8], row: Row) -> bool {
+    let (form, first, part, times, end) = row;
+    match printed(alloc, form, bytes) {
         Ok(text) => is_made_of(text.as_str(), first, part, times, end),
         Err(_) => false,
     }
 }
 
+fn all_are_printed(alloc: Global, message: Message, rows: &[Row]) -> bool {
+    let Ok(bytes) = made(alloc, message) else {
+        return false;
+    };
+    for row in rows {
+        if !is_printed(alloc, bytes.as_slice(), *row) {
+            return false;
+        }
+    }
+    true
+}
+
 #[test]
 fn long_messages_are_printed(rt: HostRuntime) {
-    for row in ROWS {
-        let (message, form, _, _, _, _) = row;
-        assert!(rt; is_printed(rt.alloc(), row), "{message:?} {form:?}");
-    }
+    assert!(rt; all_are_printed(rt.alloc(), MANY, &NUMBERS));
+    assert!(rt; all_are_printed(rt.alloc(), LONG, &TEXTS));
+    assert!(rt; all_are_printed(rt.alloc(), Message::Bytes(100_000), &BYTES));
+    assert!(rt; all_are_printed(rt.alloc(), Message::Empties(10_000), &EMPTIES));
+    assert!(rt; all_are_printed(rt.alloc(), Message::Empties(1_000), &FEWER_EMPTIES));
 }
 
 // Whether so many items are counted in this message of empty structures, the last try among them.
@@ -299,12 +281,6 @@ const NUMBER_JSON: &str = ",{\"tag\":\"0xBBBBBB\",\"type\":\"Integer\",\"value\"
 const TEXT_JSON: &str =
     "{\"tag\":\"0xAAAAAA\",\"type\":\"Structure\",\"value\":[{\"tag\":\"0xBBBBBB\",\"type\":\"TextString\",\"value\":\"";
 
-// A message, and what its JSON begins with, its part, so many times, and its end.
-const JSONS: [(Message, &str, &str, usize, &str); 2] = [
-    (MANY, NUMBERS_JSON, NUMBER_JSON, 8_191, "]}\n"),
-    (LONG, TEXT_JSON, "a", 3_100_000, "\"}]}\n"),
-];
-
 fn json_of(alloc: Global, bytes: &[u8]) -> Result<String, AllocError> {
     let mut text = String::new(alloc);
     let names = HashMap::new(alloc);
@@ -319,34 +295,33 @@ fn is_back(alloc: Global, json: &str, bytes: &[u8]) -> bool {
     }
 }
 
-fn is_json(
-    alloc: Global,
-    message: Message,
-    first: &str,
-    part: &str,
-    times: usize,
-    end: &str,
-) -> bool {
-    let Ok(bytes) = made(alloc, message) else {
+fn numbers_are_json(alloc: Global) -> bool {
+    let Ok(bytes) = made(alloc, MANY) else {
         return false;
     };
     match json_of(alloc, bytes.as_slice()) {
         Ok(text) => {
-            is_made_of(text.as_str(), first, part, times, end)
+            is_made_of(text.as_str(), NUMBERS_JSON, NUMBER_JSON, 8_191, "]}\n")
                 && is_back(alloc, text.as_str(), bytes.as_slice())
         }
         Err(_) => false,
     }
 }
 
+fn a_text_is_json(alloc: Global) -> bool {
+    let Ok(bytes) = made(alloc, LONG) else {
+        return false;
+    };
+    match json_of(alloc, bytes.as_slice()) {
+        Ok(text) => is_made_of(text.as_str(), TEXT_JSON, LETTERS, 31_000, "\"}]}\n"),
+        Err(_) => false,
+    }
+}
+
 #[test]
 fn a_long_message_is_json_and_back(rt: HostRuntime) {
-    for (message, first, part, times, end) in JSONS {
-        assert!(rt;
-            is_json(rt.alloc(), message, first, part, times, end),
-            "{message:?}"
-        );
-    }
+    assert!(rt; numbers_are_json(rt.alloc()));
+    assert!(rt; a_text_is_json(rt.alloc()));
 }
 
 fn is_named(alloc: Global, table: &str, tag: TtlvTag) -> bool {
