@@ -5,14 +5,16 @@
 mod client;
 mod server;
 
+use kmip_ttlv::memory::Wiping;
 use std::alloc::Global;
 use std::io;
 
-// Serves these bytes, with the log on standard output; the bytes of the responses.
+// Serves these bytes, with the log on standard output; the bytes of the responses. What memory the server gives back is wiped.
 fn served(rt: &HostRuntime, alloc: Global, requests: &[u8]) -> io::Result<Vec<u8>> {
     let mut reader = requests;
     let mut responses = Vec::new(alloc);
-    server::serve(alloc, &mut reader, &mut responses, &mut rt.stdout())?;
+    let memory = Wiping::new(alloc);
+    server::serve(&memory, &mut reader, &mut responses, &mut rt.stdout())?;
     Ok(responses)
 }
 

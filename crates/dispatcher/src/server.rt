@@ -14,7 +14,7 @@ use kmip_messages::response_payload::{DiscoverVersionsResponse, QueryResponse, R
 use kmip_ttlv::error::{Error, ErrorKind};
 use kmip_ttlv::items::find_fault;
 use kmip_ttlv::{Config, PrettyPrinter, from_reader, to_writer};
-use std::alloc::{AllocError, Global};
+use std::alloc::{AllocError, Allocator};
 use std::io::{self, Read, Write};
 
 /// The most bytes of a request.
@@ -23,37 +23,33 @@ const MOST: u32 = 65_536;
 /// The version that the server has.
 const VERSION: ProtocolVersion = ProtocolVersion { major: 1, minor: 0 };
 
-// An item that says what became of an operation.
-fn item(
-    alloc: Global,
-    asked: Option<&RequestItem>,
-    done: Result<ResponsePayload, ResultReason>,
-) -> Result<ResponseItem, AllocError> {
-    let (operation, id) = match asked {
-        Some(asked) => (
-            Some(asked.operation),
-            copied(alloc, &asked.unique_batch_item_id)?,
-        ),
-        None => (None, None),
-    };
+// An item that says what became of an operation, if it is of one.
+fn item<A: Allocator + Copy>(
+    operation: Option<Operation>,
+    unique_batch_item_id: Option<Vec<u8, A>>,
+    done: Result<ResponsePayload<A>, ResultReason>,
+) -> ResponseItem<A> {
     let (result_status, result_reason, payload) = match done {
         Ok(payload) => (ResultStatus::Success, None, Some(payload)),
         Err(reason) => (ResultStatus::OperationFailed, Some(reason), None),
     };
-    Ok(ResponseItem {
+    ResponseItem {
         operation,
-        unique_batch_item_id: id,
+        unique_batch_item_id,
         result_status,
         result_reason,
         result_message: None,
         asynchronous_correlation_value: None,
         payload,
         message_extension: None,
-    })
+    }
 }
 
 // The same bytes, if there are any.
-fn copied(alloc: Global, bytes: &Option<Vec<u8>>) -> Result<Option<Vec<u8>>, AllocError> {
+fn copied<A: Allocator + Copy>(
+    alloc: A,
+    bytes: &Option<Vec<u8, A>>,
+) -> Result<Option<Vec<u8, A>>, AllocError> {
     match bytes {
         Some(bytes) => Ok(Some(bytes.as_slice().to_vec(alloc)?)),
         None => Ok(None),
@@ -61,7 +57,7 @@ fn copied(alloc: Global, bytes: &Option<Vec<u8>>) -> Result<Option<Vec<u8>>, All
 }
 
 // What the server can do.
-fn abilities(alloc: Global) -> Result<QueryResponse, AllocError> {
+fn abilities<A: Allocator + Copy>(alloc: A) -> Result<QueryResponse<A>, AllocError> {
     let mut operations = Vec::new(alloc);
     operations.push(Operation::Query)?;
     operations.push(Operation::DiscoverVersions)?;
@@ -74,10 +70,10 @@ fn abilities(alloc: Global) -> Result<QueryResponse, AllocError> {
 }
 
 // What is done of one item: this server only says what it can do.
-fn done(
-    alloc: Global,
-    item: &RequestItem,
-) -> Result<Result<ResponsePayload, ResultReason>, AllocError> {
+fn done<A: Allocator + Copy>(
+    alloc: A,
+    item: &RequestItem<A>,
+) -> Result<Result<ResponsePayload<A>, ResultReason>, AllocError> {
     match &item.payload {
         RequestPayload::Query(_) => Ok(Ok(ResponsePayload::Query(abilities(alloc)?))),
         RequestPayload::DiscoverVersions(_) => {
@@ -91,7 +87,7 @@ fn done(
 }
 
 // A response of these items.
-fn response(items: Vec<ResponseItem>) -> Response
+fn response<A: Allocator + Copy>(items: Vec<ResponseItem<A>, A>) -> Response<A>
     ensures { result.items ≡ items }
 {
     let header = ResponseHeader {
@@ -103,23 +99,27 @@ fn response(items: Vec<ResponseItem>) -> Response
 }
 
 /// The response to a request: an item for each of its items, or one item that says why, if its parts don't agree.
-pub fn respond(alloc: Global, request: &Request) -> Result<Response, AllocError> {
+pub fn respond<A: Allocator + Copy>(
+    alloc: A,
+    request: &Request<A>,
+) -> Result<Response<A>, AllocError> {
     let mut items = Vec::new(alloc);
     if !request.is_consistent() {
-        items.push(item(alloc, None, Err(ResultReason::InvalidMessage))?)?;
+        items.push(item(None, None, Err(ResultReason::InvalidMessage)))?;
         return Ok(response(items));
     }
     for asked in &request.items {
         let done = done(alloc, asked)?;
-        items.push(item(alloc, Some(asked), done)?)?;
+        let id = copied(alloc, &asked.unique_batch_item_id)?;
+        items.push(item(Some(asked.operation), id, done))?;
     }
     Ok(response(items))
 }
 
 /// The response to bytes that are no request.
-pub fn refuse(alloc: Global) -> Result<Response, AllocError> {
+pub fn refuse<A: Allocator + Copy>(alloc: A) -> Result<Response<A>, AllocError> {
     let mut items = Vec::new(alloc);
-    items.push(item(alloc, None, Err(ResultReason::InvalidMessage))?)?;
+    items.push(item(None, None, Err(ResultReason::InvalidMessage)))?;
     Ok(response(items))
 }
 
@@ -135,7 +135,7 @@ fn is_taken_whole(bytes: &[u8]) -> bool {
 }
 
 // What is known of a message without any of its values.
-fn outline(alloc: Global, bytes: &[u8]) -> Result<String, AllocError> {
+fn outline<A: Allocator + Copy>(alloc: A, bytes: &[u8]) -> Result<String<A>, AllocError> {
     match find_fault(alloc, bytes)? {
         Some(fault) => {
             let (kind, at, count) = (fault.kind, fault.offset, bytes.len());
@@ -151,17 +151,22 @@ fn outline(alloc: Global, bytes: &[u8]) -> Result<String, AllocError> {
 }
 
 // A line of the log.
-fn note<L: Write>(alloc: Global, log: &mut L, who: &str, bytes: &[u8]) -> io::Result<()> {
+fn note<A: Allocator + Copy, L: Write>(
+    alloc: A,
+    log: &mut L,
+    who: &str,
+    bytes: &[u8],
+) -> io::Result<()> {
     let line = format!(in alloc; "{who} {}\n", outline(alloc, bytes)?)?;
     log.write_all(line.as_bytes())
 }
 
 // Sends a response, and notes it.
-fn send<W: Write, L: Write>(
-    alloc: Global,
+fn send<A: Allocator + Copy, W: Write, L: Write>(
+    alloc: A,
     writer: &mut W,
     log: &mut L,
-    response: &Response,
+    response: &Response<A>,
 ) -> io::Result<bool> {
     let Ok(bytes) = kmip_ttlv::to_vec(alloc, response) else {
         return Ok(false);
@@ -172,15 +177,15 @@ fn send<W: Write, L: Write>(
 
 /// Answers requests until the reader ends, or until what follows can't be told apart from what came: the last message is refused then, and
 /// nothing behind it is read.
-pub fn serve<R: Read, W: Write, L: Write>(
-    alloc: Global,
+pub fn serve<A: Allocator + Copy, R: Read, W: Write, L: Write>(
+    alloc: A,
     reader: &mut R,
     writer: &mut W,
     log: &mut L,
 ) -> io::Result<()> {
     let mut config = Config::new(alloc).with_max_bytes(MOST).with_read_buf();
     for _ in 0..u64::MAX {
-        let read: Result<Request, Error> = from_reader(alloc, reader, &mut config);
+        let read: Result<Request<A>, Error<A>> = from_reader(alloc, reader, &mut config);
         if let Err(error) = &read
             && matches!(error.kind(), ErrorKind::IoError(_) | ErrorKind::OutOfMemory)
         {
