@@ -41,7 +41,7 @@ pub enum ErrorKind<A: Allocator = Global> {
     MalformedTtlv(MalformedTtlvError),
     /// The bytes, or the value, don't match what the type describes.
     SerdeError(SerdeError<A>),
-    /// Memory ran out.
+    /// An allocation failed. Such an error has no place.
     OutOfMemory,
     /// A length doesn't fit into four bytes, or there are more than 2^64 - 1 bytes in all.
     LengthOverflow,
@@ -205,7 +205,7 @@ impl<T: Drop, A: Allocator> From<AllocFailed<T>> for Error<A> {
     }
 }
 
-/// IoError.
+/// An `IoError` of this error, which a reader or a writer returned.
 impl<A: Allocator> From<io::Error> for ErrorKind<A> {
     ghost from_gives = { λ e k. k ≡ IoErrorKind e };
 
@@ -214,7 +214,7 @@ impl<A: Allocator> From<io::Error> for ErrorKind<A> {
     }
 }
 
-/// MalformedTtlv.
+/// A `MalformedTtlv` for this reason.
 impl<A: Allocator> From<MalformedTtlvError> for ErrorKind<A> {
     ghost from_gives = { λ e k. k ≡ MalformedKind e };
 
@@ -223,7 +223,7 @@ impl<A: Allocator> From<MalformedTtlvError> for ErrorKind<A> {
     }
 }
 
-/// SerdeError.
+/// A `SerdeError` for this reason.
 impl<A: Allocator> From<SerdeError<A>> for ErrorKind<A> {
     ghost from_gives = { λ e k. k ≡ SerdeKind e };
 
@@ -300,7 +300,7 @@ impl<A: Allocator> ErrorKind<A> {
 }
 
 impl<A: Allocator> ErrorLocation<A> {
-    /// An unknown place.
+    /// A place of which nothing is known: no offset, no tags and no type.
     pub fn unknown() -> ErrorLocation<A>
         ensures { view_of_location result ≡ unknown }
     {
@@ -398,7 +398,7 @@ impl<A: Allocator> ErrorLocation<A> {
     }
 }
 
-/// The offset alone.
+/// The place at this offset, in bytes from the first. Tags and type stay unknown.
 impl<A: Allocator> From<ByteOffset> for ErrorLocation<A> {
     ghost from_gives = { λ x l. view_of_location l ≡ only_offset x.0 };
 
@@ -407,7 +407,7 @@ impl<A: Allocator> From<ByteOffset> for ErrorLocation<A> {
     }
 }
 
-/// The offset alone.
+/// The place at this offset, in bytes from the first. Tags and type stay unknown.
 impl<A: Allocator> From<u8> for ErrorLocation<A> {
     ghost from_gives = { λ x l. view_of_location l ≡ only_offset x };
 
@@ -416,7 +416,7 @@ impl<A: Allocator> From<u8> for ErrorLocation<A> {
     }
 }
 
-/// The offset alone.
+/// The place at this offset, in bytes from the first. Tags and type stay unknown.
 impl<A: Allocator> From<u16> for ErrorLocation<A> {
     ghost from_gives = { λ x l. view_of_location l ≡ only_offset x };
 
@@ -425,7 +425,7 @@ impl<A: Allocator> From<u16> for ErrorLocation<A> {
     }
 }
 
-/// The offset alone.
+/// The place at this offset, in bytes from the first. Tags and type stay unknown.
 impl<A: Allocator> From<u32> for ErrorLocation<A> {
     ghost from_gives = { λ x l. view_of_location l ≡ only_offset x };
 
@@ -434,7 +434,7 @@ impl<A: Allocator> From<u32> for ErrorLocation<A> {
     }
 }
 
-/// The offset alone.
+/// The place at this offset, in bytes from the first. Tags and type stay unknown.
 impl<A: Allocator> From<u64> for ErrorLocation<A> {
     ghost from_gives = { λ x l. view_of_location l ≡ only_offset x };
 

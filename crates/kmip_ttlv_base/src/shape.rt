@@ -20,15 +20,15 @@ use std::alloc::{AllocError, Allocator, Global};
 #[derive(Drop)]
 #[derive_where(Debug, PartialEq)]
 pub enum Data<A: Allocator = Global> {
-    /// A Boolean.
+    /// A Boolean: the number 0 or 1 in eight bytes.
     Bool(bool),
-    /// An Integer.
+    /// An Integer of four bytes. It is decoded as an `I32`.
     I8(i8),
-    /// An Integer.
+    /// An Integer of four bytes. It is decoded as an `I32`.
     I16(i16),
-    /// An Integer.
+    /// An Integer: a signed number of four bytes.
     I32(i32),
-    /// An Enumeration.
+    /// An Enumeration, by its number of four bytes.
     U32(u32),
     /// A Long Integer. It is also decoded from a Date-Time.
     I64(i64),
@@ -36,9 +36,9 @@ pub enum Data<A: Allocator = Global> {
     U64(u64),
     /// A Date-Time, in seconds since 1970.
     DateTime(i64),
-    /// An Interval.
+    /// An Interval, in seconds.
     Interval(u32),
-    /// A Text String.
+    /// A Text String, in UTF-8.
     Text(String<A>),
     /// A Byte String. It is also decoded from a Big Integer.
     Bytes(Vec<u8, A>),
@@ -116,21 +116,21 @@ pub enum Shape<A: Allocator = Global> {
         name: &'static str,
         variants: Vec<VariantShape<A>, A>,
     },
-    /// An Integer.
+    /// An Integer, as `Data::I32`.
     I32,
     /// A Long Integer or a Date-Time.
     I64,
-    /// A Boolean.
+    /// A Boolean, as `Data::Bool`.
     Bool,
     /// A Text String. Rules of later enums may test it.
     Text,
     /// A Byte String or a Big Integer.
     Bytes,
-    /// A Date-Time.
+    /// A Date-Time, as `Data::DateTime`: in seconds since 1970.
     DateTime,
-    /// An Interval.
+    /// An Interval, as `Data::Interval`: in seconds.
     Interval,
-    /// A Big Integer.
+    /// A Big Integer, as `Data::BigInteger`: its bytes as they came.
     BigInteger,
     /// An Enumeration of any number. Rules of later enums may test it, as they test a unit's number.
     U32,

@@ -9,29 +9,29 @@ use std::alloc::AllocError;
 /// A value that contains no other: the variant of `Data` with the same name.
 #[derive(Clone, Copy, Debug, PartialEq, Eq)]
 pub enum Leaf<'a> {
-    /// A Boolean.
+    /// A Boolean: the number 0 or 1 in eight bytes.
     Bool(bool),
-    /// An Integer.
+    /// An Integer of four bytes, of a number of 8 bits.
     I8(i8),
-    /// An Integer.
+    /// An Integer of four bytes, of a number of 16 bits.
     I16(i16),
-    /// An Integer.
+    /// An Integer: a signed number of four bytes.
     I32(i32),
-    /// An Enumeration.
+    /// An Enumeration, by its number of four bytes.
     U32(u32),
-    /// A Long Integer.
+    /// A Long Integer: a signed number of eight bytes.
     I64(i64),
     /// A Date-Time, by its 64 bits.
     U64(u64),
     /// A Date-Time, in seconds since 1970.
     DateTime(i64),
-    /// An Interval.
+    /// An Interval, in seconds.
     Interval(u32),
-    /// A Text String.
+    /// A Text String, in UTF-8.
     Text(&'a str),
-    /// A Byte String.
+    /// A Byte String, as it is.
     Bytes(&'a [u8]),
-    /// A Big Integer.
+    /// A Big Integer, the highest byte first. Its sign is extended to a multiple of eight bytes.
     BigInteger(&'a [u8]),
     /// No item: it can't be encoded. For a field that is absent, call the visitor with nothing instead.
     None,

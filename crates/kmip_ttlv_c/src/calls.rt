@@ -18,7 +18,7 @@ use kmip_ttlv_util::{CheckedError, LentTagMap, PrettyPrinter, read_back_named, t
 use std::alloc::{AllocError, Allocator, Global};
 use std::str;
 
-/// The library's version.
+/// The version that `kmip_ttlv_version` writes and the header has as `KMIP_TTLV_VERSION`.
 pub const VERSION: &str = "0.1.0";
 
 /// The diagnostic under a prefix, and how many items it tried to read.

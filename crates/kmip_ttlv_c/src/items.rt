@@ -16,7 +16,7 @@ pub struct KmipTtlvItem {
     pub offset: usize,
     /// How many structures it is in.
     pub depth: usize,
-    /// Its tag.
+    /// Its tag, a number below 2^24.
     pub tag: u32,
     /// The code of its type.
     pub typ: u32,

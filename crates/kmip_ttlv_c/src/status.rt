@@ -1,9 +1,9 @@
 //! The statuses that calls return.
 
-/// Success.
+/// The call did what it was asked for.
 pub const OK: u32 = 0;
 
-/// Out of memory.
+/// An allocation failed, or the call's limit on memory was reached.
 pub const OUT_OF_MEMORY: u32 = 1;
 
 /// A text that was passed is not UTF-8.

@@ -37,7 +37,7 @@ impl<A: Allocator> Ends<A> {
         }
     }
 
-    /// The innermost end.
+    /// Where the innermost open structure ends, as an offset; none if no structure is open.
     pub fn innermost(&self) -> Option<usize>
         ensures { result ≡ innermost (open_ends self.now) }
     {

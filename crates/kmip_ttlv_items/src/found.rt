@@ -12,9 +12,9 @@ pub struct FoundItem {
     pub offset: usize,
     /// How many structures it is in: 0 for the root.
     pub depth: usize,
-    /// Its tag.
+    /// The tag in its header.
     pub tag: TtlvTag,
-    /// Its type.
+    /// The type whose code is in its header.
     pub typ: TtlvType,
     /// The length of its value as the header states it, in bytes, without padding.
     pub length: u32,
@@ -82,7 +82,7 @@ pub struct WalkEnd {
 /// What a step of a walk returns.
 #[derive(Clone, Copy, Debug, PartialEq, Eq)]
 pub enum Step {
-    /// The next item.
+    /// An item that the walk met: a leaf with all its bytes, or the header of a structure.
     Item(FoundItem),
     /// The end, with the fault that stopped the walk; none if the bytes are one whole message.
     End(Option<Fault>),

@@ -32,7 +32,7 @@ pub enum JsonError {
     NotStructure,
     /// A length in it has more than four bytes, so it has no encoding.
     TooLong,
-    /// Out of memory.
+    /// An allocation failed, so nothing is said of the text.
     OutOfMemory,
 }
 

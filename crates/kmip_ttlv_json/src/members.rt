@@ -80,7 +80,7 @@ fn type_named(name: &str) -> Option<TtlvType>
     }
 }
 
-/// The tag.
+/// The tag that this is, if it is a text of `0x` and six hexadecimal digits.
 pub fn tag_of(tag: &Value) -> Option<TtlvTag>
     ensures { result ≡ tag_in (view tag.now) }
 {
@@ -90,7 +90,7 @@ pub fn tag_of(tag: &Value) -> Option<TtlvTag>
     Some(TtlvTag::from(bytes))
 }
 
-/// The type.
+/// The type that this is, if it is a text that names one of the ten.
 pub fn type_of(typ: &Value) -> Option<TtlvType>
     ensures { result ≡ type_in (view typ.now) }
 {

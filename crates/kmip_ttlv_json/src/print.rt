@@ -22,7 +22,7 @@ use std::alloc::Allocator;
 /// Which values are hidden.
 #[derive(Clone, Copy, Debug, PartialEq, Eq)]
 pub enum Hiding {
-    /// None.
+    /// No value is hidden.
     Nothing,
     /// Those of items whose tags are secret, and of the items in them; an enumeration's too.
     Secrets,
@@ -33,15 +33,15 @@ pub enum Hiding {
 /// What is shown of the value of a leaf.
 #[derive(Clone, Copy)]
 pub enum Shown {
-    /// All of it.
+    /// The value, of whatever type it is.
     All,
     /// That of an enumeration alone.
     Enumerations,
-    /// Nothing.
+    /// No value: `null` stands in its place.
     Nothing,
 }
 
-/// Where printing stands.
+/// Where printing stands: what decides how the next item begins, and whether its value is hidden.
 #[derive(Clone, Copy)]
 pub struct Spot {
     /// How many structures are open.

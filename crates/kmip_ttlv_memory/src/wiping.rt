@@ -23,7 +23,7 @@ pub struct Wiping<A: Allocator> {
 }
 
 impl<A: Allocator> Wiping<A> {
-    /// Allocates from `inner`.
+    /// An allocator that takes its memory from `inner`, and wipes what it gives back to it. Doesn't allocate.
     pub fn new(inner: A) -> Wiping<A> {
         Wiping { inner }
     }

@@ -20,9 +20,9 @@ pub type ValueMap<'n, A = Global> = HashMap<u64, &'n str, BuildHasherDefault<Fol
 /// The names that a user's table gives.
 #[derive(Drop)]
 pub struct OwnNames<'t, A: Allocator = Global> {
-    /// Those of tags.
+    /// Names of tags, by the tag.
     pub tags: LentTagMap<'t, A>,
-    /// Those of values.
+    /// Names of values, by [`value_key`], which is of a tag and a value.
     pub values: ValueMap<'t, A>,
 }
 

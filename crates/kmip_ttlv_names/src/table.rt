@@ -15,7 +15,7 @@ use std::collections::HashMap;
 pub enum TableError {
     /// The line with this number, from 1, is neither empty nor a comment nor a tag with a name.
     BadLine(usize),
-    /// Out of memory.
+    /// An allocation failed: memory for the names ran out.
     OutOfMemory,
 }
 

@@ -165,7 +165,6 @@ fn read_content<'b, R: Rule, E: Element<A>, A: Allocator + Copy>(
     Ok(None)
 }
 
-/// No variants.
 impl<T: ChoiceValue + Drop, A: Allocator + Copy> VariantList<T, A> for () {
     ghost variants = { no_variants };
 

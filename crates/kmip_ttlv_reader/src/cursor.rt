@@ -217,7 +217,7 @@ impl<'b, A: Allocator + Copy> Cursor<'b, A> {
         self.pos
     }
 
-    /// The stored texts.
+    /// The texts and numbers that were stored so far, which rules ask for.
     #[inline(always)]
     pub fn stored_values(&self) -> &TagValueStore<'b, A>
         ensures { result.now ≡ self.now.stored }

@@ -21,7 +21,7 @@ pub trait Element<A: Allocator + Copy> {
     ghost use Rattle.kmip_ttlv_base.specs.Values.{Value};
     ghost use Rattle.kmip_ttlv_base.specs.Forms.{Form};
 
-    /// What is read.
+    /// The type of Rust as which one of them is read.
     type Read: Drop;
 
     // Its form.
@@ -57,7 +57,7 @@ impl<T: ReadNested<A>, A: Allocator + Copy> Element<A> for StructureElement<T> {
     }
 }
 
-/// An item.
+/// An item that reads itself, by [`ReadItem`].
 #[derive(Drop)]
 pub struct ItemElement<T> {
     kind: PhantomData<T>,

@@ -17,7 +17,7 @@ pub type Step<T, A = Global> = Result<T, Failure<A>>;
 /// Why bytes are not read. It is small, since each result of a reader has room for one.
 #[derive(Drop)]
 pub enum Failure<A: Allocator = Global> {
-    /// Memory ran out.
+    /// An allocation failed.
     OutOfMemory,
     /// The bytes end too early.
     EarlyEnd,
@@ -28,13 +28,13 @@ pub enum Failure<A: Allocator = Global> {
 /// What is wrong, and where.
 #[derive(Drop)]
 pub struct FaultAt<A: Allocator = Global> {
-    /// What is wrong.
+    /// Which error it is, without its place.
     pub cause: Cause<A>,
     /// In bytes from the first byte.
     pub offset: usize,
-    /// The item's tag.
+    /// The tag that the error names: the item's, or that of the innermost struct. None at the first byte.
     pub tag: Option<TtlvTag>,
-    /// The item's type.
+    /// The type that the error names. None if the code is that of no type, and at the first byte.
     pub typ: Option<TtlvType>,
     /// The tags of the structures around, the innermost first.
     pub around: Vec<TtlvTag, A>,

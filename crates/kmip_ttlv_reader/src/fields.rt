@@ -24,7 +24,7 @@ pub trait Field<A: Allocator + Copy> {
     ghost use Rattle.kmip_ttlv_base.specs.Values.{Value};
     ghost use Rattle.kmip_ttlv_base.specs.Forms.{Form};
 
-    /// What is read.
+    /// The type of Rust as which the field is read.
     type Read: Drop;
 
     // The field's name.
@@ -52,7 +52,7 @@ pub trait FieldList<A: Allocator + Copy> {
     ghost use Rattle.kmip_ttlv_base.specs.Values.{Values};
     ghost use Rattle.kmip_ttlv_base.specs.Forms.{Fields};
 
-    /// What is read.
+    /// The types of Rust as which the fields are read, as a tuple.
     type Read: Drop;
 
     // The fields' names and forms.
@@ -76,7 +76,6 @@ pub trait FieldList<A: Allocator + Copy> {
         ensures within { IfOk result (λ _. IsWithin scope.now cursor.new) };
 }
 
-/// No fields.
 impl<A: Allocator + Copy> FieldList<A> for () {
     type Read = ();
 
@@ -129,7 +128,6 @@ impl<H: Field<A>, R: FieldList<A>, A: Allocator + Copy> FieldList<A> for Then<H,
     }
 }
 
-/// One field.
 impl<F1: Field<A>, A: Allocator + Copy> FieldList<A> for (F1,) {
     type Read = (F1::Read,);
 
@@ -157,7 +155,6 @@ impl<F1: Field<A>, A: Allocator + Copy> FieldList<A> for (F1,) {
     }
 }
 
-/// Two fields.
 impl<F1: Field<A>, F2: Field<A>, A: Allocator + Copy> FieldList<A> for (F1, F2) {
     type Read = (F1::Read, F2::Read);
 
@@ -185,7 +182,6 @@ impl<F1: Field<A>, F2: Field<A>, A: Allocator + Copy> FieldList<A> for (F1, F2) 
     }
 }
 
-/// Three fields.
 impl<F1: Field<A>, F2: Field<A>, F3: Field<A>, A: Allocator + Copy> FieldList<A> for (F1, F2, F3) {
     type Read = (F1::Read, F2::Read, F3::Read);
 
@@ -216,7 +212,6 @@ impl<F1: Field<A>, F2: Field<A>, F3: Field<A>, A: Allocator + Copy> FieldList<A>
     }
 }
 
-/// Four fields.
 impl<F1: Field<A>, F2: Field<A>, F3: Field<A>, F4: Field<A>, A: Allocator + Copy> FieldList<A>
     for (F1, F2, F3, F4) {
     type Read = (F1::Read, F2::Read, F3::Read, F4::Read);

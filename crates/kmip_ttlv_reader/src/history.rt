@@ -30,14 +30,14 @@ impl Model for History {
 }
 
 impl History {
-    /// No text.
+    /// The history before anything was stored.
     pub fn new() -> History
         ensures { result.listed ≡ [] }
     {
         History {}
     }
 
-    /// One more text.
+    /// This history, with one more stored text at its end.
     pub fn and(&self, _one: &StoredValue<'_>) -> History
         ensures { result.listed ≡ self.now.listed ++ tag_value_of _one.now ∷ [] }
     {

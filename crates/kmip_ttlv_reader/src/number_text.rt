@@ -57,7 +57,7 @@ impl NumberText {
         }
     }
 
-    /// The text.
+    /// The ten characters of the text, all of them ASCII.
     #[inline(always)]
     pub fn as_str(&self) -> &str
         ensures { result.now ≡ self.now.digits }

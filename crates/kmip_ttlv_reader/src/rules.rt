@@ -86,9 +86,9 @@ pub fn rule<'n, 'b, A: Allocator + Copy>(
 pub enum RuleParts {
     /// It holds where the last text stored under the tag is one of the texts.
     Texts {
-        /// The tag.
+        /// The tag under which the text has to be stored.
         tag: u32,
-        /// The texts.
+        /// The texts of which the stored one has to be one.
         texts: &'static [&'static str],
     },
     /// It holds of an item of this type.

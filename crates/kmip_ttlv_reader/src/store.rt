@@ -35,11 +35,11 @@ pub enum TextPlace<'b> {
 pub enum TextNumber {
     /// The text is still to be parsed.
     Unparsed,
-    /// It was parsed.
+    /// It was parsed: the number, or none if the text is no number.
     Parsed(Option<u32>),
 }
 
-/// A stored text.
+/// A stored text, and the number that it is, as far as that was asked for.
 #[derive(Clone, Copy, Drop)]
 pub struct StoredText<'b> {
     place: TextPlace<'b>,

@@ -44,7 +44,7 @@ pub trait ReadStructure<A: Allocator + Copy>: Sized + Drop {
     /// The fields, in their order.
     type Fields: FieldList<A>;
 
-    /// The structure's tag.
+    /// The tag of the structure, of which the last three bytes count.
     const TAG: u32;
 
     /// Whether an item that no field names is an error. Otherwise it is ignored.
@@ -75,7 +75,7 @@ pub trait ReadNested<A: Allocator + Copy>: Sized + Drop {
     // The structure's tag.
     ghost TAG: { ℕ };
 
-    /// The structure's tag.
+    /// The tag of the structure, of which the last three bytes count.
     const TAG: u32;
 
     /// The structure, header and all, from the cursor on: by `read_structure`.

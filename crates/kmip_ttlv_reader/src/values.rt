@@ -12,7 +12,7 @@ use kmip_ttlv_base::types::TtlvType;
 use kmip_ttlv_base::types::numbers::{number_of_eight, number_of_four};
 use std::alloc::{AllocError, Allocator, Global};
 
-/// An Integer.
+/// An Integer is read as an `i32`.
 impl<A: Allocator> LeafValue<A> for i32 {
     ghost leaf = { leaves.I32 };
 
@@ -46,7 +46,7 @@ impl<A: Allocator> LeafValue<A> for i64 {
     }
 }
 
-/// A Boolean.
+/// A Boolean is read as a `bool`.
 impl<A: Allocator> LeafValue<A> for bool {
     ghost leaf = { leaves.Bool };
 
@@ -80,7 +80,7 @@ impl<A: Allocator> LeafValue<A> for u32 {
     }
 }
 
-/// A Text String.
+/// A Text String is read as a `String`, a copy of the text.
 impl<A: Allocator> LeafValue<A> for String<A> {
     ghost leaf = { leaves.Text };
 
@@ -97,7 +97,7 @@ impl<A: Allocator> LeafValue<A> for String<A> {
     }
 }
 
-/// A Byte String.
+/// A Byte String or a Big Integer is read as a vector, a copy of its bytes.
 impl<A: Allocator> LeafValue<A> for Vec<u8, A> {
     ghost leaf = { leaves.Bytes };
 

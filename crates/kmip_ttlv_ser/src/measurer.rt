@@ -231,7 +231,7 @@ impl<A: Allocator> Measurer<A> {
         }
     }
 
-    /// Leaves a newtype.
+    /// Leaves a newtype, which is a structure, or a wrapper if its name begins with `Transparent:`.
     #[inline(always)]
     fn leave_newtype(&mut self, name: &'static str)
         requires { self.old.encode_error ≡ SpecNone }

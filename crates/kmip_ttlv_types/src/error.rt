@@ -35,13 +35,13 @@ pub enum Error<A: Allocator = Global> {
     InvalidTtlvValue(TtlvType),
     /// A call that the state machine's mode doesn't allow.
     InvalidStateMachineOperation,
-    /// Memory ran out.
+    /// An allocation failed.
     OutOfMemory,
     /// A length doesn't fit into four bytes.
     LengthOverflow,
 }
 
-/// IoError.
+/// An `IoError` of this error, which a reader or a writer returned.
 impl<A: Allocator> From<io::Error> for Error<A> {
     ghost from_gives = { λ x e. e ≡ IoError x };
 
@@ -50,7 +50,7 @@ impl<A: Allocator> From<io::Error> for Error<A> {
     }
 }
 
-/// OutOfMemory.
+/// `OutOfMemory`, as each allocation that fails.
 impl<A: Allocator> From<AllocError> for Error<A> {
     ghost from_gives = { λ _ e. e ≡ OutOfMemory };
 

@@ -84,7 +84,7 @@ impl From<&u64> for ByteOffset {
     }
 }
 
-/// The cursor's position.
+/// The offset of the byte that the cursor reads or writes next.
 impl<T: Drop> From<Cursor<T>> for ByteOffset {
     ghost from_gives = { λ c o. o.0 ≡ cursor_position c };
 
@@ -93,7 +93,7 @@ impl<T: Drop> From<Cursor<T>> for ByteOffset {
     }
 }
 
-/// The cursor's position.
+/// The offset of the byte that the cursor reads or writes next.
 impl<T> From<&Cursor<T>> for ByteOffset {
     ghost from_gives = { λ c o. o.0 ≡ cursor_position c.now };
 

@@ -25,7 +25,7 @@ use std::ops::Deref;
 #[derive(Clone, Copy, Debug, PartialEq, Eq)]
 pub struct TtlvInteger(pub i32);
 
-/// The number.
+/// `*value` is the number.
 impl Deref for TtlvInteger {
     type Target = i32;
 
@@ -76,7 +76,7 @@ impl SerializableTtlvType for TtlvInteger {
 #[derive(Clone, Copy, Debug, PartialEq, Eq)]
 pub struct TtlvLongInteger(pub i64);
 
-/// The number.
+/// `*value` is the number.
 impl Deref for TtlvLongInteger {
     type Target = i64;
 
@@ -127,7 +127,7 @@ impl SerializableTtlvType for TtlvLongInteger {
 #[derive(Clone, Copy, Debug, PartialEq, Eq)]
 pub struct TtlvEnumeration(pub u32);
 
-/// The number.
+/// `*value` is the number.
 impl Deref for TtlvEnumeration {
     type Target = u32;
 
@@ -178,7 +178,7 @@ impl SerializableTtlvType for TtlvEnumeration {
 #[derive(Clone, Copy, Debug, PartialEq, Eq)]
 pub struct TtlvBoolean(pub bool);
 
-/// True or false.
+/// `*value` is the truth value.
 impl Deref for TtlvBoolean {
     type Target = bool;
 

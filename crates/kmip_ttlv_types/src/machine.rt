@@ -10,9 +10,9 @@ use crate::field::FieldType;
 /// Whether fields are read or written.
 #[derive(Clone, Copy, Debug, PartialEq, Eq)]
 pub enum TtlvStateMachineMode {
-    /// Fields are read.
+    /// Fields are read. A length and its value may come as one field, `LengthAndValue`.
     Deserializing,
-    /// Fields are written.
+    /// Fields are written. What follows a tag may come as one field, `TypeAndLengthAndValue`.
     Serializing,
 }
 

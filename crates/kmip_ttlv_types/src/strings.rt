@@ -45,7 +45,7 @@ impl<A: Allocator + Clone> Clone for TtlvTextString<A> {
     }
 }
 
-/// The text.
+/// `*value` is the text, as a `String`.
 impl<A: Allocator> Deref for TtlvTextString<A> {
     type Target = String<A>;
 
@@ -110,7 +110,7 @@ impl<A: Allocator + Clone> Clone for TtlvByteString<A> {
     }
 }
 
-/// The bytes.
+/// `*value` is the bytes, as a vector.
 impl<A: Allocator> Deref for TtlvByteString<A> {
     type Target = Vec<u8, A>;
 

@@ -16,7 +16,7 @@ pub struct Buffer {
 impl Buffer {
     ghost use Rattle.kmip_ttlv_util.specs.Waiting.{waiting};
 
-    /// An empty buffer.
+    /// A buffer in which nothing waits. Doesn't allocate.
     pub fn new() -> Buffer
         ensures { waiting result ≡ [] }
     {
@@ -26,7 +26,7 @@ impl Buffer {
         }
     }
 
-    /// The buffered bytes.
+    /// The bytes that wait to be sent, in the order in which they came.
     pub fn bytes(&self) -> &[u8]
         ensures { result.now ≡ waiting self.now }
     {
@@ -40,7 +40,7 @@ impl Buffer {
         ROOM - self.len
     }
 
-    /// Appends a piece.
+    /// Adds a piece behind the bytes that wait. There has to be room for it.
     pub fn push(&mut self, piece: &[u8])
         requires { length (waiting self.old) + length piece.now ≤ 8192 }
         ensures { waiting self.new ≡ waiting self.old ++ piece.now }
@@ -50,7 +50,7 @@ impl Buffer {
         self.len = end;
     }
 
-    /// Removes all bytes.
+    /// Forgets the bytes that waited, as after they were sent.
     pub fn clear(&mut self)
         ensures { waiting self.new ≡ [] }
     {

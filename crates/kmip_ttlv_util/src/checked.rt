@@ -11,7 +11,7 @@ use std::alloc::AllocError;
 pub enum CheckedError {
     /// The bytes are not one whole message: the first fault, with its offset.
     Malformed(Fault),
-    /// Out of memory.
+    /// An allocation failed, while the bytes were checked or printed.
     OutOfMemory,
 }
 

@@ -27,7 +27,7 @@ pub const EXCEEDED: &str = "\nERROR: TTLV structure content exceeds the structur
 /// A prefix of tags; if it is at most six digits, also as their number.
 #[derive(Clone, Copy)]
 pub struct Prefix<'p> {
-    /// The prefix itself.
+    /// What is left out of tags that begin with it, as it was given.
     pub text: &'p str,
     /// How many digits it has; seven if it has more, or isn't digits.
     pub count: usize,

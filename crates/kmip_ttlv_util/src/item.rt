@@ -13,9 +13,9 @@ use kmip_ttlv_types::{TtlvTag, TtlvType};
 /// An item that can be read: the header of a structure, or a whole leaf with its padding.
 #[derive(Clone, Copy)]
 pub struct Item<'b> {
-    /// Its tag.
+    /// The tag in its header.
     pub tag: TtlvTag,
-    /// Its type.
+    /// The type whose code is in its header.
     pub typ: TtlvType,
     /// The length that its header states, in bytes.
     pub length: u32,

@@ -23,7 +23,7 @@ pub struct Walk<A: Allocator> {
     pub loose: bool,
 }
 
-/// What comes next.
+/// What a walk comes to next: an item, or the end of a structure.
 #[derive(Clone, Copy)]
 pub enum Next {
     /// A structure closes, and others stay open.
@@ -32,7 +32,7 @@ pub enum Next {
     Over,
     /// The innermost end was passed.
     Past,
-    /// An item follows.
+    /// An item is due, at the walk's offset.
     Reads,
 }
 

@@ -94,7 +94,7 @@ pub struct BadItem {
 pub enum WriteError {
     /// An item can't be written.
     Bad(BadItem),
-    /// Out of memory.
+    /// An allocation failed: memory for the bytes ran out.
     OutOfMemory,
 }
 

@@ -6,7 +6,7 @@ use std::alloc::{AllocError, Global};
 pub const VERSION: &str =
     "420069010000002042006A0200000004000000010000000042006B02000000040000000000000000";
 
-/// Its readable text.
+/// The readable text of [`VERSION`], without names of tags.
 pub const VERSION_LINES: &str =
     "Tag: 0x420069, Type: Structure (0x01), Data:\n  Tag: 0x42006A, Type: Integer (0x02), Data: 0x000001 (1)\n  Tag: 0x42006B, Type: Integer (0x02), Data: 0x000000 (0)\n";
 

@@ -47,7 +47,7 @@ pub fn slow(bytes: &[u8]) -> SlowReader<'_> {
 /// What a message is to be read as.
 #[derive(Clone, Copy)]
 pub enum Wanted {
-    /// This number.
+    /// A message whose one number is this.
     Number(i32),
     /// An error of this size, behind the header of a Structure AAAAAA.
     TooLarge(usize),

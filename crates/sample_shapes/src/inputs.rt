@@ -2,13 +2,13 @@
 
 use std::alloc::{AllocError, Global};
 
-/// An integer BBBBBB.
+/// The Integer 7 with the tag BBBBBB.
 pub const NUMBER: [u8; 16] = [0xBB, 0xBB, 0xBB, 2, 0, 0, 0, 4, 0, 0, 0, 7, 0, 0, 0, 0];
 
-/// An enumeration BBBBBB.
+/// The Enumeration 7 with the tag BBBBBB.
 pub const CHOICE: [u8; 16] = [0xBB, 0xBB, 0xBB, 5, 0, 0, 0, 4, 0, 0, 0, 7, 0, 0, 0, 0];
 
-/// An integer CCCCCC.
+/// The Integer 7 with the tag CCCCCC.
 pub const OTHER_NUMBER: [u8; 16] = [0xCC, 0xCC, 0xCC, 2, 0, 0, 0, 4, 0, 0, 0, 7, 0, 0, 0, 0];
 
 /// An empty text BBBBBB.

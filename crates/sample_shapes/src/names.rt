@@ -62,19 +62,19 @@ impl<const N: u8> Name for Listed<N> {
     }
 }
 
-/// A tag.
+/// The tag AAAAAA, by its name `0xAAAAAA`.
 pub type TagA = Listed<0>;
 
-/// A tag.
+/// The tag BBBBBB, by its name `0xBBBBBB`.
 pub type TagB = Listed<1>;
 
-/// A tag.
+/// The tag CCCCCC, by its name `0xCCCCCC`.
 pub type TagC = Listed<2>;
 
-/// A tag.
+/// The tag DDDDDD, by its name `0xDDDDDD`.
 pub type TagD = Listed<3>;
 
-/// A tag.
+/// The tag EEEEEE, by its name `0xEEEEEE`.
 pub type TagE = Listed<4>;
 
 /// A name that is no tag.

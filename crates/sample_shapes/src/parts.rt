@@ -16,7 +16,7 @@ pub trait Name {
     // The name.
     ghost letters: { List ℕ };
 
-    /// The name.
+    /// The name that the type stands for.
     fn name() -> &'static str
         ensures { result.now ≡ letters };
 }
@@ -26,7 +26,7 @@ pub trait Part {
     // The form that the shape is.
     ghost part: { Form };
 
-    /// The shape.
+    /// The shape that the type stands for. Fails if memory runs out.
     fn shape<A: Allocator + Copy>(alloc: A) -> Result<Shape<A>, AllocError>
         ensures { IfOk result (λ s. form_of s ≡ part) };
 }
@@ -36,7 +36,7 @@ pub trait FieldList {
     // The fields.
     ghost all: { Fields };
 
-    /// The fields.
+    /// The fields that the type stands for, in order. Fails if memory runs out.
     fn fields<A: Allocator + Copy>(alloc: A) -> Result<Vec<FieldShape<A>, A>, AllocError>
         ensures { IfOk result (λ v. fields_of v.items ≡ all) };
 }
@@ -46,7 +46,7 @@ pub trait PartList {
     // The forms.
     ghost all: { Forms };
 
-    /// The shapes.
+    /// The shapes that the type stands for, in order. Fails if memory runs out.
     fn shapes<A: Allocator + Copy>(alloc: A) -> Result<Vec<Shape<A>, A>, AllocError>
         ensures { IfOk result (λ v. forms_of v.items ≡ all) };
 }
@@ -56,7 +56,7 @@ pub trait Contained {
     // The content.
     ghost inside: { Content };
 
-    /// The content.
+    /// The content that the type stands for. Fails if memory runs out.
     fn content<A: Allocator + Copy>(alloc: A) -> Result<VariantContent<A>, AllocError>
         ensures { IfOk result (λ c. content_of c ≡ inside) };
 }
@@ -66,7 +66,7 @@ pub trait VariantList {
     // The variants.
     ghost all: { Variants };
 
-    /// The variants.
+    /// The variants that the type stands for, in order. Fails if memory runs out.
     fn variants<A: Allocator + Copy>(alloc: A) -> Result<Vec<VariantShape<A>, A>, AllocError>
         ensures { IfOk result (λ v. variants_of v.items ≡ all) };
 }
@@ -93,7 +93,7 @@ impl Part for LongNumber {
     }
 }
 
-/// A truth value.
+/// A truth value: the shape of a Boolean.
 pub struct Truth;
 
 impl Part for Truth {
@@ -104,7 +104,7 @@ impl Part for Truth {
     }
 }
 
-/// A text.
+/// A text: the shape of a Text String.
 pub struct Text;
 
 impl Part for Text {
@@ -115,7 +115,7 @@ impl Part for Text {
     }
 }
 
-/// Bytes.
+/// Bytes: the shape of a Byte String or a Big Integer.
 pub struct Octets;
 
 impl Part for Octets {
@@ -225,7 +225,7 @@ impl<N: Name, L: FieldList, const DENY: bool> Part for StructureOf<N, L, DENY> {
     }
 }
 
-/// No fields.
+/// The end of a list of fields.
 pub struct NoFields;
 
 impl FieldList for NoFields {
@@ -277,7 +277,7 @@ pub type TwoFields<N, P, M, Q> = Field<N, P, Field<M, Q, NoFields>>;
 /// Three fields: their names, each with its shape.
 pub type ThreeFields<N, P, M, Q, O, R> = Field<N, P, Field<M, Q, Field<O, R, NoFields>>>;
 
-/// No content.
+/// What a unit variant has as its content: nothing.
 pub struct NoContent;
 
 impl Contained for NoContent {
@@ -299,7 +299,7 @@ impl<P: Part> Contained for Content<P> {
     }
 }
 
-/// No shapes.
+/// The end of a list of shapes.
 pub struct NoParts;
 
 impl PartList for NoParts {
@@ -351,7 +351,7 @@ impl<N: Name, L: VariantList> Part for Choice<N, L> {
     }
 }
 
-/// No variants.
+/// The end of a list of variants.
 pub struct NoVariants;
 
 impl VariantList for NoVariants {

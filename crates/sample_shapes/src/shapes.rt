@@ -11,10 +11,10 @@ use crate::parts::{
 /// A structure of one field.
 type Of<P> = Structure<TagA, OneField<TagB, P>>;
 
-/// Many integers.
+/// A structure of a sequence of integers, as many as a sender likes.
 pub type Numbers = Of<Sequence<Number>>;
 
-/// One byte string.
+/// A structure of one byte string, as long as a sender likes.
 pub type Long = Of<Octets>;
 
 /// Many structures with no content.
@@ -38,5 +38,5 @@ type ByText = Choice<TagC, OneVariant<IfAtLeastOne, Content<Number>>>;
 /// A text, and many integers, each chosen by a rule that asks for the number that the text is.
 pub type Asked = Structure<TagA, TwoFields<TagB, Text, TagC, Sequence<ByText>>>;
 
-/// Many optional fields.
+/// A structure of a hundred fields of one name, each of which may be absent.
 pub type Fields = Structure<TagA, Repeated<TagB, Maybe<Number>, 100, NoFields>>;

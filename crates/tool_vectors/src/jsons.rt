@@ -6,7 +6,7 @@ use crate::runs::{VERSION, run_with};
 use std::alloc::{AllocError, Global};
 use ttlv_run::{Encoding, Hiding, Task};
 
-/// The version's JSON.
+/// The line of JSON that [`VERSION`] is printed as.
 pub const VERSION_JSON: &str =
     "{\"tag\":\"0x420069\",\"type\":\"Structure\",\"value\":[{\"tag\":\"0x42006A\",\"type\":\"Integer\",\"value\":\"0x00000001\"},{\"tag\":\"0x42006B\",\"type\":\"Integer\",\"value\":\"0x00000000\"}]}\n";
 

@@ -10,7 +10,7 @@ use ttlv_run::{BackJob, Encoding, Job, Memory, Names, Task};
 pub const VERSION: &str =
     "420069010000002042006A0200000004000000010000000042006B02000000040000000000000000";
 
-/// Its readable lines.
+/// The lines that [`VERSION`] is shown as, with the standard's names.
 pub const VERSION_LINES: &str =
     "Tag: Protocol Version (0x420069), Type: Structure (0x01), Data:\n  Tag: Protocol Version Major (0x42006A), Type: Integer (0x02), Data: 0x000001 (1)\n  Tag: Protocol Version Minor (0x42006B), Type: Integer (0x02), Data: 0x000000 (0)\n";
 
@@ -63,7 +63,7 @@ pub fn of<A: Allocator + Copy>(heap: A) -> Memory<A, A> {
     }
 }
 
-/// The standard's names.
+/// The standard's names of tags, values and bits, and its secret tags. Fails if memory runs out.
 pub fn names_in<A: Allocator + Copy>(heap: A) -> Result<Names<'static, A>, AllocError> {
     let (Ok(tags), Ok(values)) = (standard_names(heap), standard_values(heap)) else {
         return Err(AllocError);

@@ -37,7 +37,7 @@ impl BackFaultKind {
 pub struct BackFault {
     /// The first byte that is no part, in bytes from the input's first.
     pub offset: usize,
-    /// What is wrong.
+    /// Whether no part is there, or a structure is not closed.
     pub kind: BackFaultKind,
 }
 

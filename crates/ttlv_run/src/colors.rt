@@ -11,7 +11,7 @@ pub const TAG: &str = "\x1b[36m";
 /// The colour of values: green.
 pub const VALUE: &str = "\x1b[32m";
 
-/// No colour.
+/// Back to the terminal's own colour.
 pub const NONE: &str = "\x1b[0m";
 
 /// Adds what sets a colour, where lines are coloured.

@@ -33,7 +33,7 @@ impl Group {
         Some(Group { bytes, count })
     }
 
-    /// The bytes.
+    /// The bytes that the group's digits stand for, three at most.
     pub fn as_slice(&self) -> &[u8]
         ensures are { result.now ≡ bytes_in self.now }
         ensures few { length result.now ≤ 3 }
@@ -56,7 +56,7 @@ pub enum Made {
 /// What may follow the digits that were read.
 #[derive(Clone, Copy, PartialEq, Eq)]
 pub enum Phase {
-    /// More digits.
+    /// More digits may follow, or padding.
     Groups,
     /// No digit: there was padding.
     Padded,

@@ -37,7 +37,7 @@ pub enum LinePart {
     Between,
     /// Behind a byte's first digit.
     Half,
-    /// Behind its second.
+    /// Behind a byte's second digit.
     Whole,
     /// What is no part of the messages, up to the line's end.
     Aside,
@@ -48,7 +48,7 @@ pub enum LinePart {
 /// What a byte of a text is, and the part of the line that follows it.
 #[derive(Clone, Copy, PartialEq, Eq)]
 pub enum Step {
-    /// A digit.
+    /// A digit of the messages.
     Counts(LinePart),
     /// No digit, but it may stand there.
     Skips(LinePart),

@@ -87,7 +87,7 @@ pub enum Task<'w> {
 pub enum Encoding {
     /// Whichever of the others the input looks like.
     Detected,
-    /// As they are.
+    /// The bytes of the messages, as they are sent.
     Raw,
     /// Hexadecimal digits of either case. White space, colons, dashes, commas, quotes, `0x` and `\x` may
     /// stand between them.
@@ -140,7 +140,7 @@ pub enum Asked<'w> {
 pub struct Job<'w> {
     /// What the input is called, in the line on standard error.
     pub name: &'w str,
-    /// What is printed.
+    /// What is printed of each message.
     pub task: Task<'w>,
     /// What the input is.
     pub encoding: Encoding,

@@ -29,14 +29,14 @@ pub struct Place {
     pub offset: usize,
     /// Its tag, where the three bytes of a tag are there.
     pub tag: Option<TtlvTag>,
-    /// What is wrong.
+    /// Why the message is wrong there: its fault, or its root.
     pub wrong: Wrong,
 }
 
 /// What is wrong with a message.
 #[derive(Clone, Copy, Debug, PartialEq, Eq)]
 pub enum Wrong {
-    /// It is malformed.
+    /// It is not well-formed: its first fault is of this kind.
     Malformed(FaultKind),
     /// It is well-formed, but its root is neither a Request Message nor a Response Message.
     NotKmip,
@@ -47,7 +47,7 @@ pub enum Wrong {
 pub enum Reached {
     /// Behind so many bytes of whole messages.
     Behind(usize),
-    /// At a fault.
+    /// At a message that is wrong, with where and why.
     Fault(Place),
 }
 

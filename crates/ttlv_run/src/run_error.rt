@@ -23,7 +23,7 @@ pub enum RunError {
     UnwritableOutput,
     /// No one reads the output any more.
     ClosedPipe,
-    /// Memory ran out.
+    /// An allocation failed, so what was printed may end anywhere.
     NoMemory,
 }
 

@@ -82,7 +82,7 @@ impl<A: Allocator> Window<A> {
         }
     }
 
-    /// The bytes.
+    /// The bytes that were read and are still needed.
     pub fn buffered(&self) -> &[u8]
         ensures are { result.now ≡ buffered self.now }
         ensures bytes { AreBytes result.now }

@@ -106,9 +106,9 @@ impl<A: Allocator + Copy> ReadNested<A> for OptionalNumbers {
 /// Enumerations of any number, a vendor's among them.
 #[derive(Clone, Copy, Debug, PartialEq, Eq)]
 pub struct Reasons {
-    /// One.
+    /// A reason's number, which has to be there.
     pub first: u32,
-    /// Another one.
+    /// A second reason's number, which may be absent.
     pub second: Option<u32>,
 }
 
@@ -180,7 +180,7 @@ impl<A: Allocator + Copy> ReadNested<A> for Reasons {
 #[derive(Drop)]
 #[derive_where(Debug, PartialEq)]
 pub struct Named<A: Allocator = Global> {
-    /// A name.
+    /// A text, which owns memory.
     pub name: String<A>,
     /// A number with a sign, in 32 bits.
     pub count: i32,
@@ -251,13 +251,13 @@ impl<A: Allocator + Copy> Decode<A> for Named<A> {
 pub struct Many {
     /// A number with a sign, in 32 bits.
     pub count: i32,
-    /// Another one.
+    /// A second number with a sign, in 32 bits.
     pub other: i32,
     /// A number with a sign, in 64 bits.
     pub long: i64,
     /// A date, in seconds since 1970.
     pub date: i64,
-    /// Truth.
+    /// A truth value, in eight bytes.
     pub truth: bool,
     /// A time, in seconds.
     pub seconds: u32,

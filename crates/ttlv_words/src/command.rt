@@ -4,7 +4,7 @@ use clap::builder::ValueParser;
 use clap::{Arg, ArgAction, Command};
 use std::alloc::{AllocError, Global};
 
-/// The program's version.
+/// What `--version` prints; an unproved build puts `-unproved` behind it.
 const VERSION: &str = "0.1.0";
 
 const EXAMPLES: &str = "Examples:

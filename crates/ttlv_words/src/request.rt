@@ -17,9 +17,9 @@ const NO_USE: &str = "--secrets hides nothing without --redact=keys";
 /// When lines are coloured.
 #[derive(Clone, Copy, Debug, PartialEq, Eq)]
 pub enum Color {
-    /// Always.
+    /// On any output, also a file.
     Always,
-    /// Never.
+    /// On no output, also a terminal.
     Never,
     /// Where the output is a terminal, and no colours are wanted nowhere.
     Auto,

@@ -113,7 +113,7 @@ pub enum Value {
 }
 
 impl Sample {
-    /// The sample's value.
+    /// The low-level value that the sample is. Fails if memory runs out.
     pub fn value(&self, heap: Global) -> Result<Value, AllocError> {
         match self.kind {
             Kind::Integer => Ok(Value::Integer(TtlvInteger(8))),

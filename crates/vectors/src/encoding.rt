@@ -88,7 +88,7 @@ fn try_data(tally: &mut Tally<'_>, test: &Encoding, data: &Data, wanted: &str) -
     tally.compare(test.name.as_str(), "told", told, "the same")
 }
 
-/// Tries a value.
+/// Encodes a test's value, and compares its bytes, or the error, with those of the test.
 pub fn try_encoding(tally: &mut Tally<'_>, test: &Encoding) -> io::Result<()> {
     tally.begin();
     let Some(data) = &data_of(tally.alloc(), &test.value, MOST_DEEP) else {

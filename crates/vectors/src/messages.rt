@@ -232,7 +232,7 @@ fn try_jsons(tally: &mut Tally<'_>, message: &Message, bytes: &[u8]) -> io::Resu
     Ok(())
 }
 
-/// Tries a message.
+/// Walks over a test's message, prints it in each form, and compares what comes.
 pub fn try_message(tally: &mut Tally<'_>, message: &Message) -> io::Result<()> {
     tally.begin();
     let Ok(bytes) = hex::decode(tally.alloc(), message.bytes.as_str()) else {

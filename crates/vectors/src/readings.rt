@@ -6,7 +6,7 @@ use crate::tally::Tally;
 use kmip_ttlv_util::PrettyPrinter;
 use std::io;
 
-/// Tries a diagnostic.
+/// Reads a test's diagnostic back, and compares the lines.
 pub fn try_diagnostic(tally: &mut Tally<'_>, test: &Diagnostic) -> io::Result<()> {
     tally.begin();
     let alloc = tally.alloc();
@@ -21,7 +21,7 @@ pub fn try_diagnostic(tally: &mut Tally<'_>, test: &Diagnostic) -> io::Result<()
     )
 }
 
-/// Tries JSON.
+/// Reads a test's JSON back, and compares the bytes or the error.
 pub fn try_json(tally: &mut Tally<'_>, test: &Json) -> io::Result<()> {
     tally.begin();
     let found = bytes_in(tally.alloc(), test.json.as_str())?;

@@ -25,12 +25,12 @@ impl<'r> Tally<'r> {
         }
     }
 
-    /// The allocator.
+    /// What tests take their memory from.
     pub fn alloc(&self) -> Global {
         self.rt.alloc()
     }
 
-    /// Counts a test.
+    /// Begins a test, and counts it.
     pub fn begin(&mut self) {
         self.tests = self.tests.saturating_add(1);
     }
