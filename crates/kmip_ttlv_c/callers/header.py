@@ -91,7 +91,7 @@ def declared(text, pattern, split):
 
 
 def main():
-    header, module, rust = text_of("include/kmip_ttlv.h"), text_of("callers/kmip_ttlv.py"), text_of("callers/test.rs")
+    header, module, rust = text_of("include/kmip_ttlv.h"), text_of("../../bindings/python/kmip_ttlv.py"), text_of("callers/test.rs")
     status, items, writing, calls = (text_of(f"src/{it}.rt") for it in ("status", "items", "writing", "calls"))
     wrong = []
 
@@ -106,6 +106,7 @@ def main():
     version = re.search(r'const VERSION: &str = "(.*)"', calls)[1]
     same("header: defines", sorted(re.findall(r"#define KMIP_TTLV_(\w+)", header)), sorted([*numbers, "H", "VERSION"]))
     same("header: version", re.search(r'#define KMIP_TTLV_VERSION "(.*)"', header)[1], version)
+    same("kmip_ttlv.py: version", re.search(r'\n_VERSION = "(.*)"', module)[1], version)
     statuses = re.findall(r"pub const (\w+): u32", status)
     same("kmip_ttlv.py: statuses", re.search(r"\n([A-Z0-9_, ]+) = range\(", module)[1].split(", "), statuses)
     for name, number in re.findall(r"\nconst (\w+): u32 = (\d+);", rust):

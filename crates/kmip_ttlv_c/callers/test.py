@@ -1,10 +1,13 @@
 """Tests of the library from Python: worked messages, walks, errors, ten thousand hostile messages.
 
-    KMIP_TTLV_LIBRARY=PATH python3 test.py
+    PYTHONPATH=FOLDER python3 test.py
+
+FOLDER is one that the build of the library made.
 """
 import ctypes
 import decimal
 import enum
+import os
 import random
 import time
 import unittest
@@ -19,6 +22,8 @@ DESTROY = bytes.fromhex(
     "000042000D0200000004000000010000000042000F010000004842005C05000000040000001400000000420079010000003042009407"
     "0000002466633838333364652D373064322D346563652D623036332D66656465336133633539666500000000"
 )
+# the standard's table of tags
+TAGS = os.path.join(os.path.dirname(os.path.abspath(__file__)), "../../../data/kmip_tags.tsv")
 NAMES = "# two tags\n420069 Protocol Version\n42006A Major\n"
 # two empty structures in a third
 EMPTY = bytes.fromhex("420078010000001042007901000000004200690100000000")
@@ -121,6 +126,58 @@ class Texts(unittest.TestCase):
         text = kmip_ttlv.from_diag("69[6Ai6Bi]", "4200", NAMES)
         self.assertEqual(text.split("\n")[1], "  Tag: Major (0x42006A), Type: Integer (0x02), Data: <redacted>")
 
+    def test_redacted_text(self):
+        """The lines of the checked diagnostic, under KMIP's names or those of a table; and nothing of what isn't one whole message."""
+        lines = kmip_ttlv.to_text(DESTROY, redact=True).split("\n")
+        self.assertEqual(lines[0], "Tag: Request Message (0x420078), Type: Structure (0x01), Data: ")
+        self.assertEqual(lines[7], "    Tag: Operation (0x42005C), Type: Enumeration (0x05), Data: 14")
+        self.assertEqual(lines[-1], "      Tag: Unique Identifier (0x420094), Type: TextString (0x07), Data: <redacted>")
+        named = kmip_ttlv.to_text(VERSION, NAMES, redact=True)
+        rest = ", Type: Integer (0x02), Data: <redacted>"
+        self.assertEqual(named.split("\n")[1:], [f"  Tag: Major (0x42006A){rest}", f"  Tag: 0x42006B{rest}"])
+        plain = named.replace("Protocol Version (0x420069)", "0x420069").replace("Major (0x42006A)", "0x42006A")
+        self.assertEqual(kmip_ttlv.to_text(bytearray(VERSION), "", redact=True), plain)
+        for other in (VERSION[:-1], VERSION + b"\0", b"", VERSION[8:]):
+            with self.assertRaises(kmip_ttlv.Malformed) as refused:
+                kmip_ttlv.to_text(other, redact=True)
+            self.assertEqual((refused.exception.fault, refused.exception.items), (kmip_ttlv.check(other), []))
+        self.assertRaises(kmip_ttlv.BadNames, kmip_ttlv.to_text, VERSION, "Major", redact=True)
+        self.assertRaises(ValueError, kmip_ttlv.to_text, VERSION, closed=False, redact=True)
+        self.assertRaises(MemoryError, kmip_ttlv.to_text, nested(10_000), redact=True)
+        self.assertRaises(MemoryError, kmip_ttlv.to_text, VERSION, redact=True, limit=16)
+
+    def test_json(self):
+        """Texts, in which a terminal finds nothing to obey; and no JSON of what isn't one whole message."""
+
+        def shown(text, **how):
+            message = kmip_ttlv.encode(kmip_ttlv.Node(0x420078, 1, [kmip_ttlv.Node(0x420094, 7, text)]))
+            head, tail = '{"tag":"0x420078","type":"Structure","value":[{"tag":"0x420094","type":"TextString","value":', "}]}"
+            found = kmip_ttlv.to_json(message, **how)
+            self.assertTrue(found.startswith(head) and found.endswith(tail))
+            return found[len(head) : -len(tail)]
+
+        rows = (("", '""'), ('a"b\\c/', '"a\\"b\\\\c/"'), ("\n\r\t\b\f", '"\\n\\r\\t\\b\\f"'), ("\0\x1b\x1f", '"\\u0000\\u001b\\u001f"'))
+        rows += (("\x7f\x80\x9f\xa0", '"\\u007f\\u0080\\u009f\xa0"'), ("\u20ac\U0001f600", '"\u20ac\U0001f600"'))
+        for text, wanted in rows:
+            self.assertEqual(shown(text), wanted)
+            self.assertEqual(shown(text, redact=True), "null")
+        self.assertEqual(kmip_ttlv.to_json(memoryview(EMPTY)[16:]), '{"tag":"0x420069","type":"Structure","value":[]}')
+        for other in (VERSION[:-1], VERSION + b"\0", b"", VERSION[8:]):
+            self.assertRaises(kmip_ttlv.Malformed, kmip_ttlv.to_json, other)
+        depth = 20_000
+        self.assertEqual(kmip_ttlv.to_json(nested(depth)), '{"tag":"0x420020","type":"Structure","value":[' * depth + "]}" * depth)
+
+    def test_tag_names(self):
+        """Those that the library's texts show, of each tag of KMIP and beyond."""
+        for tag in [*range(0x420000, 0x420200), 0, 0xFFFFFF]:
+            name = kmip_ttlv.tag_name(tag)
+            shown = f"0x{tag:06X}" if name is None else f"{name} (0x{tag:06X})"
+            text = kmip_ttlv.to_text(tag.to_bytes(3, "big") + b"\1" + bytes(4))
+            self.assertEqual(text, f"Tag: {shown}, Type: Structure (0x01), Data:\n".replace("0x000000", "0x0000"))
+        self.assertEqual((kmip_ttlv.tag_name(0x420043), kmip_ttlv.tag_name(0x540001)), ("Key Material", None))
+        for wrong in ("420043", None, 1.5, True):
+            self.assertRaises(TypeError, kmip_ttlv.tag_name, wrong)
+
     def test_version(self):
         self.assertEqual(kmip_ttlv.version().removesuffix("-unproved"), "0.1.0")
 
@@ -154,15 +211,39 @@ class Walks(unittest.TestCase):
             (structure(bytes.fromhex("42002006000000080000000000000002")), 8, 7, "the content is no value of the type"),
             (VERSION + VERSION, 40, 8, "further bytes follow the root"),
         )
-        for message, offset, kind, words in rows:
+        paths = ((0x420069,), (), (), *[(0x420020,)] * 4, ())
+        for (message, offset, kind, words), path in zip(rows, paths):
             self.assertEqual(kmip_ttlv.check(message), (offset, kind))
-            for call in (kmip_ttlv.items, kmip_ttlv.decode):
+            around = f", in 0x{path[0]:06X}" if path else ""
+            for call in (kmip_ttlv.items, kmip_ttlv.decode, kmip_ttlv.to_json):
                 with self.assertRaises(kmip_ttlv.Malformed) as refused:
                     call(message)
-                self.assertEqual(str(refused.exception), f"at byte {offset}: {words}")
+                self.assertEqual((str(refused.exception), refused.exception.path), (f"at byte {offset}{around}: {words}", path))
+            with self.assertRaises(kmip_ttlv.Malformed) as refused:
+                kmip_ttlv.to_diag_checked(message)
+            self.assertEqual((str(refused.exception), refused.exception.path), (f"at byte {offset}: {words}", ()))
         more = ("no structure before it contains it", "its tag is no number below 2^24", "its value goes past the end of the bytes")
         more += ("with it a structure takes 2^32 bytes or more",)
         self.assertEqual(kmip_ttlv.FAULTS, ("whole", *(words for _, _, _, words in rows), *more))
+
+    def test_paths_of_faults(self):
+        """The tags of the Structures around the bad item: not of those that have ended before it."""
+        rows = (
+            (DESTROY[:60], (0x420078, 0x420077), 56),
+            (DESTROY[:72], (0x420078,), 72),
+            (DESTROY[:71], (0x420078, 0x420077), 56),
+            (DESTROY[:140], (0x420078, 0x42000F, 0x420079), 104),
+            (EMPTY[:8] + b"\x42\0\x79\1" + bytes(4) + b"\x42\0\x69\0" + bytes(4), (0x420078,), 16),
+            (DESTROY + b"\0", (), 152),
+        )
+        for message, path, offset in rows:
+            with self.assertRaises(kmip_ttlv.Malformed) as refused:
+                kmip_ttlv.decode(message)
+            self.assertEqual((refused.exception.path, refused.exception.fault.offset), (path, offset))
+        with self.assertRaises(kmip_ttlv.Malformed) as refused:
+            kmip_ttlv.items(nested(20, b"\0"))
+        self.assertEqual(refused.exception.path, (0x420020,) * 20)
+        self.assertIn(", in .. > " + " > ".join(["0x420020"] * 8) + ": ", str(refused.exception))
 
     def test_other_buffers(self):
         """What has a buffer is read by it, whatever it says of its length."""
@@ -173,6 +254,8 @@ class Walks(unittest.TestCase):
                 for call in (kmip_ttlv.to_diag, kmip_ttlv.to_text, kmip_ttlv.check, lambda it: kmip_ttlv.to_text(it, NAMES)):
                     self.assertEqual(call(same), call(message))
                 if kmip_ttlv.check(message) is None:
+                    for call in (kmip_ttlv.to_diag_checked, kmip_ttlv.to_json):
+                        self.assertEqual(call(same), call(message))
                     self.assertEqual(kmip_ttlv.items(same), kmip_ttlv.items(message))
                     self.assertEqual(kmip_ttlv.decode(same), kmip_ttlv.decode(message))
                     self.assertEqual(kmip_ttlv.write(kmip_ttlv.items(message), same), message)
@@ -180,7 +263,11 @@ class Walks(unittest.TestCase):
             self.assertEqual(kmip_ttlv.encode(kmip_ttlv.Node(0x420020, 1, [kmip_ttlv.Node(0x420020, 8, value)])), kmip_ttlv.encode(name))
         far = [kmip_ttlv.Item(0, 0, 0x420020, 8, 4096)]
         self.assertRaises(kmip_ttlv.BadItem, kmip_ttlv.write, far, Liar(bytes(24)))
-        for call in (kmip_ttlv.to_diag, kmip_ttlv.to_text, kmip_ttlv.items, kmip_ttlv.decode, kmip_ttlv.check):
+        lent = bytearray(VERSION)
+        node = kmip_ttlv.decode(lent)
+        lent[:] = bytes(len(lent))
+        self.assertEqual(kmip_ttlv.encode(node), VERSION)
+        for call in (kmip_ttlv.to_diag, kmip_ttlv.to_text, kmip_ttlv.to_json, kmip_ttlv.items, kmip_ttlv.decode, kmip_ttlv.check):
             for wrong in ("420069", None, 40, [VERSION]):
                 self.assertRaises(TypeError, call, wrong)
         self.assertRaises(TypeError, kmip_ttlv.to_diag, VERSION, b"4200")
@@ -280,6 +367,23 @@ class Walks(unittest.TestCase):
         self.assertTrue(one == two and not one != two and one != node(1, 1, [leaf]))
         self.assertEqual(repr(one), "Node(tag=1, typ=1, value=[Node(tag=1, typ=1, value=[...])])")
 
+    def test_secrets(self):
+        """`repr` hides what has a secret tag, and what is in a Structure that has one, and shows all else."""
+        node = kmip_ttlv.Node
+        with open(TAGS, encoding="utf-8") as it:
+            rows = [line.rstrip("\n").split("\t") for line in it if not line.startswith("#")]
+        for number, _, _, mark in rows:
+            tag = int(number, 16)
+            shown = "<redacted>" if mark == "secret" else "b'0123456789'"
+            self.assertEqual(repr(node(tag, 8, b"0123456789")), f"Node(tag={tag}, typ=8, value={shown})")
+        kind, material = node(0x420042, 5, 1), node(0x420043, 8, b"0123456789")
+        block = node(0x420040, 1, [kind, node(0x420045, 1, [material, node(0x42000D, 2, 7)])])
+        for shown in (repr(block), str(block), f"{block}"):
+            self.assertEqual(shown, f"Node(tag=4325440, typ=1, value=[{kind!r}, Node(tag=4325445, typ=1, value=<redacted>)])")
+        self.assertEqual(repr([material]), "[Node(tag=4325443, typ=8, value=<redacted>)]")
+        self.assertEqual(repr(node(0x420020, 1, (material,))), "Node(tag=4325408, typ=1, value=(Node(tag=4325443, typ=8, value=<redacted>),))")
+        self.assertEqual(block.value[1].value[0].value, b"0123456789")
+
     def test_big_integers(self):
         """What is decoded is encoded in the fewest bytes, a multiple of eight, that hold it, whatever bytes it came with."""
 
@@ -349,13 +453,14 @@ class Walks(unittest.TestCase):
             root = node(0x420020, 1, [good, node(0x420020, 1, [good]), node(*it) if isinstance(it, tuple) and len(it) == 3 else it, good])
             with self.assertRaises(kmip_ttlv.BadItem) as refused:
                 kmip_ttlv.encode(root)
-            self.assertEqual(refused.exception.index, 4, it)
-            self.assertIn("item 4", str(refused.exception))
+            self.assertEqual((refused.exception.index, refused.exception.path), (4, (2,)), it)
+            self.assertIn("item 4, root.value[2]", str(refused.exception))
         self.assertEqual(str(self.refused(kmip_ttlv.encode, node(0x420020, 2, 1.0))), "item 0 (tag 0x420020): its value is no int")
         self.assertEqual(self.refused(kmip_ttlv.encode, (1, 2)).why, "it is no Node, which has a tag, a typ and a value")
         around = node(0x420020, 1, [good])
         around.value.append(node(0x420020, 1, [around]))
         self.assertEqual((self.refused(kmip_ttlv.encode, around).index, self.refused(kmip_ttlv.encode, around).why), (3, "it contains itself"))
+        self.assertEqual(str(self.refused(kmip_ttlv.encode, around)), "item 3, root.value[1].value[0] (tag 0x420020): it contains itself")
         # a node in several places is no cycle, and a plain tuple or an enum does for a node or a number
         twice = node(0x420020, 1, [node(0x420020, 1, [good])] * 2)
         self.assertEqual(kmip_ttlv.decode(kmip_ttlv.encode(twice)), twice)
@@ -400,6 +505,28 @@ class Walks(unittest.TestCase):
         with self.assertRaises(kmip_ttlv.BadItem) as refused:
             kmip_ttlv.write(large, bytes(2**18))
         self.assertEqual((refused.exception.index, refused.exception.why), (2**14, kmip_ttlv.FAULTS[12]))
+
+    def test_paths_of_nodes(self):
+        """The indices that lead to a node that can't be encoded, whoever finds that."""
+        node = kmip_ttlv.Node
+        leaf, bad = node(0x42000D, 2, 1), node(0x42000E, 2, "1")
+        rows = (
+            (bad, 0, ()),
+            (node(0x420078, 1, [bad]), 1, (0,)),
+            (node(0x420078, 1, [leaf, node(0x420077, 1, [leaf, node(0x420069, 1, []), bad]), leaf]), 5, (1, 2)),
+            (node(0x420078, 1, [node(0x420077, 1, [node(0x420069, 1, [leaf])]), node(0x420077, 1, []), node(0x420077, 1, [bad])]), 6, (2, 0)),
+        )
+        for root, index, path in rows:
+            refused = self.refused(kmip_ttlv.encode, root)
+            self.assertEqual((refused.index, refused.path, refused.why), (index, path, "its value is no int"))
+            for at in path:
+                root = root.value[at]
+            self.assertIs(root, bad)
+        late = node(0x420078, 1, [node(0x420077, 1, [leaf]), leaf])
+        with mock.patch.object(kmip_ttlv, "write", side_effect=kmip_ttlv.BadItem(3, "too late")):
+            refused = self.refused(kmip_ttlv.encode, late)
+        self.assertEqual((str(refused), refused.path), ("item 3, root.value[1] (tag 0x42000D): too late", (1,)))
+        self.assertIsNone(self.refused(kmip_ttlv.write, [None], b"").path)
 
     def test_refusals(self):
         with self.assertRaises(kmip_ttlv.BadNames) as refused:

@@ -1,11 +1,11 @@
 """The tests that are data (docs/VECTORS.md, the lists `messages`, `diagnostics`, `names` and `jsons`), tried with the Python module; or as rows,
 for the callers in C and Rust.
 
-    KMIP_TTLV_LIBRARY=PATH python3 vectors.py [--rows]
+    PYTHONPATH=FOLDER python3 vectors.py [--rows]
 
-A row is a line: the test, the member and a number, and in hexadecimal the input, a prefix of tags, a table of names and what is wanted,
-with tabs between.
-No call takes or makes JSON, so in its place are the nodes that it says: what its bytes are decoded as, and what is encoded as them.
+FOLDER is one that the build of the library made. A row is a line: the test, the member and a number, and in hexadecimal the input, a
+prefix of tags, a table of names and what is wanted, with tabs between.
+No call takes JSON, so in its place are the nodes that it says: what its bytes are decoded as, and what is encoded as them.
 
 Each value that differs is a line. The last line is 'vectors: N values, M differ', and the status 0 if M is 0 and N isn't.
 """
@@ -128,6 +128,27 @@ def node_of(item):
     return kmip_ttlv.Node(int(item["tag"], 16), typ, value)
 
 
+def redacted_of(node, depth=0):
+    """The lines of nodes' diagnostic that is read back: no value is shown but those of Enumerations."""
+    tag, typ, value = node
+    shown = "" if typ == 1 else f"{value:X}" if typ == 5 else "<redacted>"
+    lines = [f"{'  ' * depth}Tag: 0x{tag:04X}, Type: {TYPES[typ]} (0x{typ:02X}), Data: {shown}"]
+    return lines + [line for it in (value if typ == 1 else ()) for line in redacted_of(it, depth + 1)]
+
+
+def printed():
+    """What is printed of each whole message whose JSON is known: the test's name, what it is, what the module makes of it, and what is wanted."""
+    for name, test in tests("messages"):
+        if "json" in test:
+            message = bytes.fromhex(test["bytes"])
+            # nothing follows an empty structure at the end
+            lines = "\n".join(redacted_of(node_of(json.loads(test["json"])))).rstrip(" ")
+            yield name, "json", kmip_ttlv.to_json(message), test["json"]
+            yield name, "redacted text", kmip_ttlv.to_text(message, "", redact=True), lines
+            if "hidden_json" in test:
+                yield name, "hidden_json", kmip_ttlv.to_json(message, redact=True), test["hidden_json"]
+
+
 def nodes():
     """Each message that JSON says: its name, its nodes, and its bytes."""
     for kind, member in (("messages", "canonical"), ("jsons", "bytes")):
@@ -178,6 +199,8 @@ def main(words):
         tally.try_row(*row)
     for test, node, message in nodes():
         tally.try_nodes(test, node, message)
+    for row in printed():
+        tally.compare(*row)
     print(f"vectors: {tally.values} values, {tally.differ} differ")
     return 0 if tally.values and not tally.differ else 1
 

@@ -1,20 +1,39 @@
 """TTLV, the encoding of OASIS KMIP: prints, redacts, lists, checks, decodes and encodes messages.
 
-Copy this file beside libkmip_ttlv.so, or set KMIP_TTLV_LIBRARY to the path of the library.
+`pip install` the folder that this file is in, as `./install` or the build of the C library made it. Or copy this file and
+kmip_ttlv_names.py beside libkmip_ttlv.so; or set KMIP_TTLV_LIBRARY to the path of the library. Importing it raises ImportError if the
+library is of another version.
 
 Bytes are passed as `bytes`, `bytearray`, `memoryview`, or anything else with a buffer; what isn't `bytes` is copied first. Each call
 can raise MemoryError, and TypeError for an argument of another type.
 """
 import ctypes
+import json
 import os
 from collections import namedtuple
 from datetime import datetime, timedelta, timezone
 
-__all__ = ["check", "decode", "encode", "from_diag", "items", "to_diag", "to_diag_checked", "to_text", "version", "write"]
+from kmip_ttlv_names import SECRET_TAGS, TAGS
+
+__all__ = ["check", "decode", "encode", "from_diag", "items", "tag_name", "to_diag", "to_diag_checked", "to_json", "to_text", "version", "write"]
 __all__ += ["FAULTS", "Fault", "Item", "Node", "BadItem", "Malformed", "BadNames"]
 
+# The version of the library that the calls below are declared for.
+_VERSION = "0.1.0"
+
+
+def _loaded(path):
+    """Returns the library at a path. Raises ImportError if it is of another version than this module."""
+    library, out, length = ctypes.CDLL(path), ctypes.create_string_buffer(64), ctypes.c_size_t()
+    library.kmip_ttlv_version(out, ctypes.c_size_t(64), ctypes.byref(length))
+    found = out.value.decode("ascii", "replace")
+    if found.removesuffix("-unproved") != _VERSION:
+        raise ImportError(f"the library is of version {found}, and this module needs {_VERSION}", name=__name__, path=path)
+    return library
+
+
 _here = os.path.dirname(os.path.abspath(__file__))
-_library = ctypes.CDLL(os.environ.get("KMIP_TTLV_LIBRARY") or os.path.join(_here, "libkmip_ttlv.so"))
+_library = _loaded(os.environ.get("KMIP_TTLV_LIBRARY") or os.path.join(_here, "libkmip_ttlv.so"))
 
 OK, OUT_OF_MEMORY, NOT_UTF8, NO_ROOM, MALFORMED, BAD_NAMES = range(6)
 
@@ -42,7 +61,8 @@ Item = namedtuple("Item", "offset depth tag typ length")
 class Node(namedtuple("Node", "tag typ value")):
     """tag: its number; typ: its code; value: a list of nodes for a Structure, or the value as Python has it (see decode).
 
-    Comparing and printing take no stack, however deep a node is. `repr` shows each value.
+    Comparing and printing take no stack, however deep a node is. `repr` shows each value but those of secret tags, which can hold a key,
+    data to encrypt or decrypt, or proof of identity, and what is in a Structure that has such a tag: it shows these as <redacted>.
     """
 
     __slots__ = ()
@@ -76,6 +96,8 @@ class Node(namedtuple("Node", "tag typ value")):
             if isinstance(it, _Part):
                 parts.append(it)
                 around.discard(it.of)
+            elif isinstance(it, Node) and isinstance(it.tag, int) and it.tag in SECRET_TAGS:
+                parts.append(f"Node(tag={it.tag!r}, typ={it.typ!r}, value=<redacted>)")
             elif isinstance(it, Node) and isinstance(it.value, list) and id(it.value) not in around:
                 parts.append(f"Node(tag={it.tag!r}, typ={it.typ!r}, value=[")
                 around.add(id(it.value))
@@ -105,19 +127,27 @@ Fault = namedtuple("Fault", "offset kind")
 
 
 class Malformed(ValueError):
-    """The bytes are not one whole message; `fault` is what is wrong, `items` are the items before it (of to_diag_checked none)."""
+    """The bytes are not one whole message; `fault` is what is wrong, `items` are the items before it, and `path` the tags of the Structures
+    around it, the outermost first. (Of to_diag_checked both are empty: in malformed bytes those of a key may stand where a tag is expected.)
+    """
 
     def __init__(self, fault, found):
-        super().__init__(f"at byte {fault.offset}: {FAULTS[fault.kind]}")
         self.fault, self.items = fault, found
+        self.path = tuple(it.tag for it in found if it.typ == 1 and it.offset + 8 <= fault.offset < it.offset + 8 + it.length)
+        inner = [f"0x{tag:06X}" for tag in self.path[-8:]]
+        around = ", in " + " > ".join([".."] * (len(self.path) > 8) + inner) if inner else ""
+        super().__init__(f"at byte {fault.offset}{around}: {FAULTS[fault.kind]}")
 
 
 class BadItem(ValueError):
-    """An item can't be written: `index` is its index in document order, from 0, `why` what is wrong with it."""
+    """An item can't be written: `index` is its index in document order, from 0, `why` what is wrong with it. Of a node `path` has the
+    indices that lead to it from the root, as (1, 0) to root.value[1].value[0], and of an item of a flat list it is None.
+    """
 
-    def __init__(self, index, why, tag=None):
-        super().__init__(f"item {index}{'' if tag is None else f' (tag 0x{tag:06X})'}: {why}")
-        self.index, self.why = index, why
+    def __init__(self, index, why, tag=None, path=None):
+        where = f", root{''.join(f'.value[{it}]' for it in path)}" if path else ""
+        super().__init__(f"item {index}{where}{'' if tag is None else f' (tag 0x{tag:06X})'}: {why}")
+        self.index, self.why, self.path = index, why, path
 
 
 class BadNames(ValueError):
@@ -239,7 +269,12 @@ def to_diag_checked(message, prefix=""):
     return _text(lambda *out: _to_diag_checked(message, len(message), prefix, len(prefix), *out), len(message) + 64, fault)
 
 
-def to_text(message, names=None, closed=True, limit=None):
+def tag_name(tag):
+    """Returns the name that the KMIP specifications give a tag's number, or None."""
+    return TAGS.get(_int(tag, "the tag"))
+
+
+def to_text(message, names=None, closed=True, limit=None, redact=False):
     """Returns any bytes as readable text with every value, and KMIP's tag names or those of a table of lines `TAG NAME`.
 
     It ends with a line `ERROR: ..` if an item can't be read, or goes past the end of its structure. Texts keep their control
@@ -250,7 +285,14 @@ def to_text(message, names=None, closed=True, limit=None):
     each line is indented by its depth, so the text of n structures, each in the one before, has n * n bytes.
 
     With closed=False an empty structure stays open as in to_diag, so the text of n empty ones side by side has n * n bytes too.
+
+    With redact=True no value is shown but those of Enumerations, in hexadecimal: it is what from_diag says of to_diag_checked, so it raises
+    Malformed, without any item, for bytes that aren't one whole message, and its limit is that of from_diag. Empty structures are closed.
     """
+    if redact:
+        if not closed:
+            raise ValueError("a redacted text closes empty structures")
+        return from_diag(to_diag_checked(message), names=_standard_names() if names is None else names, limit=limit)
     message = _bytes(message)
     room = 4 * len(message) + 256
     if names is None:
@@ -259,6 +301,10 @@ def to_text(message, names=None, closed=True, limit=None):
     names, line = _utf8(names), _size()
     limit = _limit(limit, 64 * len(message) + 16 * len(names) + (1 << 20))
     return _text(lambda *out: _to_text(message, len(message), names, len(names), not closed, limit, *out), room, line)
+
+
+def _standard_names():
+    return "".join(f"{tag:06X} {name}\n" for tag, name in TAGS.items())
 
 
 def from_diag(diagnostic, prefix="", names="", limit=None):
@@ -335,6 +381,39 @@ def decode(message):
         if it.depth == 0:
             root = node
     return root
+
+
+# The names of types in JSON, by their codes.
+_TYPES = (None, "Structure", "Integer", "LongInteger", "BigInteger", "Enumeration", "Boolean", "TextString", "ByteString", "DateTime", "Interval")
+# What JSON needn't escape, and a terminal would take for commands.
+_CONTROLS = {code: f"\\u{code:04x}" for code in range(0x7F, 0xA0)}
+
+
+def _json_value(typ, content):
+    if typ == 6:
+        return "true" if content[-1] else "false"
+    if typ == 7:
+        return json.dumps(content.decode("utf-8"), ensure_ascii=False).translate(_CONTROLS)
+    return f'"{"" if typ == 8 else "0x"}{content.hex().upper()}"'
+
+
+def to_json(message, redact=False):
+    """Returns one whole message as the JSON that `ttlv json` prints, in one line: OASIS "KMIP Additional Message Encodings", in hexadecimal forms.
+
+    With redact=True each value but those of Enumerations is null. Raises Malformed if the bytes are not one whole message.
+    """
+    message, parts, opened, is_first = _bytes(message), [], 0, True
+    for it in items(message):
+        parts.append("]}" * (opened - it.depth) + ("" if is_first and it.depth == opened else ","))
+        parts.append(f'{{"tag":"0x{it.tag:06X}","type":"{_TYPES[it.typ]}","value":')
+        is_first, opened = it.typ == 1, it.depth + (it.typ == 1)
+        if is_first:
+            parts.append("[")
+        elif redact and it.typ != 5:
+            parts.append("null}")
+        else:
+            parts.append(_json_value(it.typ, message[it.offset + 8 : it.offset + 8 + it.length]) + "}")
+    return "".join(parts) + "]}" * opened
 
 
 _FIELDS = tuple(zip(Item._fields, (_SIZES, _SIZES, _NUMBERS, _NUMBERS, _NUMBERS)))
@@ -461,7 +540,7 @@ def encode(root):
     any message m it is the canonical message with the same values. (`write` keeps each Big Integer's bytes.)
 
     A node whose typ is not 1 is encoded too, as an item that is no message. Raises BadItem for the first node, in document order, that
-    is no tuple of three, whose tag, type or value can't be encoded, or that contains itself. Nesting takes no stack.
+    is no tuple of three, whose tag, type or value can't be encoded, or that contains itself, with its path. Nesting takes no stack.
     """
     found, lent, waiting = [], bytearray(8), [(0, root)]
     around, opened = [], set()
@@ -476,7 +555,7 @@ def encode(root):
         except MemoryError:
             raise
         except Exception as why:  # an object of the caller's can raise anything
-            raise BadItem(len(found), str(why), _tag_of(node)) from why
+            raise BadItem(len(found), str(why), _tag_of(node), _path([*(it.depth for it in found), depth])) from why
         if typ == 1:
             around.append(value)
             opened.add(id(value))
@@ -484,7 +563,22 @@ def encode(root):
             value = b""
         found.append(Item(len(lent) - 8, depth, tag, typ, len(value)))
         lent += value
-    return write(found, lent)
+    try:
+        return write(found, lent)
+    except BadItem as bad:
+        raise BadItem(bad.index, bad.why, found[bad.index].tag, _path([it.depth for it in found[: bad.index + 1]])) from None
+
+
+def _path(depths):
+    """Returns the indices that lead from the root to the last of nodes that have these depths, in document order."""
+    path = []
+    for depth in depths[1:]:
+        if depth > len(path):
+            path.append(0)
+        else:
+            del path[depth:]
+            path[-1] += 1
+    return tuple(path)
 
 
 def _tag_of(node):
