@@ -1,4 +1,4 @@
-"""Compares the header, and what the callers in Python and Rust declare, with the sources of the library: each number, the fields of
+"""Compares the header, and what is declared for Python and Rust (bindings/), with the sources of the library: each number, the fields of
 each struct, and the name and type of each argument, in their order.
 
     python3 header.py
@@ -14,6 +14,7 @@ CRATE = os.path.dirname(HERE)
 
 
 def text_of(path):
+    """A file, named from the library's folder."""
     with open(f"{CRATE}/{path}", encoding="utf-8") as it:
         return it.read()
 
@@ -46,7 +47,7 @@ def numbers_of_sources(status, items, writing, types):
     yield from found.items()
 
 
-# A type of an argument or a field as the sources have it, as C declares it, and as test.rs does.
+# A type of an argument or a field as the sources have it, as C declares it, and as Rust does.
 PLAIN = {"bool": ("bool", "bool"), "usize": ("size_t", "usize"), "u32": ("uint32_t", "u32"), "&mut usize": ("size_t *", "*mut usize")}
 STRUCTS = {"KmipTtlvItem": ("kmip_ttlv_item", "Item"), "KmipTtlvFault": ("kmip_ttlv_fault", "Fault")}
 STRUCTS["KmipTtlvBadItem"] = ("kmip_ttlv_bad_item", "BadItem")
@@ -91,7 +92,7 @@ def declared(text, pattern, split):
 
 
 def main():
-    header, module, rust = text_of("include/kmip_ttlv.h"), text_of("../../bindings/python/kmip_ttlv.py"), text_of("callers/test.rs")
+    header, module, rust = text_of("include/kmip_ttlv.h"), text_of("../../bindings/python/kmip_ttlv.py"), text_of("../../bindings/rust/src/raw.rs")
     status, items, writing, calls = (text_of(f"src/{it}.rt") for it in ("status", "items", "writing", "calls"))
     wrong = []
 
@@ -109,25 +110,27 @@ def main():
     same("kmip_ttlv.py: version", re.search(r'\n_VERSION = "(.*)"', module)[1], version)
     statuses = re.findall(r"pub const (\w+): u32", status)
     same("kmip_ttlv.py: statuses", re.search(r"\n([A-Z0-9_, ]+) = range\(", module)[1].split(", "), statuses)
-    for name, number in re.findall(r"\nconst (\w+): u32 = (\d+);", rust):
-        same(f"test.rs: {name}", int(number), numbers[name])
+    of_rust = {name: int(number) for name, number in re.findall(r"\npub const (\w+): u32 = (\d+);", rust)}
+    # a text of Rust is UTF-8, and what is whole is no error
+    for name in sorted({*numbers, *of_rust} - {"NOT_UTF8", "WHOLE"}):
+        same(f"raw.rs: {name}", of_rust.get(name), numbers.get(name))
+    same("Cargo.toml: version", re.search(r'\nversion = "(.*)"', text_of("../../bindings/rust/Cargo.toml"))[1], version)
 
     exported = dict(re.findall(r'pub extern "C" fn kmip_ttlv_(\w+)\(([^)]*)\)', calls + items + writing))
     wanted = {name: list(arguments(" ".join(words.split()))) for name, words in exported.items()}
     of_header = dict(declared(header, r"kmip_ttlv_status kmip_ttlv_(\w+)\(([^)]*)\);", r"(.*?)(\w+)"))
     same("header: calls", sorted(of_header), sorted(wanted))
-    of_rust = dict(declared(rust, r"    fn kmip_ttlv_(\w+)\(([^)]*)\)", r"(\w+): (.*)"))
+    of_rust = dict(declared(rust, r"    pub fn kmip_ttlv_(\w+)\(([^)]*)\)", r"(\w+): (.*)"))
     of_module = dict(re.findall(r'= _call\("(\w+)", (.*)\)\n', module))
     for name, words in wanted.items():
         same(f"header: {name}", [(it, kind.strip()) for kind, it in of_header.get(name, [])], [(it, kind) for it, kind, _ in words])
         same(f"kmip_ttlv.py: {name}", of_module.get(name), ", ".join(in_python(words)))
-        if name in of_rust:
-            same(f"test.rs: {name}", of_rust[name], [(it, kind) for it, _, kind in words])
+        same(f"raw.rs: {name}", of_rust.get(name), [(it, kind) for it, _, kind in words])
     for name, (in_c, in_rust) in STRUCTS.items():
         fields = re.findall(r"pub (\w+): (\w+),", after(items + writing, f"pub struct {name} {{"))
         block = re.search(r"typedef struct \{([^}]*)\} " + in_c + ";", header)[1]
         same(f"header: {in_c}", re.findall(r"\n    (\w+) (\w+);", block), [(PLAIN[kind][0], it) for it, kind in fields])
-        same(f"test.rs: {in_rust}", re.findall(r"pub (\w+): (\w+),", after(rust, f"pub struct {in_rust} {{")), fields)
+        same(f"raw.rs: {in_rust}", re.findall(r"pub (\w+): (\w+),", after(rust, f"pub struct {in_rust} {{")), fields)
         block = after(module, f"class _{in_rust}(ctypes.Structure)", "\n")
         kinds = {"usize": "c_size_t", "u32": "c_uint32"}
         same(f"kmip_ttlv.py: _{in_rust}", fields_in_module(block), [(it, kinds[kind]) for it, kind in fields])

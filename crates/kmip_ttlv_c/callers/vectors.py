@@ -1,7 +1,7 @@
 """The tests that are data (docs/VECTORS.md, the lists `messages`, `diagnostics`, `names` and `jsons`), tried with the Python module; or as rows,
-for the callers in C and Rust.
+for callers in other languages: what the calls of C are tried with, and the JSON that says what a message is decoded as.
 
-    PYTHONPATH=FOLDER python3 vectors.py [--rows]
+    PYTHONPATH=FOLDER python3 vectors.py [--rows | --nodes]
 
 FOLDER is one that the build of the library made. A row is a line: the test, the member and a number, and in hexadecimal the input, a
 prefix of tags, a table of names and what is wanted, with tabs between.
@@ -70,6 +70,12 @@ def rows():
     for name, test in tests("names"):
         for row in named_rows_of(test):
             yield name, *row
+
+
+def node_rows():
+    for name, test in tests("messages"):
+        if "json" in test:
+            yield name, "json", 0, bytes.fromhex(test["bytes"]), "", "", test["json"].encode()
 
 
 def bad_line_of(given, names):
@@ -190,8 +196,8 @@ class Tally:
 
 
 def main(words):
-    if words == ["--rows"]:
-        for test, member, number, given, prefix, names, wanted in rows():
+    if words in (["--rows"], ["--nodes"]):
+        for test, member, number, given, prefix, names, wanted in rows() if words == ["--rows"] else node_rows():
             print(test, member, number, given.hex(), prefix.encode().hex(), names.encode().hex(), wanted.hex(), sep="\t")
         return 0
     tally = Tally()
