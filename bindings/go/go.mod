@@ -1,0 +1,3 @@
+module kmipttlv
+
+go 1.19
