@@ -100,7 +100,9 @@ def main():
         if got != wanted:
             wrong.append(f"{what}: {got}, in the sources {wanted}")
 
-    numbers = dict(numbers_of_sources(status, items, writing, text_of("../kmip_ttlv_types/src/typ.rt")))
+    # that of front.c comes behind those of the sources
+    numbers = {"BAD_ARGUMENT": len(re.findall(r"pub const (\w+): u32", status))}
+    numbers |= dict(numbers_of_sources(status, items, writing, text_of("../kmip_ttlv_types/src/typ.rt")))
     of_header = {name: int(number) for name, number in re.findall(r"#define KMIP_TTLV_(\w+) (\d+)u\n", header)}
     for name in sorted({*numbers, *of_header}):
         same(f"header: {name}", of_header.get(name), numbers.get(name))
@@ -111,8 +113,8 @@ def main():
     statuses = re.findall(r"pub const (\w+): u32", status)
     same("kmip_ttlv.py: statuses", re.search(r"\n([A-Z0-9_, ]+) = range\(", module)[1].split(", "), statuses)
     of_rust = {name: int(number) for name, number in re.findall(r"\npub const (\w+): u32 = (\d+);", rust)}
-    # a text of Rust is UTF-8, and what is whole is no error
-    for name in sorted({*numbers, *of_rust} - {"NOT_UTF8", "WHOLE"}):
+    # a text of Rust is UTF-8, a slice has a length that it can have, and what is whole is no error
+    for name in sorted({*numbers, *of_rust} - {"NOT_UTF8", "BAD_ARGUMENT", "WHOLE"}):
         same(f"raw.rs: {name}", of_rust.get(name), numbers.get(name))
     same("Cargo.toml: version", re.search(r'\nversion = "(.*)"', text_of("../../bindings/rust/Cargo.toml"))[1], version)
 

@@ -305,6 +305,103 @@ static void large(void) {
     HOLD(blocks == 0);
 }
 
+/* Null where the length is 0, as an empty block is elsewhere. */
+static void null_arguments(void) {
+    uint8_t out[64];
+    size_t length = 99, other = 99;
+    kmip_ttlv_fault fault = {9, 9};
+    kmip_ttlv_bad_item bad = {9, 9};
+    HOLD(kmip_ttlv_to_diag(NULL, 0, NULL, 0, false, NULL, 0, &length, &other) == KMIP_TTLV_NO_ROOM && length == 3 && other == 1);
+    HOLD(kmip_ttlv_to_diag(NULL, 0, NULL, 0, false, out, 3, &length, &other) == KMIP_TTLV_OK && is_text(out, length, "ERR"));
+    HOLD(kmip_ttlv_to_diag_checked(NULL, 0, NULL, 0, NULL, 0, &length, &fault) == KMIP_TTLV_MALFORMED && fault.kind == KMIP_TTLV_CUT);
+    HOLD(kmip_ttlv_to_diag_checked(VERSION, 40, NULL, 0, NULL, 0, &length, &fault) == KMIP_TTLV_NO_ROOM && length == 22);
+    HOLD(kmip_ttlv_to_text(NULL, 0, NULL, 0, false, ANY, NULL, 0, &length, &other) == KMIP_TTLV_NO_ROOM && other == 0);
+    HOLD(kmip_ttlv_to_text(NULL, 0, NULL, 0, false, ANY, out, 64, &length, &other) == KMIP_TTLV_OK);
+    HOLD(is_text(out, length, "ERROR: cannot read the item at byte 0"));
+    HOLD(kmip_ttlv_to_standard_text(NULL, 0, false, ANY, NULL, 0, &other) == KMIP_TTLV_NO_ROOM && other == length);
+    HOLD(kmip_ttlv_from_diag(NULL, 0, NULL, 0, NULL, 0, ANY, NULL, 0, &length, &other) == KMIP_TTLV_OK && length == 0 && other == 0);
+    HOLD(kmip_ttlv_items(NULL, 0, NULL, 0, &other, &fault) == KMIP_TTLV_MALFORMED && other == 0 && fault.kind == KMIP_TTLV_CUT);
+    HOLD(kmip_ttlv_items(VERSION, 40, NULL, 0, &other, &fault) == KMIP_TTLV_NO_ROOM && other == 3 && fault.kind == KMIP_TTLV_WHOLE);
+    HOLD(kmip_ttlv_check(NULL, 0, &fault) == KMIP_TTLV_MALFORMED && fault.kind == KMIP_TTLV_CUT && fault.offset == 0);
+    HOLD(kmip_ttlv_write(NULL, 0, NULL, 0, NULL, 0, &length, &bad) == KMIP_TTLV_OK && length == 0 && bad.kind == KMIP_TTLV_WHOLE);
+    HOLD(kmip_ttlv_version(NULL, 0, &length) == KMIP_TTLV_NO_ROOM && length == strlen(KMIP_TTLV_VERSION));
+}
+
+/* A pointer and a length. */
+typedef struct {
+    const uint8_t *at;
+    size_t length;
+} given;
+
+/* Whether nothing was done, and what is set is 0. */
+static bool is_none(kmip_ttlv_status status, size_t length, size_t other) {
+    return status == KMIP_TTLV_BAD_ARGUMENT && length == 0 && other == 0;
+}
+
+/* Each pair of a pointer and a length in turn is the bad one: null with a length, or a length that no object has. */
+static void bad_argument(given bad) {
+    uint8_t out[64];
+    const given good[4] = {{VERSION, 40}, {PREFIX, 4}, {NAMES, 0}, {out, 64}};
+    for (int which = 0; which < 4; which++) {
+        given it[4] = {good[0], good[1], good[2], good[3]};
+        it[which] = bad;
+        uint8_t *to = it[3].at == NULL ? NULL : out;
+        const bool has_bytes = which == 0, has_prefix = which == 1, has_names = which == 2, has_out = which == 3;
+        size_t length = 99, other = 99;
+        kmip_ttlv_fault fault = {9, 9};
+        kmip_ttlv_status status =
+            kmip_ttlv_to_diag(it[0].at, it[0].length, it[1].at, it[1].length, false, to, it[3].length, &length, &other);
+        HOLD(has_names || is_none(status, length, other));
+        length = 99;
+        status = kmip_ttlv_to_diag_checked(it[0].at, it[0].length, it[1].at, it[1].length, to, it[3].length, &length, &fault);
+        HOLD(has_names || is_none(status, length, fault.offset + fault.kind));
+        length = other = 99;
+        status = kmip_ttlv_to_text(it[0].at, it[0].length, it[2].at, it[2].length, false, ANY, to, it[3].length, &length, &other);
+        HOLD(has_prefix || is_none(status, length, other));
+        length = 99;
+        status = kmip_ttlv_to_standard_text(it[0].at, it[0].length, false, ANY, to, it[3].length, &length);
+        HOLD((!has_bytes && !has_out) || is_none(status, length, 0));
+        length = other = 99;
+        status = kmip_ttlv_from_diag(it[0].at, it[0].length, it[1].at, it[1].length, it[2].at, it[2].length, ANY, to, it[3].length,
+                                     &length, &other);
+        HOLD(is_none(status, length, other));
+        length = 99;
+        status = kmip_ttlv_version(to, it[3].length, &length);
+        HOLD(!has_out || is_none(status, length, 0));
+    }
+    HOLD(blocks == 0);
+}
+
+/* The same of the calls that take or fill a list. */
+static void bad_list(given bad, kmip_ttlv_item *list) {
+    uint8_t out[64], *to = bad.at == NULL ? NULL : out;
+    kmip_ttlv_item *items = bad.at == NULL ? NULL : list;
+    /* so many items have more bytes than an object, though their number is one that it can have */
+    const size_t count = bad.at == NULL ? 1 : PTRDIFF_MAX / sizeof *list + 1;
+    for (int which = 0; which < 6; which++) {
+        size_t length = which == 0 ? 0 : 99;
+        kmip_ttlv_fault fault = {which < 3 ? 9 : 0, which < 3 ? 9 : 0};
+        kmip_ttlv_bad_item item = {which < 3 ? 0 : 9, which < 3 ? 0 : 9};
+        kmip_ttlv_status status =
+            which == 0   ? kmip_ttlv_check(bad.at, bad.length, &fault)
+            : which == 1 ? kmip_ttlv_items(bad.at, bad.length, list, 1, &length, &fault)
+            : which == 2 ? kmip_ttlv_items(VERSION, 40, items, count, &length, &fault)
+            : which == 3 ? kmip_ttlv_write(list, 0, bad.at, bad.length, out, 64, &length, &item)
+            : which == 4 ? kmip_ttlv_write(list, 0, VERSION, 40, to, bad.length, &length, &item)
+                         : kmip_ttlv_write(items, count, VERSION, 40, out, 64, &length, &item);
+        HOLD(is_none(status, length, fault.offset + fault.kind + item.index + item.kind));
+    }
+}
+
+static void bad_arguments(void) {
+    static kmip_ttlv_item item;
+    const given bad[] = {{NULL, 1}, {NULL, SIZE_MAX}, {VERSION, SIZE_MAX}, {VERSION, (size_t)PTRDIFF_MAX + 1}};
+    for (size_t i = 0; i < sizeof bad / sizeof *bad; i++) {
+        bad_argument(bad[i]);
+        bad_list(bad[i], &item);
+    }
+}
+
 static void refusals(void) {
     static const uint8_t bad[] = {0xFF};
     size_t length = 99, items = 99, line = 99;
@@ -486,6 +583,8 @@ int main(void) {
     memory();
     blocks_of_memory();
     large();
+    null_arguments();
+    bad_arguments();
     refusals();
     walks();
     checked();

@@ -4,9 +4,11 @@
  * allocates before it returns, so any number of threads may be in calls at a time. Lengths and offsets are in bytes, counts
  * of items and the `room` of a list in items; all are of type size_t.
  *
- * Input is passed as a pointer and a length of at most PTRDIFF_MAX; a `room` is at most that too. No pointer may be null,
- * even if its length is 0. The input must not change during the call, and what is written to (a buffer, a list, and the
- * objects of `length`, `items`, `count`, `bad_line`, `fault` and `bad`) must not overlap with any other argument.
+ * Input is passed as a pointer and a length. The pointer may be null if the length is 0; so may `out` and a list, if their
+ * `room` is. A length or room of more bytes than PTRDIFF_MAX, or null with another one than 0, is BAD_ARGUMENT: then what is
+ * set is 0, as on any other error. No other pointer may be null. The input must not change during the call, and what is
+ * written to (a buffer, a list, and the objects of `length`, `items`, `count`, `bad_line`, `fault` and `bad`) must not overlap
+ * with any other argument.
  *
  * A call that makes a text or a message writes it to `out` if its `room` bytes hold all of it, without an ending zero, and
  * writes nothing after it. `*length` is how long it is, even if there was no room; on any other error it is 0. On
@@ -64,6 +66,8 @@ typedef uint32_t kmip_ttlv_status;
 #define KMIP_TTLV_MALFORMED 4u
 /* A line of a table of names can't be parsed; `*bad_line` is its number. */
 #define KMIP_TTLV_BAD_NAMES 5u
+/* A length or a room is more than PTRDIFF_MAX bytes, or isn't 0 and its pointer is null. */
+#define KMIP_TTLV_BAD_ARGUMENT 6u
 
 /* An item of a message. */
 typedef struct {
