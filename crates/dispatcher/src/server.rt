@@ -123,17 +123,6 @@ pub fn refuse<A: Allocator + Copy>(alloc: A) -> Result<Response<A>, AllocError> 
     Ok(response(items))
 }
 
-// Whether these are all bytes of one message: then the next byte is the next message's first. After a type code that is none, or a
-// message beyond the limit, only the eight bytes of the header were taken, and what follows is not to be read as requests.
-fn is_taken_whole(bytes: &[u8]) -> bool {
-    match bytes {
-        [_, _, _, 1, a, b, c, d, body @ ..] => {
-            body.len() as u64 == u32::from_be_bytes([*a, *b, *c, *d]) as u64
-        }
-        _ => false,
-    }
-}
-
 // What is known of a message without any of its values.
 fn outline<A: Allocator + Copy>(alloc: A, bytes: &[u8]) -> Result<String<A>, AllocError> {
     match find_fault(alloc, bytes)? {
@@ -199,7 +188,7 @@ pub fn serve<A: Allocator + Copy, R: Read, W: Write, L: Write>(
             Ok(request) => respond(alloc, request)?,
             Err(_) => refuse(alloc)?,
         };
-        if !send(alloc, writer, log, &response)? || !is_taken_whole(bytes.as_slice()) {
+        if !send(alloc, writer, log, &response)? || !config.is_between_messages() {
             break;
         }
     }

@@ -3,3 +3,4 @@ pub mod Fronts
 pub mod BySize
 pub mod Exact
 pub mod Stopping
+pub mod Leaving

@@ -78,7 +78,7 @@ ends_with answers can_fail limit old new message seen (Err e) comes same answer 
   answer = subst (λ (l : List ℕ). answers l (Err e)) same answer;
 }
 
-fresh_stops : {A : Type 0} (can_fail : Bool) (limit : Option ℕ) (old new reused : Option (List ℕ)) (e : Error A)
+pub fresh_stops : {A : Type 0} (can_fail : Bool) (limit : Option ℕ) (old new reused : Option (List ℕ)) (e : Error A)
     → FailsToArrive can_fail limit old new reused e → FailsToArrive can_fail limit old new None e
 fresh_stops can_fail limit old new reused e (in_header lacks) = in_header lacks
 fresh_stops can_fail limit old new reused e (of_no_type head comes k) = of_no_type head comes tt

@@ -1,5 +1,5 @@
 -- The settings of `from_reader`.
-use Rattle.std.specs.Prelude.{◌≡◌, ℕ, List, Option, Some, None, is_some}
+use Rattle.std.specs.Prelude.{◌≡◌, ℕ, Bool, List, Option, Some, None, is_some}
 use Rattle.kmip_ttlv_stream.specs.declared.config.Config.{Config}
 use Rattle.kmip_ttlv_stream.specs.declared.config.Buffer.{Buffer}
 use Rattle.kmip_ttlv_stream.specs.declared.config.Buffer.TheVariants.{Reused, Fresh}
@@ -17,6 +17,10 @@ reused_bytes (Fresh alloc) = None
 -- the settings of this configuration
 abbrev pub settings_of : {A : Type 0} → Config A → Settings
 settings_of c = record { limit = c.limit; reused = reused_bytes c.buffer }
+
+-- whether the reader was left between two messages
+abbrev pub is_between : {A : Type 0} → Config A → Bool
+is_between c = c.between
 
 -- the limit stays, and there is a buffer if and only if there was one
 pub record KeepsSettings (old new : Settings) : Type 0 where

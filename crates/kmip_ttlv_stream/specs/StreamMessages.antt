@@ -1,10 +1,10 @@
 -- Messages at the front of a stream: which bytes are read, and what is returned.
-use Rattle.std.specs.Prelude.{◌≡◌, ℕ, ◌+◌, ◌<◌, ◌≤◌, ◌⊎◌, Bool, List, [], length, take, drop, Option, Some, None}
+use Rattle.std.specs.Prelude.{◌≡◌, ℕ, ◌+◌, ◌<◌, ◌≤◌, ◌⊎◌, Bool, true, false, List, [], length, take, drop, Option, Some, None}
 use Rattle.std.specs.Prelude.{IfSome, IfErr, IfOk, Result, Ok, Err}
 use Rattle.std.specs.Io.KnownBytes.{Consumes}
 use Rattle.std.specs.declared.io.Error.{Error as IoFault}
 use Rattle.kmip_ttlv_types.specs.declared.typ.TtlvType.{TtlvType}
-use Rattle.kmip_ttlv_types.specs.ItemTypes.{type_of}
+use Rattle.kmip_ttlv_types.specs.ItemTypes.{type_of, is_structure}
 use Rattle.kmip_ttlv_types.specs.Places.{tag_at, code_at, length_at}
 use Rattle.kmip_ttlv_types.specs.Streams.{ConsumesUpTo, Lacks}
 use Rattle.kmip_ttlv_base.specs.declared.error.Error.{Error}
@@ -145,6 +145,35 @@ abbrev pub Ends : {T A : Type 0} → (List ℕ → Result T (Error A) → Type 0
 Ends answers can_fail limit old new reused (Ok x) = Gives answers limit old new reused (Ok x)
 Ends answers can_fail limit old new reused (Err e) =
     Gives answers limit old new reused (Err e) ⊎ FailsToArrive can_fail limit old new reused e
+
+-- whether this code is a Structure's
+abbrev pub is_code_of_structure : Option TtlvType → Bool
+is_code_of_structure None = false
+is_code_of_structure (Some t) = is_structure t
+
+-- whether the header is a Structure's
+abbrev pub heads_structure : List ℕ → Bool
+heads_structure bytes = is_code_of_structure (type_of (code_at bytes 0))
+
+-- all bytes of one message were read, and nothing else
+pub record IsTaken (limit : Option ℕ) (old new : Option (List ℕ)) : Type 0 where
+  pub message : List ℕ
+  pub comes : Arrives limit old new message
+  pub is_structure : heads_structure message ≡ true
+
+-- an item was read that is no Structure, behind which padding may stand
+pub record TakesOther (limit : Option ℕ) (old new : Option (List ℕ)) : Type 0 where
+  pub item : List ℕ
+  pub comes : Arrives limit old new item
+  pub is_other : heads_structure item ≡ false
+
+-- where a read leaves the reader: between two messages, as all of one was read; or elsewhere, and then the error is that there is no message,
+-- or the item that was read is no Structure
+abbrev pub Leaves : {T A : Type 0} → Bool → Option ℕ → (old new reused : Option (List ℕ)) → Bool → Result T (Error A) → Type 0
+Leaves can_fail limit old new reused true r = IsTaken limit old new
+Leaves can_fail limit old new reused false (Ok x) = ⊥
+Leaves can_fail limit old new reused false (Err e) =
+    FailsToArrive can_fail limit old new reused e ⊎ TakesOther limit old new
 
 -- if this is an error by size, a header was read that states this size, above the limit
 abbrev pub IsBySize : {A : Type 0} → Option ℕ → (old new : Option (List ℕ)) → Error A → Type 0

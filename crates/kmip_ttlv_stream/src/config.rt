@@ -1,7 +1,7 @@
-//! The settings of `from_reader`: a limit, and a buffer that is kept from message to message.
+//! The settings of `from_reader`: a limit, and a buffer that is kept from message to message; and where it left the reader.
 
-ghost use Rattle.std.specs.Prelude.{◌≡◌, Some, None, [], option_map, is_some};
-ghost use Rattle.kmip_ttlv_stream.specs.Settings.{settings_of};
+ghost use Rattle.std.specs.Prelude.{◌≡◌, Some, None, true, [], option_map, is_some};
+ghost use Rattle.kmip_ttlv_stream.specs.Settings.{settings_of, is_between};
 
 use std::alloc::{Allocator, Global};
 use std::fmt;
@@ -15,6 +15,7 @@ use std::fmt;
 pub struct Config<A: Allocator = Global> {
     pub(crate) limit: Option<u32>,
     pub(crate) buffer: Buffer<A>,
+    pub(crate) between: bool,
 }
 
 // The bytes of the last message; or only the allocator, if they aren't kept.
@@ -27,11 +28,13 @@ pub(crate) enum Buffer<A: Allocator> {
 impl<A: Allocator> Config<A> {
     /// No limit and no buffer. Doesn't allocate.
     pub fn new(alloc: A) -> Config<A>
-        ensures { settings_of result ≡ record { limit = None; reused = None } }
+        ensures settings { settings_of result ≡ record { limit = None; reused = None } }
+        ensures between { is_between result ≡ true }
     {
         Config {
             limit: None,
             buffer: Buffer::Fresh(alloc),
+            between: true,
         }
     }
 
@@ -59,32 +62,47 @@ impl<A: Allocator> Config<A> {
         }
     }
 
+    /// Whether the reader stands between two messages: nothing was read with these settings yet, or the last call of `from_reader`
+    /// took all bytes of one message, a Structure, whatever it returned. The next byte is then the next message's first. Otherwise the
+    /// stream ended or failed, or only a header was taken, or an item that is no Structure, and what comes next is no message's
+    /// beginning: to read on would take the inside of a message for a message.
+    pub fn is_between_messages(&self) -> bool
+        ensures { result ≡ is_between self.now }
+    {
+        self.between
+    }
+
     /// The same with this limit in bytes: a larger message is an error before its body is read.
     pub fn with_max_bytes(self, max_bytes: u32) -> Config<A>
-        ensures { settings_of result ≡ record { limit = Some max_bytes; reused = (settings_of self).reused } }
+        ensures settings { settings_of result ≡ record { limit = Some max_bytes; reused = (settings_of self).reused } }
+        ensures between { is_between result ≡ is_between self }
     {
         Config {
             limit: Some(max_bytes),
             buffer: self.buffer,
+            between: self.between,
         }
     }
 
     /// The same with an empty buffer, which is kept from message to message. Doesn't allocate.
     pub fn with_read_buf(self) -> Config<A>
-        ensures { settings_of result ≡ record { limit = (settings_of self).limit; reused = Some [] } }
+        ensures settings { settings_of result ≡ record { limit = (settings_of self).limit; reused = Some [] } }
+        ensures between { is_between result ≡ is_between self }
     {
         Config {
             limit: self.limit,
             buffer: Buffer::Reused(emptied(self.buffer)),
+            between: self.between,
         }
     }
 }
 
 impl<A: Allocator + Copy> Config<A> {
-    /// The same limit, and an empty buffer if there is one. Doesn't allocate.
+    /// The same limit, and an empty buffer if there is one, with nothing read yet. Doesn't allocate.
     pub fn clone(&self) -> Config<A>
-        ensures { settings_of result
+        ensures settings { settings_of result
             ≡ record { limit = (settings_of self.now).limit; reused = option_map (λ _. []) (settings_of self.now).reused } }
+        ensures between { is_between result ≡ true }
     {
         Config {
             limit: self.limit,
@@ -92,6 +110,7 @@ impl<A: Allocator + Copy> Config<A> {
                 Buffer::Reused(bytes) => Buffer::Reused(Vec::new(*bytes.allocator())),
                 Buffer::Fresh(alloc) => Buffer::Fresh(*alloc),
             },
+            between: true,
         }
     }
 }

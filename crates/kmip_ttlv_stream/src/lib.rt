@@ -5,15 +5,15 @@
 #![tactic(auto)]
 
 ghost use Rattle.std.specs.Prelude.{◌≡◌, ℕ, List, Some, false, IfErr, IfOk};
-ghost use Rattle.kmip_ttlv_stream.specs.Settings.{settings_of, KeepsSettings};
-ghost use Rattle.kmip_ttlv_stream.specs.StreamMessages.{SliceResult, Ends, IsBySize, Exactly};
+ghost use Rattle.kmip_ttlv_stream.specs.Settings.{settings_of, is_between, KeepsSettings};
+ghost use Rattle.kmip_ttlv_stream.specs.StreamMessages.{SliceResult, Ends, IsBySize, Exactly, Leaves};
 
 mod config;
 mod take;
 
 use crate::config::Buffer;
 pub use crate::config::Config;
-use crate::take::take_message;
+use crate::take::{is_structure, take_message};
 use kmip_ttlv_base::error::Result;
 use kmip_ttlv_de::{Decode, from_slice};
 use kmip_ttlv_types::stream::Source;
@@ -33,7 +33,8 @@ use std::alloc::Allocator;
 /// - `IoError` of the reader's kind, without a place: reading failed. Interrupted reads are repeated.
 ///
 /// Memory for 512 bytes is taken first, and grows as more bytes come. A kept buffer then holds the bytes that
-/// were read; if too few came, or memory ran out, it may hold any.
+/// were read; if too few came, or memory ran out, it may hold any. `Config::is_between_messages` then says whether the
+/// next byte of the reader is the next message's first.
 ///
 /// ```
 /// let mut config = Config::new(alloc).with_max_bytes(65_536).with_read_buf();
@@ -55,26 +56,35 @@ pub fn from_reader<T: Decode<A>, S: Source, A: Allocator + Copy>(
         (S.left reader.new) (settings_of config.new).reused result }
     // The limit stays, and afterwards there is a buffer if and only if there was one.
     ensures config { KeepsSettings (settings_of config.old) (settings_of config.new) }
+    // Whether the reader is left between two messages.
+    ensures between { Leaves S.can_fail (settings_of config.old).limit (S.left reader.old) (S.left reader.new)
+        (settings_of config.new).reused (is_between config.new) result }
 {
     match &mut config.buffer {
-        Buffer::Reused(bytes) => read_message(alloc, reader, config.limit, bytes),
+        Buffer::Reused(bytes) => {
+            read_message(alloc, reader, config.limit, bytes, &mut config.between)
+        }
         Buffer::Fresh(_) => {
             let mut bytes = Vec::new(alloc);
-            read_message(alloc, reader, config.limit, &mut bytes)
+            read_message(alloc, reader, config.limit, &mut bytes, &mut config.between)
         }
     }
 }
 
-// Reads a message into the buffer, in place of what that held, and decodes it.
+// Reads a message into the buffer, in place of what that held, and decodes it. Notes whether the reader is left between two messages.
 fn read_message<T: Decode<A>, S: Source, A: Allocator + Copy>(
     alloc: A,
     reader: &mut S,
     limit: Option<u32>,
     bytes: &mut Vec<u8, A>,
+    between: &mut bool,
 ) -> Result<T, A>
-    ensures { Ends (SliceResult T.form T.is_value) S.can_fail limit (S.left reader.old) (S.left reader.new)
+    ensures ends { Ends (SliceResult T.form T.is_value) S.can_fail limit (S.left reader.old) (S.left reader.new)
         (Some bytes.new.items) result }
+    ensures between { Leaves S.can_fail limit (S.left reader.old) (S.left reader.new) (Some bytes.new.items) between.new result }
 {
+    *between = false;
     take_message(reader, limit, bytes)?;
+    *between = is_structure(bytes.as_slice());
     from_slice(alloc, bytes.as_slice())
 }

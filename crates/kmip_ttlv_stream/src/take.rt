@@ -4,7 +4,7 @@ ghost use Rattle.std.specs.Prelude.{◌≡◌, ◌≤◌, [], length, Some, IfOk
 ghost use Rattle.kmip_ttlv_types.specs.Streams.{Behind};
 ghost use Rattle.kmip_ttlv_base.specs.Errors.{kind_of, view_of_kind, location_of, view_of_location};
 ghost use Rattle.kmip_ttlv_base.specs.declared.error.ErrorKind.TheVariants.{ResponseSizeExceedsLimit as TooLargeKind};
-ghost use Rattle.kmip_ttlv_stream.specs.StreamMessages.{HasSize, FailsAtHeader, behind_header, behind_tag};
+ghost use Rattle.kmip_ttlv_stream.specs.StreamMessages.{HasSize, FailsAtHeader, behind_header, behind_tag, heads_structure};
 ghost use Rattle.kmip_ttlv_stream.specs.StreamMessages.{untyped_kind, IsIoFault, LacksBytes, Arrives, FailsToArrive};
 
 use kmip_ttlv_base::error::{Error, ErrorKind, ErrorLocation, MalformedTtlvError, Result};
@@ -32,6 +32,14 @@ pub fn take_message<S: Source, A: Allocator>(
     take_more(reader, bytes, 8)?;
     let size = size_of(bytes.as_slice(), limit)?;
     take_more(reader, bytes, size - 8)
+}
+
+// Whether the header is a Structure's.
+pub fn is_structure(message: &[u8]) -> bool
+    requires { 8 ≤ length message.now }
+    ensures { result ≡ heads_structure message.now }
+{
+    matches!(type_at(message, 0), Some(TtlvType::Structure))
 }
 
 // Removes all bytes, and makes room for a small message.

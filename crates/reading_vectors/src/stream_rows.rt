@@ -7,7 +7,7 @@ use kmip_ttlv::{Config, from_reader};
 use std::alloc::Global;
 use std::io::ErrorKind;
 
-// A stream and a limit; what is read, which bytes are kept, if that is promised, and which are left.
+// A stream and a limit; what is read, which bytes are kept, if that is promised, which are left, and whether these begin a message.
 #[derive(Clone, Copy)]
 struct Row {
     stream: &'static str,
@@ -15,6 +15,7 @@ struct Row {
     wanted: Wanted,
     kept: Option<&'static str>,
     left: &'static str,
+    between: bool,
 }
 
 const OTHER: &str = "AAAAAA0100000010CCCCCC02000000040000000500000000";
@@ -26,6 +27,7 @@ const ROWS: [Row; 17] = [
         wanted: Wanted::TooLarge(24),
         kept: Some("AAAAAA0100000010"),
         left: "BBBBBB02000000040000000300000000",
+        between: false,
     },
     Row {
         stream: MESSAGE,
@@ -33,6 +35,7 @@ const ROWS: [Row; 17] = [
         wanted: Wanted::TooLarge(24),
         kept: Some("AAAAAA0100000010"),
         left: "BBBBBB02000000040000000300000000",
+        between: false,
     },
     Row {
         stream: MESSAGE,
@@ -40,6 +43,7 @@ const ROWS: [Row; 17] = [
         wanted: Wanted::TooLarge(24),
         kept: Some("AAAAAA0100000010"),
         left: "BBBBBB02000000040000000300000000",
+        between: false,
     },
     Row {
         stream: MESSAGE,
@@ -47,6 +51,7 @@ const ROWS: [Row; 17] = [
         wanted: Wanted::TooLarge(24),
         kept: Some("AAAAAA0100000010"),
         left: "BBBBBB02000000040000000300000000",
+        between: false,
     },
     Row {
         stream: "",
@@ -54,6 +59,7 @@ const ROWS: [Row; 17] = [
         wanted: Wanted::Fault(ErrorKind::UnexpectedEof),
         kept: None,
         left: "",
+        between: false,
     },
     Row {
         stream: "AA",
@@ -61,6 +67,7 @@ const ROWS: [Row; 17] = [
         wanted: Wanted::Fault(ErrorKind::UnexpectedEof),
         kept: None,
         left: "",
+        between: false,
     },
     Row {
         stream: "AAAA",
@@ -68,6 +75,7 @@ const ROWS: [Row; 17] = [
         wanted: Wanted::Fault(ErrorKind::UnexpectedEof),
         kept: None,
         left: "",
+        between: false,
     },
     Row {
         stream: "AAAAAA0100000010BBBB",
@@ -75,6 +83,7 @@ const ROWS: [Row; 17] = [
         wanted: Wanted::Fault(ErrorKind::UnexpectedEof),
         kept: None,
         left: "",
+        between: false,
     },
     Row {
         stream: MESSAGE,
@@ -82,6 +91,7 @@ const ROWS: [Row; 17] = [
         wanted: Wanted::TooLarge(24),
         kept: Some("AAAAAA0100000010"),
         left: "BBBBBB02000000040000000300000000",
+        between: false,
     },
     Row {
         stream: "AAAAAA0100000010BBBBBB02000000040000000300000000FF",
@@ -89,6 +99,7 @@ const ROWS: [Row; 17] = [
         wanted: Wanted::Number(3),
         kept: Some(MESSAGE),
         left: "FF",
+        between: true,
     },
     Row {
         stream: MESSAGE,
@@ -96,6 +107,7 @@ const ROWS: [Row; 17] = [
         wanted: Wanted::TooLarge(24),
         kept: Some("AAAAAA0100000010"),
         left: "BBBBBB02000000040000000300000000",
+        between: false,
     },
     Row {
         stream: MESSAGE,
@@ -103,6 +115,7 @@ const ROWS: [Row; 17] = [
         wanted: Wanted::Number(3),
         kept: Some(MESSAGE),
         left: "",
+        between: true,
     },
     Row {
         stream: "AAAAAA0C00000010",
@@ -110,6 +123,7 @@ const ROWS: [Row; 17] = [
         wanted: Wanted::NoType(0x0C),
         kept: Some("AAAAAA0C00000010"),
         left: "",
+        between: false,
     },
     Row {
         stream: "AAAAAA01FFFFFFFF",
@@ -117,6 +131,7 @@ const ROWS: [Row; 17] = [
         wanted: Wanted::TooLarge(4_294_967_303),
         kept: Some("AAAAAA01FFFFFFFF"),
         left: "",
+        between: false,
     },
     Row {
         stream: "AAAAAA0100",
@@ -124,6 +139,7 @@ const ROWS: [Row; 17] = [
         wanted: Wanted::Fault(ErrorKind::UnexpectedEof),
         kept: None,
         left: "",
+        between: false,
     },
     Row {
         stream: "AAAAAA0100000010BBBBBB0200",
@@ -131,6 +147,7 @@ const ROWS: [Row; 17] = [
         wanted: Wanted::Fault(ErrorKind::UnexpectedEof),
         kept: None,
         left: "",
+        between: false,
     },
     Row {
         stream: "AAAAAA0100000010CCCCCC02000000040000000500000000FF",
@@ -138,6 +155,7 @@ const ROWS: [Row; 17] = [
         wanted: Wanted::OtherTag,
         kept: Some(OTHER),
         left: "FF",
+        between: true,
     },
 ];
 
@@ -149,10 +167,13 @@ fn settings(alloc: Global, row: &Row) -> Config {
     }
 }
 
-// Whether a clone has the same limit, and an empty buffer.
+// Whether a clone has the same limit, and an empty buffer, and nothing was read with it.
 fn is_cloned(config: &Config, row: &Row) -> bool {
     let clone = config.clone();
-    clone.max_bytes() == row.limit && clone.has_buf() && is_kept(&clone, &[])
+    clone.max_bytes() == row.limit
+        && clone.has_buf()
+        && is_kept(&clone, &[])
+        && clone.is_between_messages()
 }
 
 // Whether the row's answer comes from a reader of one byte a call, which leaves these bytes, and these are kept, if the row says so.
@@ -162,6 +183,7 @@ fn is_read_of(alloc: Global, row: &Row, stream: &[u8], left: &[u8], kept: &[u8])
     let found = from_reader::<Closed, _, _>(alloc, &mut reader, &mut config);
     is_wanted(&found, row.wanted)
         && reader.bytes == left
+        && config.is_between_messages() == row.between
         && (row.kept.is_none() || is_kept(&config, kept))
         && is_cloned(&config, row)
 }
@@ -188,7 +210,10 @@ fn is_read_at_once(alloc: Global, row: &Row) -> bool {
     }
     let mut source = MemorySource(stream.as_slice());
     let found = from_reader::<Closed, _, _>(alloc, &mut source, &mut config);
-    is_wanted(&found, row.wanted) && !config.has_buf() && config.max_bytes() == row.limit
+    is_wanted(&found, row.wanted)
+        && !config.has_buf()
+        && config.max_bytes() == row.limit
+        && config.is_between_messages() == row.between
 }
 
 #[test]
@@ -197,6 +222,18 @@ fn rows_are_read(rt: HostRuntime) {
         let is_right = is_read_slowly(rt.alloc(), row) && is_read_at_once(rt.alloc(), row);
         assert!(rt; is_right, "row {at}");
     }
+}
+
+// An Integer is taken to its last byte, and its padding is left.
+#[test]
+fn behind_an_integer_no_message_begins(rt: HostRuntime) {
+    let stream = b"\xAA\xAA\xAA\x02\x00\x00\x00\x04\x00\x00\x00\x03\x00\x00\x00\x00";
+    let mut config = Config::new(rt.alloc());
+    assert!(rt; config.is_between_messages());
+    let mut reader = slow(stream);
+    let found = from_reader::<Closed, _, _>(rt.alloc(), &mut reader, &mut config);
+    assert!(rt; found.is_err() && reader.bytes == [0, 0, 0, 0].as_slice());
+    assert!(rt; !config.is_between_messages());
 }
 
 // Whether these settings are shown as this text.
