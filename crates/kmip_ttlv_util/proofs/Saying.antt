@@ -1,13 +1,14 @@
 -- The loop of a printer over any sink, and its result.
-use Rattle.std.proofs.Common.{◌≡◌, ℕ, Bool, true, false, List, [], ◌++◌, length, append-nil, inl, inr, sym, ap, subst, ◌∙◌}
+use Rattle.std.proofs.Common.{◌≡◌, ◌≤◌, ℕ, true, false, List, [], ◌++◌, length, take, drop, append-nil, append_assoc, inl, inr, sym, ap, subst, ◌∙◌}
+use Rattle.std.proofs.Common.{arith, length-append}
+use Rattle.std.proofs.{lemmas.List.take-append-drop, Math.Seq.take-append_seam}
 use Rattle.std.specs.Prelude.{Option, Result, Ok, Err, IfOk, OnOk, OnErr, ◌⊎◌}
 use Rattle.std.specs.{Borrow.GName, Io.KnownBytes.Appends, IoError.error_kind, declared.io.Error.Error as IoFault}
 use Rattle.std.specs.declared.io.ErrorKind.TheVariants.{OutOfMemory}
-use Rattle.kmip_ttlv_types.specs.{Held.Held, Held.Gets, Streams.AppendsFront, Streams.UsesRoom, Streams.IsTight}
-use Rattle.kmip_ttlv_types.proofs.Held.{tight_second}
+use Rattle.kmip_ttlv_types.specs.{Held.Held, Held.Gets, Held.GetsFront, Streams.AppendsFront, Streams.UsesRoom, Streams.IsTight}
 use Rattle.kmip_ttlv_util.specs.{declared.pieces.Pieces.Pieces, Waiting.waiting}
-use Rattle.kmip_ttlv_util.specs.Pieces.{SomeText, WritesText, WritesFront, Buffered, buffered, Moves, MovesFront, Closes}
-use Rattle.kmip_ttlv_util.specs.Sinks.{moves_both, front_second}
+use Rattle.kmip_ttlv_util.specs.Pieces.{SomeText, WritesText, WritesFront, Buffered, buffered, Moves, Stops, MovesSome, MovesFront, Closes}
+use Rattle.kmip_ttlv_util.specs.Sinks.{moves_both, stops_second}
 
 -- a text of this kind, with this property, by cases
 module _ {T E : Type 0} where
@@ -113,7 +114,7 @@ abbrev pub sink_of : Buffered → Held
 sink_of a = record { pending = a.pending; room = a.room }
 
 -- nothing is buffered any more
-whole_sent : (a b c : Buffered) → a.waits ≡ [] → (t : List ℕ) → Moves a t b → Moves b [] c → c.waits ≡ [] → Gets (sink_of a) (sink_of c) t
+pub whole_sent : (a b c : Buffered) → a.waits ≡ [] → (t : List ℕ) → Moves a t b → Moves b [] c → c.waits ≡ [] → Gets (sink_of a) (sink_of c) t
 whole_sent a b c none t x y empty =
     let m = moves_both a b c t [] x y in
     let is : m.sent ≡ t = sym (append-nil m.sent) ∙ ap (λ (z : List ℕ). m.sent ++ z) (sym empty) ∙ sym m.parts ∙ ap (λ (z : List ℕ). z ++ (t ++ [])) none
@@ -123,29 +124,55 @@ whole_sent a b c none t x y empty =
       used = subst (λ (z : List ℕ). UsesRoom a.room c.room (length z)) is m.used;
     }
 
--- there is no room for what is buffered, so there was none for all that was added
-tight_behind : (a b : Buffered) (t : List ℕ) → Moves a t b → IsTight b.room (length b.waits) → IsTight a.room (length (a.waits ++ t))
-tight_behind a b t x tight = subst (λ (z : List ℕ). IsTight a.room (length z)) (sym x.parts) (tight_second a.room b.room x.sent b.waits x.used tight)
-
--- what is left of a beginning when nothing was buffered
-front_sent : (a c : Buffered) (e : IoFault) → a.waits ≡ [] → (t : List ℕ) → MovesFront a t c
-    → IsTight a.room (length (a.waits ++ t)) ⊎ (error_kind e ≡ OutOfMemory)
-    → WritesFront (sink_of a) (sink_of c) e t
-front_sent a c e none t x why =
+-- what is left of a text when nothing was buffered, and a write failed
+pub stopped_front : (a c : Buffered) → a.waits ≡ [] → (t : List ℕ) → Stops a t c → GetsFront (sink_of a) (sink_of c) t
+stopped_front a c none t x =
     let is : a.waits ++ t ≡ t = ap (λ (z : List ℕ). z ++ t) none in
     record {
       appended = subst (AppendsFront a.pending c.pending) is x.front;
-      why = elim why [ inl tight ↦ inl (subst (λ (z : List ℕ). IsTight a.room (length z)) is tight) | inr memory ↦ inr memory ];
+      tight = subst (λ (z : List ℕ). IsTight a.room (length z)) is x.tight;
+    }
+
+stopped_sent : (a c : Buffered) (e : IoFault) → a.waits ≡ [] → (t : List ℕ) → Stops a t c → WritesFront (sink_of a) (sink_of c) e t
+stopped_sent a c e none t x = let h = stopped_front a c none t x in record { appended = h.appended; why = inl h.tight }
+
+-- when none did
+some_sent : (a c : Buffered) (e : IoFault) → a.waits ≡ [] → (t : List ℕ) → MovesSome a t c → error_kind e ≡ OutOfMemory
+    → WritesFront (sink_of a) (sink_of c) e t
+some_sent a c e none t x memory =
+    let m = x.moves in
+    let parts : take x.count t ≡ m.sent ++ c.waits = ap (λ (z : List ℕ). z ++ take x.count t) (sym none) ∙ m.parts in
+    let all : t ≡ m.sent ++ (c.waits ++ drop x.count t) =
+    sym (take-append-drop x.count t) ∙ ap (λ (z : List ℕ). z ++ drop x.count t) parts ∙ append_assoc m.sent c.waits (drop x.count t) in
+    let is : m.sent ≡ take (length m.sent) t =
+    sym (take-append_seam m.sent (c.waits ++ drop x.count t)) ∙ ap (take (length m.sent)) (sym all) in
+    let within : length m.sent ≤ length t = omega (arith, ap length all, length-append m.sent (c.waits ++ drop x.count t)) in
+    let appended : Appends a.pending c.pending (take (length m.sent) t) = subst (Appends a.pending c.pending) is m.appended in
+    record {
+      appended = record { count = length m.sent; within = within; appends = appended };
+      why = inr (
+        memory,
+        record {
+          count = length m.sent;
+          within = within;
+          gets = record { appended = appended; used = subst (λ (z : List ℕ). UsesRoom a.room c.room (length z)) is m.used };
+        },
+      );
     }
 
 -- printing failed, as a write had, or memory ran out
-why_closed : (a b : Buffered) → a.failed ≡ false → (t : List ℕ) → MovesFront a t b → (e : IoFault) → (b.failed ≡ true) ⊎ (error_kind e ≡ OutOfMemory)
-    → IsTight a.room (length (a.waits ++ t)) ⊎ (error_kind e ≡ OutOfMemory)
-why_closed a b going t x e (inr memory) = inr memory
-why_closed a b going t x e (inl failed) = elim x.why [
-  | inl is ↦ let k : true ≡ false = sym failed ∙ is ∙ going in absurd cc
-  | inr tight ↦ inl tight
-]
+broken_sent : (a b : Buffered) (f e : IoFault) → a.waits ≡ [] → a.failed ≡ false → (t : List ℕ) → MovesFront a t b
+    → ((b.failed ≡ true) × (e ≡ f)) ⊎ ((b.failed ≡ false) × (error_kind e ≡ OutOfMemory))
+    → WritesFront (sink_of a) (sink_of b) e t
+broken_sent a b f e none going t (inl x) why = stopped_sent a b e none t x
+broken_sent a b f e none going t (inr x) (inl failed) =
+    let k : true ≡ false = sym failed.0 ∙ x.moves.goes_on ∙ going in absurd cc
+broken_sent a b f e none going t (inr x) (inr memory) = some_sent a b e none t x memory.1
+
+-- the sink is the same
+front_name : (a b : Buffered) (t : List ℕ) → MovesFront a t b → b.name ≡ a.name
+front_name a b t (inl x) = x.same
+front_name a b t (inr x) = x.moves.same
 
 -- what closing a buffer returns: a sink got a text that is due to the value, or, on an error, a beginning of one
 abbrev pub ClosesText : {T : Type 0} → (T → List ℕ → Type 0) → (List ℕ → Type 0) → Held → Held → Result T IoFault → Type 0
@@ -164,14 +191,15 @@ closed_text kind broken (Ok x) (Ok y) a b c none going ok err ends (is, sent, em
       record { text = ok.text; is = subst (λ v. kind v ok.text) same ok.is; holds = whole_sent a b c none ok.text ok.holds sent empty },
     )
 closed_text kind broken (Err f) (Ok y) a b c none going ok err ends (is, sent, empty) = absurd cc
-closed_text kind broken (Ok x) (Err e) a b c none going ok err ends (front, tight) =
-    let m = subst (λ (t : List ℕ). MovesFront a t c) (append-nil ok.text) (front_second a b c ok.text [] ok.holds front) in (
-      m.same,
-      record { text = ok.text; is = ends ok.text ok.is; holds = front_sent a c e none ok.text m (inl (tight_behind a b ok.text ok.holds tight)) },
-    )
+closed_text kind broken (Ok x) (Err e) a b c none going ok err ends stops =
+    let m = subst (λ (t : List ℕ). Stops a t c) (append-nil ok.text) (stops_second a b c ok.text [] ok.holds stops) in
+    (m.same, record { text = ok.text; is = ends ok.text ok.is; holds = stopped_sent a c e none ok.text m })
 closed_text kind broken (Err f) (Err e) a b c none going ok err ends (same, why) =
-    let m = subst (λ (x : Buffered). MovesFront a err.text x) (sym same) err.holds in
-    (m.same, record { text = err.text; is = err.is; holds = front_sent a c e none err.text m (why_closed a b going err.text err.holds e why) })
+    let w = broken_sent a b f e none going err.text err.holds why in
+    let h : c ≡ b = same in (
+      ap (λ (x : Buffered). x.name) h ∙ front_name a b err.text err.holds,
+      record { text = err.text; is = err.is; holds = subst (λ (x : Buffered). WritesFront (sink_of a) (sink_of x) e err.text) (sym h) w },
+    )
 
 -- an empty buffer over a sink that was lent
 pub lent_buffer : {S : Type 0} (emitted : S → Option (List ℕ)) (room : S → Option ℕ) (p : Pieces S) {name : GName} {sink : S} → p.sink.ghost_name ≡ name

@@ -1,5 +1,5 @@
 -- Texts that are sent to a writer in pieces.
-use Rattle.std.specs.Prelude.{◌≡◌, ℕ, Bool, true, List, [], ◌++◌, length, Option, Result, Ok, Err, ◌⊎◌, codes}
+use Rattle.std.specs.Prelude.{◌≡◌, ◌≤◌, ℕ, Bool, true, false, List, [], ◌++◌, length, take, Option, Result, Ok, Err, ◌⊎◌, codes}
 use Rattle.std.specs.Borrow.{GName}
 use Rattle.std.specs.Fmt.{decimal}
 use Rattle.std.specs.Io.KnownBytes.{Appends}
@@ -20,10 +20,17 @@ pub record SomeText (kind said : List ℕ → Type 0) : Type 0 where
   pub is : kind text
   pub holds : said text
 
--- a sink got a beginning of a text, and has no room for all of it, if that is known, or memory ran out
+-- a sink got a beginning of a text: each write of it was whole
+pub record GetsSome (old new : Held) (text : List ℕ) : Type 0 where
+  pub count : ℕ
+  pub within : count ≤ length text
+  pub gets : Gets old new (take count text)
+
+-- a sink got a beginning of a text: a write failed, as there is no room for all of it, if that is known; or no write failed, and
+-- memory ran out
 pub record WritesFront (old new : Held) (e : IoFault) (text : List ℕ) : Type 0 where
   pub appended : AppendsFront old.pending new.pending text
-  pub why : IsTight old.room (length text) ⊎ (error_kind e ≡ OutOfMemory)
+  pub why : IsTight old.room (length text) ⊎ ((error_kind e ≡ OutOfMemory) × GetsSome old new text)
 
 -- a sink got a text of this kind; on an error, a beginning of such a text
 abbrev pub WritesText : {T : Type 0} → (List ℕ → Type 0) → Held → Held → Result T IoFault → Type 0
@@ -57,16 +64,29 @@ pub record Moves (old : Buffered) (text : List ℕ) (new : Buffered) : Type 0 wh
   pub used : UsesRoom old.room new.room (length sent)
   pub parts : old.waits ++ text ≡ sent ++ new.waits
 
--- a text was added to a buffer in part: a beginning of both was sent, and where that failed there is no room for both
-pub record MovesFront (old : Buffered) (text : List ℕ) (new : Buffered) : Type 0 where
+-- a text was added to a buffer and a write failed: a beginning of both was sent, and there is no room for both, if that is known
+pub record Stops (old : Buffered) (text : List ℕ) (new : Buffered) : Type 0 where
   pub same : new.name ≡ old.name
+  pub failed : new.failed ≡ true
   pub front : AppendsFront old.pending new.pending (old.waits ++ text)
-  pub why : (new.failed ≡ old.failed) ⊎ IsTight old.room (length (old.waits ++ text))
+  pub tight : IsTight old.room (length (old.waits ++ text))
 
--- why a buffer isn't closed: what is buffered wasn't sent whole; or printing had failed, as a write had, or memory ran out
+-- a beginning of a text was added to a buffer, and no write failed
+pub record MovesSome (old : Buffered) (text : List ℕ) (new : Buffered) : Type 0 where
+  pub count : ℕ
+  pub within : count ≤ length text
+  pub moves : Moves old (take count text) new
+
+-- a text was added to a buffer in part
+abbrev pub MovesFront : Buffered → List ℕ → Buffered → Type 0
+MovesFront old text new = Stops old text new ⊎ MovesSome old text new
+
+-- why a buffer isn't closed: what is buffered wasn't sent whole; or printing had failed, with this error where a write had, or
+-- for want of memory
 abbrev pub ClosesNot : {T : Type 0} → Result T IoFault → Buffered → Buffered → IoFault → Type 0
-ClosesNot (Ok x) old new e = MovesFront old [] new × IsTight old.room (length old.waits)
-ClosesNot (Err f) old new e = (new ≡ old) × ((old.failed ≡ true) ⊎ (error_kind e ≡ OutOfMemory))
+ClosesNot (Ok x) old new e = Stops old [] new
+ClosesNot (Err f) old new e =
+    (new ≡ old) × (((old.failed ≡ true) × (e ≡ f)) ⊎ ((old.failed ≡ false) × (error_kind e ≡ OutOfMemory)))
 
 -- what closing a buffer returns, by what printing to it returned
 abbrev pub Closes : {T : Type 0} → Result T IoFault → Buffered → Buffered → Result T IoFault → Type 0

@@ -1,12 +1,12 @@
 -- The laws of text sinks.
-use Rattle.std.proofs.Common.{◌≡◌, ℕ, List, [], ◌++◌, length, Option, Some, inl, inr, refl, sym, ap, subst, ◌∙◌, append_assoc, append-nil}
+use Rattle.std.proofs.Common.{◌≡◌, ℕ, ◌+◌, List, [], ◌++◌, length, take, Some, inl, inr, refl, sym, ap, subst, ◌∙◌, append_assoc, append-nil, le_refl}
+use Rattle.std.proofs.{lemmas.List.take-append-le, Math.Seq.take-append-add, Math.Seq.take-length}
 use Rattle.std.proofs.Common.{length-append, arith}
-use Rattle.std.specs.Io.KnownBytes.{Appends}
 use Rattle.std.proofs.KnownBytes.{Appends-nil, Appends-trans}
 use Rattle.kmip_ttlv_types.specs.Streams.{AppendsFront, IsTight}
 use Rattle.kmip_ttlv_types.proofs.Held.{uses_none, uses_both, tight_longer, tight_second, whole_front}
 use Rattle.kmip_ttlv_types.proofs.Taken.{AppendsFront-first, AppendsFront-second}
-use Rattle.kmip_ttlv_util.specs.Pieces.{Buffered, Moves, MovesFront}
+use Rattle.kmip_ttlv_util.specs.Pieces.{Buffered, Moves, Stops, MovesSome, MovesFront}
 
 -- ---- a string
 
@@ -48,35 +48,54 @@ moves_both a b c s t x y = record {
       ∙ ap (λ (z : List ℕ). x.sent ++ z) y.parts ∙ sym (append_assoc x.sent y.sent c.waits);
 }
 
-pub front_first : (a b : Buffered) (s t : List ℕ) → MovesFront a s b → MovesFront a (s ++ t) b
-front_first a b s t x = record {
+-- where a write failed
+pub stops_first : (a b : Buffered) (s t : List ℕ) → Stops a s b → Stops a (s ++ t) b
+stops_first a b s t x = record {
   same = x.same;
+  failed = x.failed;
   front = subst (AppendsFront a.pending b.pending) (append_assoc a.waits s t) (AppendsFront-first a.pending b.pending (a.waits ++ s) t x.front);
-  why = elim x.why [
-    | inl is ↦ inl is
-    | inr tight ↦ inr (tight_longer a.room (a.waits ++ s) (a.waits ++ (s ++ t)) tight
-        (omega (arith, length-append a.waits s, length-append a.waits (s ++ t), length-append s t)))
-  ];
+  tight = tight_longer a.room (a.waits ++ s) (a.waits ++ (s ++ t)) x.tight
+      (omega (arith, length-append a.waits s, length-append a.waits (s ++ t), length-append s t));
 }
 
-pub front_second : (a b c : Buffered) (s t : List ℕ) → Moves a s b → MovesFront b t c → MovesFront a (s ++ t) c
-front_second a b c s t x y =
+pub stops_second : (a b c : Buffered) (s t : List ℕ) → Moves a s b → Stops b t c → Stops a (s ++ t) c
+stops_second a b c s t x y =
     let all : x.sent ++ (b.waits ++ t) ≡ a.waits ++ (s ++ t) =
     sym (append_assoc x.sent b.waits t) ∙ ap (λ (z : List ℕ). z ++ t) (sym x.parts) ∙ append_assoc a.waits s t in
     record {
       same = y.same ∙ x.same;
+      failed = y.failed;
       front = subst (AppendsFront a.pending c.pending) all
           (AppendsFront-second a.pending b.pending c.pending x.sent (b.waits ++ t) x.appended y.front);
-      why = elim y.why [
-        | inl is ↦ inl (is ∙ x.goes_on)
-        | inr tight ↦ inr (subst (λ (z : List ℕ). IsTight a.room (length z)) all (tight_second a.room b.room x.sent (b.waits ++ t) x.used tight))
-      ];
+      tight = subst (λ (z : List ℕ). IsTight a.room (length z)) all (tight_second a.room b.room x.sent (b.waits ++ t) x.used y.tight);
     }
 
+-- where none did
+some_first : (a b : Buffered) (s t : List ℕ) → MovesSome a s b → MovesSome a (s ++ t) b
+some_first a b s t x = record {
+  count = x.count;
+  within = omega (arith, x.within, length-append s t);
+  moves = subst (λ (z : List ℕ). Moves a z b) (sym (take-append-le x.count s t x.within)) x.moves;
+}
+
+some_second : (a b c : Buffered) (s t : List ℕ) → Moves a s b → MovesSome b t c → MovesSome a (s ++ t) c
+some_second a b c s t x y = record {
+  count = length s + y.count;
+  within = omega (arith, y.within, length-append s t);
+  moves = subst (λ (z : List ℕ). Moves a z c) (sym (take-append-add s t y.count)) (moves_both a b c s (take y.count t) x y.moves);
+}
+
+pub front_first : (a b : Buffered) (s t : List ℕ) → MovesFront a s b → MovesFront a (s ++ t) b
+front_first a b s t (inl x) = inl (stops_first a b s t x)
+front_first a b s t (inr x) = inr (some_first a b s t x)
+
+pub front_second : (a b c : Buffered) (s t : List ℕ) → Moves a s b → MovesFront b t c → MovesFront a (s ++ t) c
+front_second a b c s t x (inl y) = inl (stops_second a b c s t x y)
+front_second a b c s t x (inr y) = inr (some_second a b c s t x y)
+
 pub front_after : (a b : Buffered) (s : List ℕ) → Moves a s b → MovesFront a s b
-front_after a b s x = record {
-  same = x.same;
-  front = subst (AppendsFront a.pending b.pending) (sym x.parts)
-      (AppendsFront-first a.pending b.pending x.sent b.waits (whole_front a.pending b.pending x.sent x.appended));
-  why = inl x.goes_on;
+front_after a b s x = inr record {
+  count = length s;
+  within = le_refl (length s);
+  moves = subst (λ (z : List ℕ). Moves a z b) (sym (take-length s)) x;
 }

@@ -1,8 +1,7 @@
 //! A sink that gets a text in pieces, so that the whole text is never in memory.
 
-ghost use Rattle.std.specs.Prelude.{◌≡◌, [], length, false, OnOk, OnErr};
-ghost use Rattle.kmip_ttlv_types.specs.Streams.{IsTight};
-ghost use Rattle.kmip_ttlv_util.specs.Pieces.{Moves, MovesFront, Closes, buffered};
+ghost use Rattle.std.specs.Prelude.{◌≡◌, [], false, OnOk, OnErr};
+ghost use Rattle.kmip_ttlv_util.specs.Pieces.{Moves, Stops, MovesFront, Closes, buffered};
 ghost use Rattle.kmip_ttlv_util.specs.Waiting.{waiting};
 ghost use Rattle.kmip_ttlv_util.specs.Sinks.{moves_none, moves_both, front_first, front_second, front_after};
 
@@ -51,8 +50,7 @@ impl<'w, S: Sink> Pieces<'w, S> {
     /// buffered may have been written then. Interrupted writes are retried, as often as a 64-bit counter allows.
     pub fn finish(&mut self) -> io::Result<()>
         ensures ok { OnOk result (Moves (buffered S.emitted S.room self.old) [] (buffered S.emitted S.room self.new)) }
-        ensures err { OnErr result (MovesFront (buffered S.emitted S.room self.old) [] (buffered S.emitted S.room self.new)) }
-        ensures tight { OnErr result (IsTight (S.room self.old.sink.now) (length (waiting self.old.buffer))) }
+        ensures err { OnErr result (Stops (buffered S.emitted S.room self.old) [] (buffered S.emitted S.room self.new)) }
         ensures empty { waiting self.new.buffer ≡ [] }
     {
         let result = self.sink.send(self.buffer.bytes());
@@ -61,10 +59,33 @@ impl<'w, S: Sink> Pieces<'w, S> {
         result
     }
 
+    /// Appends a piece. It takes no memory.
+    ///
+    /// Its errors are those of [`Pieces::finish`]; a beginning of the piece may have been written too.
+    ///
+    /// ```
+    /// let mut written = Vec::new(alloc);
+    /// let mut pieces = Pieces::new(&mut written);
+    /// pieces.push(b"ERR")?;
+    /// pieces.finish()?;
+    /// assert!(rt; written.as_slice() == b"ERR".as_slice());
+    /// ```
+    #[inline(always)]
+    pub fn push(&mut self, piece: &[u8]) -> io::Result<()>
+        ensures ok { OnOk result (Moves (buffered S.emitted S.room self.old) piece.now (buffered S.emitted S.room self.new)) }
+        ensures err { OnErr result (Stops (buffered S.emitted S.room self.old) piece.now (buffered S.emitted S.room self.new)) }
+    {
+        if piece.len() <= self.buffer.room() {
+            self.buffer.push(piece);
+            return Ok(());
+        }
+        self.push_far(piece)
+    }
+
     /// Sends what is buffered at the end of what is printed, if that didn't fail, and returns what came of both.
     ///
-    /// The error is that of [`Pieces::finish`], or, if printing failed, the writer's, or `OutOfMemory` where no
-    /// write failed.
+    /// The error is that of [`Pieces::finish`]; if printing failed, its own where a write had failed, which is the writer's, and
+    /// `OutOfMemory` where none had.
     pub fn close<T: Drop>(&mut self, printed: io::Result<T>) -> io::Result<T>
         ensures { Closes printed (buffered S.emitted S.room self.old) (buffered S.emitted S.room self.new) result }
     {
@@ -86,7 +107,7 @@ impl<'w, S: Sink> Pieces<'w, S> {
     fn send_piece(&mut self, piece: &[u8]) -> io::Result<()>
         requires empty { waiting self.old.buffer ≡ [] }
         ensures ok { OnOk result (Moves (buffered S.emitted S.room self.old) piece.now (buffered S.emitted S.room self.new)) }
-        ensures err { OnErr result (MovesFront (buffered S.emitted S.room self.old) piece.now (buffered S.emitted S.room self.new)) }
+        ensures err { OnErr result (Stops (buffered S.emitted S.room self.old) piece.now (buffered S.emitted S.room self.new)) }
     {
         let result = self.sink.send(piece);
         self.failed |= result.is_err();
@@ -97,7 +118,7 @@ impl<'w, S: Sink> Pieces<'w, S> {
     #[cold]
     fn push_far(&mut self, piece: &[u8]) -> io::Result<()>
         ensures ok { OnOk result (Moves (buffered S.emitted S.room self.old) piece.now (buffered S.emitted S.room self.new)) }
-        ensures err { OnErr result (MovesFront (buffered S.emitted S.room self.old) piece.now (buffered S.emitted S.room self.new)) }
+        ensures err { OnErr result (Stops (buffered S.emitted S.room self.old) piece.now (buffered S.emitted S.room self.new)) }
     {
         self.finish()?;
         if piece.len() <= ROOM {
@@ -129,11 +150,6 @@ impl<S: Sink> TextSink for Pieces<'_, S> {
 
     #[inline(always)]
     fn push_str(&mut self, text: &str) -> io::Result<()> {
-        let piece = text.as_bytes();
-        if piece.len() <= self.buffer.room() {
-            self.buffer.push(piece);
-            return Ok(());
-        }
-        self.push_far(piece)
+        self.push(text.as_bytes())
     }
 }
