@@ -146,6 +146,7 @@ pub fn tag_named(table: &str, name: &str) -> Option<TtlvTag>
 /// ```
 pub fn standard_names<A: Allocator + Copy>(alloc: A) -> Result<LentTagMap<'static, A>, TableError>
     ensures names { IfOk result (λ names. name_in names ≡ names_of STANDARD_TAGS.now) }
+    ensures memory { IfErr result (λ e. e ≡ TableError.OutOfMemory) }
 {
     tag_names(alloc, STANDARD_TAGS)
 }

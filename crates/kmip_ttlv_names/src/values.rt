@@ -1,7 +1,7 @@
 //! Names of enumerations' values. Their table has the form of a table of tags: in place of a tag's name
 //! is the list of its values, separated by `;`, each a hexadecimal number, `=` and a name.
 
-ghost use Rattle.std.specs.Prelude.{◌≡◌, option_map, IfOk};
+ghost use Rattle.std.specs.Prelude.{◌≡◌, option_map, IfOk, IfErr};
 ghost use Rattle.kmip_ttlv_util.specs.TagNames.{name_in};
 ghost use Rattle.kmip_ttlv_names.specs.NameTables.{names_of};
 ghost use Rattle.kmip_ttlv_names.specs.SecretTags.{NamesSecrets};
@@ -56,6 +56,7 @@ pub fn value_name(list: &str, value: u32) -> Option<&str>
 /// ```
 pub fn standard_values<A: Allocator + Copy>(alloc: A) -> Result<LentTagMap<'static, A>, TableError>
     ensures names { IfOk result (λ lists. name_in lists ≡ names_of STANDARD_VALUES.now) }
+    ensures memory { IfErr result (λ e. e ≡ TableError.OutOfMemory) }
 {
     tag_names(alloc, STANDARD_VALUES)
 }
@@ -71,6 +72,7 @@ pub fn standard_values<A: Allocator + Copy>(alloc: A) -> Result<LentTagMap<'stat
 /// ```
 pub fn standard_masks<A: Allocator + Copy>(alloc: A) -> Result<LentTagMap<'static, A>, TableError>
     ensures names { IfOk result (λ lists. name_in lists ≡ names_of STANDARD_MASKS.now) }
+    ensures memory { IfErr result (λ e. e ≡ TableError.OutOfMemory) }
 {
     tag_names(alloc, STANDARD_MASKS)
 }
@@ -92,6 +94,7 @@ pub fn secrets_are_named()
 pub fn standard_secrets<A: Allocator + Copy>(alloc: A) -> Result<LentTagMap<'static, A>, TableError>
     ensures names { IfOk result (λ tags. name_in tags ≡ names_of STANDARD_SECRETS.now) }
     ensures secrets { IfOk result (λ tags. NamesSecrets (name_in tags)) }
+    ensures memory { IfErr result (λ e. e ≡ TableError.OutOfMemory) }
 {
     tag_names(alloc, STANDARD_SECRETS)
 }

@@ -9,6 +9,8 @@ mod failing_calls;
 #[cfg(test)]
 mod faulty;
 #[cfg(test)]
+mod fronts;
+#[cfg(test)]
 mod growing;
 #[cfg(test)]
 mod low_errors;
