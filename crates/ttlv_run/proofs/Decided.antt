@@ -1,9 +1,10 @@
 -- What is decided of an input, and why a run fails.
-use Rattle.std.proofs.Common.{◌≡◌, inl, inr, ℕ, suc, List, [], ◌∷◌, ◌++◌, Option, Result, Ok, Err, OnOk, OnErr, Bool, true, is_ok, length, take, refl, sym, ap}
-use Rattle.std.proofs.Common.{IsTrue, subst, ◌∙◌, ◌+◌, arith, codes, length-append}
-use Rattle.std.proofs.KnownBytes.{Appends-trans}
+use Rattle.std.proofs.Common.{◌≡◌, inl, inr, ℕ, List, ◌++◌, Result, Ok, Err, OnOk, OnErr, Bool, true, is_ok, length, refl, sym}
+use Rattle.std.proofs.Common.{IsTrue, subst, codes}
 use Rattle.std.specs.{Io.KnownBytes.Appends, Fmt.decimal}
-use Rattle.kmip_ttlv_types.specs.Streams.{AppendsFront}
+use Rattle.kmip_ttlv_types.specs.Streams.{AppendsFront, UsesRoom, IsTight}
+use Rattle.kmip_ttlv_types.specs.Held.{Held}
+use Rattle.kmip_ttlv_types.proofs.Held.{gets_both, front_behind}
 use Rattle.ttlv_run.specs.{declared.job.Job.Job, declared.run_error.RunError.RunError, declared.job.BackJob.BackJob, declared.misread.Misread.Misread}
 use Rattle.ttlv_run.specs.{Inputs.IsUnread, Reasons.IsOfPrinting, Reasons.Reports, Texts.Names}
 use Rattle.ttlv_run.specs.declared.run_error.RunError.TheVariants.{UnreadableInput, UnwritableOutput, ClosedPipe, NoMemory}
@@ -11,29 +12,16 @@ use Rattle.ttlv_run.specs.Escapes.{escaped}
 use Rattle.ttlv_run.specs.Misreadings.{encoding_words, with_kind, line_end, misread_line}
 use Rattle.ttlv_run.specs.Runs.{Streams, Unwritten, Fails, UnwrittenBack, FailsBack}
 
-take_more : (front text : List ℕ) (n : ℕ) → take (length front + n) (front ++ text) ≡ front ++ take n text
-take_more [] text n = let k : length {A = ℕ} [] + n ≡ n = omega arith in ap (λ m. take m text) k
-take_more (x ∷ front) text n =
-    let k : length (x ∷ front) + n ≡ suc (length front + n) = omega arith in
-    ap (λ m. take m (x ∷ (front ++ text))) k ∙ ap (λ s. x ∷ s) (take_more front text n)
-
--- a beginning of a text behind another one is a beginning of both
-pub front_more : (a b c : Option (List ℕ)) (front text : List ℕ) → Appends a b front → AppendsFront b c text → AppendsFront a c (front ++ text)
-front_more a b c front text all more = record {
-  count = length front + more.count;
-  within = omega (arith, more.within, length-append front text);
-  appends = subst (Appends a c) (sym (take_more front text more.count)) (Appends-trans a b c front (take more.count text) all more.appends);
-}
-
-pub decides_more : {T E : Type 0} (r : Result T E) (writable said : Bool) (known mid new : Option (List ℕ)) (front text : List ℕ) → writable ≡ true
-    → said ≡ is_ok r → OnOk r (Appends mid new text) → OnErr r (AppendsFront mid new text) → Reports writable known mid front
-    → Reports said known new (front ++ text)
-decides_more (Ok x) writable said known mid new front text is says all some h =
+-- what is written behind a text that was written to its end
+pub decides_more : {T E : Type 0} (r : Result T E) (writable said : Bool) (known mid new : Held) (front text : List ℕ) → writable ≡ true → said ≡ is_ok r
+    → OnOk r (Appends mid.pending new.pending text) → OnErr r (AppendsFront mid.pending new.pending text) → OnOk r (UsesRoom mid.room new.room (length text))
+    → OnErr r (IsTight mid.room (length text)) → Reports writable known mid front → Reports said known new (front ++ text)
+decides_more (Ok x) writable said known mid new front text is says all some used tight h =
     let before = subst (λ b. Reports b known mid front) is h in
-    subst (λ b. Reports b known new (front ++ text)) (sym says) (Appends-trans known mid new front text before all)
-decides_more (Err e) writable said known mid new front text is says all some h =
+    subst (λ b. Reports b known new (front ++ text)) (sym says) (gets_both front text before record { appended = all; used = used })
+decides_more (Err e) writable said known mid new front text is says all some used tight h =
     let before = subst (λ b. Reports b known mid front) is h in
-    subst (λ b. Reports b known new (front ++ text)) (sym says) (front_more known mid new front text before some)
+    subst (λ b. Reports b known new (front ++ text)) (sym says) (front_behind front text before record { appended = some; tight = tight })
 
 -- printing failed
 pub printing_by : (P : RunError → Type 0) {why : RunError} → IsOfPrinting why → P UnwritableOutput → P ClosedPipe → P NoMemory → P why

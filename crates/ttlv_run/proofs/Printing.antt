@@ -83,7 +83,7 @@ ok_all (Err e) f = tt
 -- what was written in part, for this reason
 pub printed_front : {e : IoFault} {why : RunError} {old new : Held} {text : List ℕ} → IsOfError e why → WritesFront old new e text
     → PrintsFront why old new text
-printed_front of h = record { appended = h.appended; reason = elim h.why [ inl tight ↦ inr tight | inr memory ↦ inl (of.1 memory) ] }
+printed_front of h = record { appended = h.appended; reason = elim h.why [ inl tight ↦ inr tight | inr memory ↦ inl (of.1 memory.0) ] }
 
 -- where printing failed
 pub printed_text : {broken : List ℕ → Type 0} {e : IoFault} {why : RunError} {old new : Held} → IsOfError e why → SomeText broken (WritesFront old new e)

@@ -9,9 +9,7 @@ use Rattle.ttlv_run.specs.declared.job.Job.{Job}
 use Rattle.ttlv_run.specs.declared.job.JsonJob.{JsonJob}
 use Rattle.ttlv_run.specs.declared.run_error.RunError.{RunError}
 use Rattle.ttlv_run.specs.declared.run_error.RunError.TheVariants.{UnopenedInput, UnwritableOutput, ClosedPipe}
-use Rattle.std.specs.Io.KnownBytes.{Keeps}
-use Rattle.kmip_ttlv_types.specs.Streams.{AppendsFront}
-use Rattle.kmip_ttlv_types.specs.Held.{Held, Rests}
+use Rattle.kmip_ttlv_types.specs.Held.{Held, Rests, Says}
 use Rattle.ttlv_run.specs.JsonLines.{PrintedJson, MalformedJson, AbortedJson, JsonEnds}
 use Rattle.ttlv_run.specs.Reasons.{status_in, error_line}
 use Rattle.ttlv_run.specs.Runs.{Streams, Printed, Malformed, Lacking, Aborted, RunEnds, PrintedBack, MalformedBack, AbortedBack, BackEnds}
@@ -20,30 +18,30 @@ use Rattle.ttlv_run.specs.Texts.{Names}
 -- what a run has done that ended with a status: 0 where all is whole, 1 where a message is malformed or none is there, 2 and 3
 -- for a reason
 pub record PrintDone
-    (names : Names) (job : Job) (s : Streams) (errors errors_now : Option (List ℕ)) (status : ℕ) : Type 0 where
+    (names : Names) (job : Job) (s : Streams) (errors errors_now : Held) (status : ℕ) : Type 0 where
   pub known : status ≤ 3
-  pub printed : status ≡ 0 → Printed names job s × Keeps errors errors_now
+  pub printed : status ≡ 0 → Printed names job s × Rests errors errors_now
   pub malformed : status ≡ 1 → Malformed names job s errors errors_now ⊎ Lacking job s errors errors_now
   pub refused : (status ≡ 2) ⊎ (status ≡ 3) → Aborted names job s status errors errors_now
 
 -- the same of diagnostics that are read back
 pub record BackDone
-    (names : Names) (job : BackJob) (s : Streams) (errors errors_now : Option (List ℕ)) (status : ℕ) : Type 0 where
+    (names : Names) (job : BackJob) (s : Streams) (errors errors_now : Held) (status : ℕ) : Type 0 where
   pub known : status ≤ 3
-  pub printed : status ≡ 0 → PrintedBack names job s None × Keeps errors errors_now
+  pub printed : status ≡ 0 → PrintedBack names job s None × Rests errors errors_now
   pub malformed : status ≡ 1 → MalformedBack names job s errors errors_now
   pub refused : (status ≡ 2) ⊎ (status ≡ 3) → AbortedBack names job s status errors errors_now
 
 -- the same of JSON that is read back
-pub record JsonDone (job : JsonJob) (s : Streams) (errors errors_now : Option (List ℕ)) (status : ℕ) : Type 0 where
+pub record JsonDone (job : JsonJob) (s : Streams) (errors errors_now : Held) (status : ℕ) : Type 0 where
   pub known : status ≤ 3
-  pub printed : status ≡ 0 → PrintedJson job s × Keeps errors errors_now
+  pub printed : status ≡ 0 → PrintedJson job s × Rests errors errors_now
   pub malformed : status ≡ 1 → MalformedJson job s errors errors_now
   pub refused : (status ≡ 2) ⊎ (status ≡ 3) → AbortedJson job s status errors errors_now
 
 -- what was asked is done with an input of this name
 abbrev pub IsDone :
-    Names → Asked → Bor (List ℕ) → Streams → Option (List ℕ) → Option (List ℕ) → ℕ → Type 0
+    Names → Asked → Bor (List ℕ) → Streams → Held → Held → ℕ → Type 0
 IsDone names (Print task encoding) name s errors errors_now status =
     PrintDone names (record { name = name; task = task; encoding = encoding }) s errors errors_now status
 IsDone names (ReadBack prefix) name s errors errors_now status =
@@ -53,7 +51,7 @@ IsDone names (FromJson raw) name s errors errors_now status =
 
 -- the same, by whether all of the input is whole, or why not all of it was printed
 abbrev pub IsEnded :
-    Names → Asked → Bor (List ℕ) → Streams → Option (List ℕ) → Option (List ℕ) → Result Bool RunError → Type 0
+    Names → Asked → Bor (List ℕ) → Streams → Held → Held → Result Bool RunError → Type 0
 IsEnded names (Print task encoding) name s errors errors_now outcome =
     RunEnds names (record { name = name; task = task; encoding = encoding }) s errors errors_now outcome
 IsEnded names (ReadBack prefix) name s errors errors_now outcome =
@@ -65,7 +63,7 @@ IsEnded names (FromJson raw) name s errors errors_now outcome =
 pub record At (O : Type 0) : Type 0 where
   pub opener : O
   pub output : Held
-  pub errors : Option (List ℕ)
+  pub errors : Held
 
 -- how inputs are opened, what they have, and whether they can fail
 pub record Opening (O I : Type 0) : Type 1 where
@@ -91,7 +89,7 @@ pub data FileDone
       how.opens old.opener name.now None new.opener
       → outcome ≡ Err UnopenedInput
       → Rests old.output new.output
-      → AppendsFront old.errors new.errors (error_line name.now UnopenedInput)
+      → Says old.errors new.errors (error_line name.now UnopenedInput)
       → FileDone how names asked name old new outcome
 
 -- the greater of two statuses

@@ -2,11 +2,10 @@
 use Rattle.std.specs.Prelude.{◌≡◌, ◌≢◌, ◌⊎◌, ℕ, ◌+◌, ◌≤◌, Bool, true, false, List, [], ◌∷◌, ◌++◌, length, take, drop, Option, Some, None, Result, Ok, Err}
 use Rattle.std.specs.Prelude.{◌==◌, ◌||◌, IsTrue, EachIndex, slice_index, codes}
 use Rattle.std.specs.Fmt.{decimal}
-use Rattle.std.specs.Io.KnownBytes.{Consumes, Keeps}
+use Rattle.std.specs.Io.KnownBytes.{Consumes}
 use Rattle.std.specs.Str.{IsUtf8}
 use Rattle.hex.specs.Hex.{encode_upper}
-use Rattle.kmip_ttlv_types.specs.Streams.{AppendsFront}
-use Rattle.kmip_ttlv_types.specs.Held.{Held, Gets}
+use Rattle.kmip_ttlv_types.specs.Held.{Held, Gets, Rests, Says}
 use Rattle.kmip_ttlv_json.specs.declared.failure.JsonError.{JsonError}
 use Rattle.kmip_ttlv_json.specs.declared.failure.JsonError.TheVariants.{NotJson, TooDeep, OutOfMemory}
 use Rattle.kmip_ttlv_json.specs.Readings.{IsReadAs, FailsToRead, error_words}
@@ -130,11 +129,11 @@ pub record FaultsJson (job : JsonJob) (s : Streams) (fault : LineFault) : Type 0
   pub bad : IsBad line fault.error
   pub appended : Gets s.output s.output_now text
 
--- and a beginning of the line that says so was appended to the errors
-pub record MalformedJson (job : JsonJob) (s : Streams) (errors errors_now : Option (List ℕ)) : Type 0 where
+-- and the line that says so was appended to the errors, as far as they have room
+pub record MalformedJson (job : JsonJob) (s : Streams) (errors errors_now : Held) : Type 0 where
   pub fault : LineFault
   pub faults : FaultsJson job s fault
-  pub reported : AppendsFront errors errors_now (bad_line job.name.now fault)
+  pub reported : Says errors errors_now (bad_line job.name.now fault)
 
 -- exactly what is printed of the lines that came before reading failed was appended
 pub record UnreadJson (job : JsonJob) (s : Streams) : Type 0 where
@@ -184,17 +183,17 @@ RespondsJson job s (Ok None) = PrintedJson job s
 RespondsJson job s (Ok (Some fault)) = FaultsJson job s fault
 RespondsJson job s (Err why) = FailsJson job s why
 
--- there is a reason for the status, and a beginning of its line was appended to the errors
+-- there is a reason for the status, and its line was appended to the errors, as far as they have room
 pub record AbortedJson
-    (job : JsonJob) (s : Streams) (status : ℕ) (errors errors_now : Option (List ℕ)) : Type 0 where
+    (job : JsonJob) (s : Streams) (status : ℕ) (errors errors_now : Held) : Type 0 where
   pub why : RunError
   pub fails : FailsJson job s why
   pub status_is : status ≡ status_of why
-  pub reported : AppendsFront errors errors_now (error_line job.name.now why)
+  pub reported : Says errors errors_now (error_line job.name.now why)
 
 -- how a run that reads JSON back ended
-abbrev pub JsonEnds : JsonJob → Streams → Option (List ℕ) → Option (List ℕ) → Result Bool RunError → Type 0
-JsonEnds job s errors errors_now (Ok true) = PrintedJson job s × Keeps errors errors_now
+abbrev pub JsonEnds : JsonJob → Streams → Held → Held → Result Bool RunError → Type 0
+JsonEnds job s errors errors_now (Ok true) = PrintedJson job s × Rests errors errors_now
 JsonEnds job s errors errors_now (Ok false) = MalformedJson job s errors errors_now
 JsonEnds job s errors errors_now (Err why) =
-    FailsJson job s why × AppendsFront errors errors_now (error_line job.name.now why)
+    FailsJson job s why × Says errors errors_now (error_line job.name.now why)

@@ -8,8 +8,7 @@ use Rattle.ttlv_run.specs.declared.run_error.RunError.{RunError}
 use Rattle.ttlv_run.specs.declared.run_error.RunError.TheVariants.{UnopenedInput, UnreadableInput, MisreadInput}
 use Rattle.ttlv_run.specs.declared.run_error.RunError.TheVariants.{NotUtf8, NoMessage, UnwritableOutput, ClosedPipe, NoMemory}
 use Rattle.ttlv_run.specs.Escapes.{escaped}
-use Rattle.std.specs.Io.KnownBytes.{Appends}
-use Rattle.kmip_ttlv_types.specs.Held.{Held}
+use Rattle.kmip_ttlv_types.specs.Held.{Held, Gets, GetsFront}
 use Rattle.kmip_ttlv_types.specs.Streams.{AppendsFront, IsTight}
 use Rattle.ttlv_run.specs.Misreadings.{misread_line}
 
@@ -59,10 +58,10 @@ abbrev pub place_report : List ℕ → Option ℕ → List ℕ
 place_report name None = escaped name
 place_report name (Some at) = escaped name ++ codes ": byte " ++ decimal at
 
--- what was written to the errors: all of a text, or a beginning of it
-abbrev pub Reports : Bool → Option (List ℕ) → Option (List ℕ) → List ℕ → Type 0
-Reports true old new text = Appends old new text
-Reports false old new text = AppendsFront old new text
+-- what was written to the errors: all of a text, or a beginning of it where they have no room for all, if that is known
+abbrev pub Reports : Bool → Held → Held → List ℕ → Type 0
+Reports true old new text = Gets old new text
+Reports false old new text = GetsFront old new text
 
 -- the line on standard error: where no one reads the output any more there is none
 abbrev pub error_line : List ℕ → RunError → List ℕ

@@ -1,6 +1,6 @@
 -- What a run takes, prints and says.
 use Rattle.std.specs.Prelude.{◌≡◌, ◌⊎◌, ℕ, Bool, true, false, List, [], ◌∷◌, ◌++◌, ◌≤◌, ◌==◌, ◌&&◌, length, drop, nat_lt, Option, Some, None, Result, Ok, Err, IsTrue, if◌then◌else◌}
-use Rattle.std.specs.Io.KnownBytes.{Consumes, Keeps}
+use Rattle.std.specs.Io.KnownBytes.{Consumes}
 use Rattle.kmip_ttlv_items.specs.ItemWalks.{AreBytes}
 use Rattle.std.specs.Str.{IsUtf8}
 use Rattle.ttlv_run.specs.declared.form.Form.{Form}
@@ -15,8 +15,7 @@ use Rattle.ttlv_run.specs.declared.run_error.RunError.TheVariants.{UnwritableOut
 use Rattle.kmip_ttlv_names.specs.NameTables.{lines_of}
 use Rattle.ttlv_run.specs.declared.back.BackFault.{BackFault}
 use Rattle.ttlv_run.specs.Backs.{FirstBreak, IsOneLine, AreLines, ReadsLines, back_line}
-use Rattle.kmip_ttlv_types.specs.Streams.{AppendsFront}
-use Rattle.kmip_ttlv_types.specs.Held.{Held, Gets, Rests}
+use Rattle.kmip_ttlv_types.specs.Held.{Held, Gets, Rests, Says}
 use Rattle.ttlv_run.specs.Fronts.{front_size, DecodesTo, StandsUpTo}
 use Rattle.ttlv_run.specs.Inputs.{TakesAll, TakesSome, form_of, encoding_of, Stands, Misreads}
 use Rattle.ttlv_run.specs.Messages.{is_there, wants_message, Whole, Prints, Continues, Breaks as MessageBreaks, fault_line, told}
@@ -158,32 +157,32 @@ Responds text names job s (Ok None) = Printed names job s
 Responds text names job s (Ok (Some line)) = Breaks names job s (text line)
 Responds text names job s (Err why) = Fails names job s why
 
--- a message is malformed, and a beginning of the line that says so was appended to the errors
-pub record Malformed (names : Names) (job : Job) (s : Streams) (errors errors_now : Option (List ℕ)) : Type 0 where
+-- a message is malformed, and the line that says so was appended to the errors, as far as they have room
+pub record Malformed (names : Names) (job : Job) (s : Streams) (errors errors_now : Held) : Type 0 where
   pub line : List ℕ
   pub breaks : Breaks names job s line
-  pub reported : AppendsFront errors errors_now line
+  pub reported : Says errors errors_now line
 
--- the input has no message, and a beginning of the line that says so was appended to the errors
-pub record Lacking (job : Job) (s : Streams) (errors errors_now : Option (List ℕ)) : Type 0 where
+-- the input has no message, and the line that says so was appended to the errors, as far as they have room
+pub record Lacking (job : Job) (s : Streams) (errors errors_now : Held) : Type 0 where
   pub empty : Empty job s
-  pub reported : AppendsFront errors errors_now (error_line job.name.now NoMessage)
+  pub reported : Says errors errors_now (error_line job.name.now NoMessage)
 
--- there is a reason for the status, and a beginning of its line was appended to the errors
+-- there is a reason for the status, and its line was appended to the errors, as far as they have room
 pub record Aborted
-    (names : Names) (job : Job) (s : Streams) (status : ℕ) (errors errors_now : Option (List ℕ)) : Type 0 where
+    (names : Names) (job : Job) (s : Streams) (status : ℕ) (errors errors_now : Held) : Type 0 where
   pub why : RunError
   pub fails : Fails names job s why
   pub status_is : status ≡ status_of why
-  pub reported : AppendsFront errors errors_now (error_line job.name.now why)
+  pub reported : Says errors errors_now (error_line job.name.now why)
 
--- how a run ended: all messages are whole; or one is malformed; or there is a reason, and a beginning of its line was appended to
--- the errors
-abbrev pub RunEnds : Names → Job → Streams → Option (List ℕ) → Option (List ℕ) → Result Bool RunError → Type 0
-RunEnds names job s errors errors_now (Ok true) = Printed names job s × Keeps errors errors_now
+-- how a run ended: all messages are whole; or one is malformed; or there is a reason, and its line was appended to the errors,
+-- as far as they have room
+abbrev pub RunEnds : Names → Job → Streams → Held → Held → Result Bool RunError → Type 0
+RunEnds names job s errors errors_now (Ok true) = Printed names job s × Rests errors errors_now
 RunEnds names job s errors errors_now (Ok false) = Malformed names job s errors errors_now
 RunEnds names job s errors errors_now (Err why) =
-    Fails names job s why × AppendsFront errors errors_now (error_line job.name.now why)
+    Fails names job s why × Says errors errors_now (error_line job.name.now why)
 
 -- the whole input was taken, and this text is what its diagnostics are read back as; and the first line that is not
 -- whole stops being a diagnostic here, or all lines are whole
@@ -201,12 +200,12 @@ pub record PrintedBack (names : Names) (job : BackJob) (s : Streams) (fault : Op
   pub has : HasBack names job s text fault
   pub appended : Gets s.output s.output_now text
 
--- a line is not whole, and a beginning of the line that says so was appended to the errors
+-- a line is not whole, and the line that says so was appended to the errors, as far as they have room
 pub record MalformedBack
-    (names : Names) (job : BackJob) (s : Streams) (errors errors_now : Option (List ℕ)) : Type 0 where
+    (names : Names) (job : BackJob) (s : Streams) (errors errors_now : Held) : Type 0 where
   pub fault : BackFault
   pub printed : PrintedBack names job s (Some fault)
-  pub reported : AppendsFront errors errors_now (back_line job.name.now fault)
+  pub reported : Says errors errors_now (back_line job.name.now fault)
 
 -- exactly what the whole lines among the bytes that came before reading failed are read back as was appended
 pub record UnreadBack (names : Names) (job : BackJob) (s : Streams) : Type 0 where
@@ -260,17 +259,17 @@ abbrev pub RespondsBack : Names → BackJob → Streams → Result (Option BackF
 RespondsBack names job s (Ok fault) = PrintedBack names job s fault
 RespondsBack names job s (Err why) = FailsBack names job s why
 
--- there is a reason for the status, and a beginning of its line was appended to the errors
+-- there is a reason for the status, and its line was appended to the errors, as far as they have room
 pub record AbortedBack
-    (names : Names) (job : BackJob) (s : Streams) (status : ℕ) (errors errors_now : Option (List ℕ)) : Type 0 where
+    (names : Names) (job : BackJob) (s : Streams) (status : ℕ) (errors errors_now : Held) : Type 0 where
   pub why : RunError
   pub fails : FailsBack names job s why
   pub status_is : status ≡ status_of why
-  pub reported : AppendsFront errors errors_now (error_line job.name.now why)
+  pub reported : Says errors errors_now (error_line job.name.now why)
 
 -- how a run that reads diagnostics back ended
-abbrev pub BackEnds : Names → BackJob → Streams → Option (List ℕ) → Option (List ℕ) → Result Bool RunError → Type 0
-BackEnds names job s errors errors_now (Ok true) = PrintedBack names job s None × Keeps errors errors_now
+abbrev pub BackEnds : Names → BackJob → Streams → Held → Held → Result Bool RunError → Type 0
+BackEnds names job s errors errors_now (Ok true) = PrintedBack names job s None × Rests errors errors_now
 BackEnds names job s errors errors_now (Ok false) = MalformedBack names job s errors errors_now
 BackEnds names job s errors errors_now (Err why) =
-    FailsBack names job s why × AppendsFront errors errors_now (error_line job.name.now why)
+    FailsBack names job s why × Says errors errors_now (error_line job.name.now why)

@@ -1,14 +1,96 @@
 //! Texts as they stand in a line: control characters, those that can't be seen, and backslashes are escaped.
 
-ghost use Rattle.std.specs.Prelude.{◌≡◌, ◌<◌, ◌/◌, ◌%◌, ◌^◌, ◌++◌, ◌∷◌, [], true, false, OnOk, OnErr, codes, encode_utf8};
+ghost use Rattle.std.specs.Prelude.{◌≡◌, ◌<◌, ◌/◌, ◌%◌, ◌^◌, ◌++◌, ◌∷◌, ℕ, List, [], true, false, OnOk, OnErr, codes, encode_utf8};
 ghost use Rattle.std.specs.Fmt.{digit_glyph};
 ghost use Rattle.kmip_ttlv_types.specs.declared.typ.TtlvType.TheVariants.{TextString};
 ghost use Rattle.kmip_ttlv_types.specs.Leaves.{is_valid};
+ghost use Rattle.kmip_ttlv_util.specs.Pieces.{Moves, Stops, buffered};
+ghost use Rattle.kmip_ttlv_util.specs.Sinks.{moves_none, moves_both, stops_first, stops_second};
 ghost use Rattle.ttlv_run.specs.Columns.{in_range};
 ghost use Rattle.ttlv_run.specs.Escapes.{byte_hex, short_hex, word_hex, number_hex, is_unseen_low, is_unseen_middle, is_unseen_high, is_unseen, is_hidden, escaped_char, escaped};
 
-use kmip_ttlv_util::TextSink;
+use kmip_ttlv_types::stream::Sink;
+use kmip_ttlv_util::{Pieces, TextSink};
+use std::io::{self, Error};
 use std::str;
+
+/// What escaped texts are appended to. Its only errors are its own: none is out of memory of someone else.
+///
+/// Each [`TextSink`] is one, and so is [`NameSink`].
+pub trait PlainSink {
+    /// Why a part can't be appended.
+    type Error;
+
+    // The second is the first with a text appended.
+    ghost adds: { Self → List ℕ → Self → Type 0 };
+
+    // The second is the first after appending a text failed: a beginning of the text was appended.
+    ghost breaks: { Self → List ℕ → Self → Type 0 };
+
+    /// Appends a text. On error a beginning of it may have been appended.
+    fn append(&mut self, text: &str) -> Result<(), Self::Error>
+        ensures ok { OnOk result (adds self.old text.now self.new) }
+        ensures err { OnErr result (breaks self.old text.now self.new) };
+
+    // Appending the empty text changes nothing.
+    ghost adds_none: { (a : Self) → adds a [] a };
+
+    // Appending two texts appends both of them, one after the other.
+    ghost adds_both: { (a b c : Self) (s t : List ℕ) → adds a s b → adds b t c → adds a (s ++ t) c };
+
+    // If appending the first of two texts failed, so did appending both.
+    ghost breaks_first: { (a b : Self) (s t : List ℕ) → breaks a s b → breaks a (s ++ t) b };
+
+    // If appending the second of two texts failed, so did appending both.
+    ghost breaks_second: { (a b c : Self) (s t : List ℕ) → adds a s b → breaks b t c → breaks a (s ++ t) c };
+}
+
+impl<S: TextSink> PlainSink for S {
+    type Error = S::Error;
+
+    ghost adds = { λ a text b. S.adds a text b };
+
+    ghost breaks = { λ a text b. S.breaks a text b };
+
+    ghost adds_none = { λ a. S.adds_none a };
+
+    ghost adds_both = { λ a b c s t. S.adds_both a b c s t };
+
+    ghost breaks_first = { λ a b s t. S.breaks_first a b s t };
+
+    ghost breaks_second = { λ a b c s t. S.breaks_second a b c s t };
+
+    #[inline(always)]
+    fn append(&mut self, text: &str) -> Result<(), S::Error> {
+        self.push_str(text)
+    }
+}
+
+/// Pieces before a sink that take no memory, so that only the sink fails.
+#[derive(Drop)]
+pub struct NameSink<'e, E: Sink>(pub Pieces<'e, E>);
+
+impl<E: Sink> PlainSink for NameSink<'_, E> {
+    type Error = Error;
+
+    ghost adds = { λ a text b. Moves (buffered E.emitted E.room a.0) text (buffered E.emitted E.room b.0) };
+
+    ghost breaks = { λ a text b. Stops (buffered E.emitted E.room a.0) text (buffered E.emitted E.room b.0) };
+
+    ghost adds_none = { λ a. moves_none (buffered E.emitted E.room a.0) };
+
+    ghost adds_both = { λ a b c s t. moves_both (buffered E.emitted E.room a.0) (buffered E.emitted E.room b.0)
+        (buffered E.emitted E.room c.0) s t };
+
+    ghost breaks_first = { λ a b s t. stops_first (buffered E.emitted E.room a.0) (buffered E.emitted E.room b.0) s t };
+
+    ghost breaks_second = { λ a b c s t. stops_second (buffered E.emitted E.room a.0) (buffered E.emitted E.room b.0)
+        (buffered E.emitted E.room c.0) s t };
+
+    fn append(&mut self, text: &str) -> io::Result<()> {
+        self.0.push(text.as_bytes())
+    }
+}
 
 // A hexadecimal digit, in lowercase.
 fn digit(value: u32) -> u8
@@ -25,27 +107,27 @@ fn digit(value: u32) -> u8
 }
 
 /// Adds a hexadecimal digit, in lowercase.
-pub fn push_digit<S: TextSink>(out: &mut S, value: u32) -> Result<(), S::Error>
+pub fn push_digit<S: PlainSink>(out: &mut S, value: u32) -> Result<(), S::Error>
     requires { value < 16 }
     ensures ok { OnOk result (S.adds out.old (digit_glyph false value ∷ []) out.new) }
     ensures err { OnErr result (S.breaks out.old (digit_glyph false value ∷ []) out.new) }
 {
     let text = [digit(value)];
-    out.push_str(unsafe { str::from_utf8_unchecked(&text) })
+    out.append(unsafe { str::from_utf8_unchecked(&text) })
 }
 
 // Adds the two hexadecimal digits of a number.
-fn push_byte_hex<S: TextSink>(out: &mut S, value: u32) -> Result<(), S::Error>
+fn push_byte_hex<S: PlainSink>(out: &mut S, value: u32) -> Result<(), S::Error>
     requires { value < 256 }
     ensures ok { OnOk result (S.adds out.old (byte_hex value) out.new) }
     ensures err { OnErr result (S.breaks out.old (byte_hex value) out.new) }
 {
     let text = [digit(value / 16), digit(value % 16)];
-    out.push_str(unsafe { str::from_utf8_unchecked(&text) })
+    out.append(unsafe { str::from_utf8_unchecked(&text) })
 }
 
 // Adds the hexadecimal digits of a number, without a zero in front.
-fn push_short_hex<S: TextSink>(out: &mut S, value: u32) -> Result<(), S::Error>
+fn push_short_hex<S: PlainSink>(out: &mut S, value: u32) -> Result<(), S::Error>
     requires { value < 256 }
     ensures ok { OnOk result (S.adds out.old (short_hex value) out.new) }
     ensures err { OnErr result (S.breaks out.old (short_hex value) out.new) }
@@ -58,7 +140,7 @@ fn push_short_hex<S: TextSink>(out: &mut S, value: u32) -> Result<(), S::Error>
 }
 
 // The same, of two bytes.
-fn push_word_hex<S: TextSink>(out: &mut S, value: u32) -> Result<(), S::Error>
+fn push_word_hex<S: PlainSink>(out: &mut S, value: u32) -> Result<(), S::Error>
     requires { value < 65536 }
     ensures ok { OnOk result (S.adds out.old (word_hex value) out.new) }
     ensures err { OnErr result (S.breaks out.old (word_hex value) out.new) }
@@ -71,7 +153,7 @@ fn push_word_hex<S: TextSink>(out: &mut S, value: u32) -> Result<(), S::Error>
 }
 
 // Adds the four hexadecimal digits of a number.
-fn push_two_bytes<S: TextSink>(out: &mut S, value: u32) -> Result<(), S::Error>
+fn push_two_bytes<S: PlainSink>(out: &mut S, value: u32) -> Result<(), S::Error>
     requires { value < 2 ^ 24 }
     ensures ok { OnOk result (S.adds out.old (byte_hex (value / 256 % 256) ++ byte_hex (value % 256)) out.new) }
     ensures err { OnErr result (S.breaks out.old (byte_hex (value / 256 % 256) ++ byte_hex (value % 256)) out.new) }
@@ -82,7 +164,7 @@ fn push_two_bytes<S: TextSink>(out: &mut S, value: u32) -> Result<(), S::Error>
 
 // The hexadecimal digits of a number of three bytes, without a zero in front.
 #[tactic(auto, unfolding(crate::specs::Escapes::number_hex))]
-fn push_number_hex<S: TextSink>(out: &mut S, value: u32) -> Result<(), S::Error>
+fn push_number_hex<S: PlainSink>(out: &mut S, value: u32) -> Result<(), S::Error>
     requires { value < 2 ^ 24 }
     ensures ok { OnOk result (S.adds out.old (number_hex value) out.new) }
     ensures err { OnErr result (S.breaks out.old (number_hex value) out.new) }
@@ -95,13 +177,13 @@ fn push_number_hex<S: TextSink>(out: &mut S, value: u32) -> Result<(), S::Error>
 }
 
 // Adds a character by its number.
-fn push_by_number<S: TextSink>(out: &mut S, c: char) -> Result<(), S::Error>
+fn push_by_number<S: PlainSink>(out: &mut S, c: char) -> Result<(), S::Error>
     ensures ok { OnOk result (S.adds out.old (codes "\\u{" ++ (number_hex c ++ codes "}")) out.new) }
     ensures err { OnErr result (S.breaks out.old (codes "\\u{" ++ (number_hex c ++ codes "}")) out.new) }
 {
-    out.push_str("\\u{")?;
+    out.append("\\u{")?;
     push_number_hex(out, c as u32)?;
-    out.push_str("}")
+    out.append("}")
 }
 
 // Whether a number is in a range.
@@ -157,26 +239,26 @@ pub fn is_hidden(c: char) -> bool
 }
 
 // Adds a character as it is.
-fn push_plain<S: TextSink>(out: &mut S, c: char) -> Result<(), S::Error>
+fn push_plain<S: PlainSink>(out: &mut S, c: char) -> Result<(), S::Error>
     ensures ok { OnOk result (S.adds out.old (encode_utf8 c) out.new) }
     ensures err { OnErr result (S.breaks out.old (encode_utf8 c) out.new) }
 {
     let mut room = [0; 4];
-    out.push_str(c.encode_utf8(&mut room))
+    out.append(c.encode_utf8(&mut room))
 }
 
 // Adds a character; a control character, one that can't be seen or a backslash escaped.
 #[tactic(auto, unfolding(crate::specs::Escapes::escaped_char))]
-fn push_char<S: TextSink>(out: &mut S, c: char) -> Result<(), S::Error>
+fn push_char<S: PlainSink>(out: &mut S, c: char) -> Result<(), S::Error>
     ensures ok { OnOk result (S.adds out.old (escaped_char c) out.new) }
     ensures err { OnErr result (S.breaks out.old (escaped_char c) out.new) }
 {
     match c {
-        '\0' => out.push_str("\\0"),
-        '\t' => out.push_str("\\t"),
-        '\n' => out.push_str("\\n"),
-        '\r' => out.push_str("\\r"),
-        '\\' => out.push_str("\\\\"),
+        '\0' => out.append("\\0"),
+        '\t' => out.append("\\t"),
+        '\n' => out.append("\\n"),
+        '\r' => out.append("\\r"),
+        '\\' => out.append("\\\\"),
         _ if is_hidden(c) => push_by_number(out, c),
         _ => push_plain(out, c),
     }
@@ -185,7 +267,7 @@ fn push_char<S: TextSink>(out: &mut S, c: char) -> Result<(), S::Error>
 /// Adds a text with its control characters, those that can't be seen, and its backslashes escaped.
 ///
 /// It fails where the sink fails.
-pub fn push_text<S: TextSink>(out: &mut S, text: &str) -> Result<(), S::Error>
+pub fn push_text<S: PlainSink>(out: &mut S, text: &str) -> Result<(), S::Error>
     ensures ok { OnOk result (S.adds out.old (escaped text.now) out.new) }
     ensures err { OnErr result (S.breaks out.old (escaped text.now) out.new) }
 {
@@ -196,7 +278,7 @@ pub fn push_text<S: TextSink>(out: &mut S, text: &str) -> Result<(), S::Error>
 }
 
 /// The same, of the bytes of a text.
-pub fn push_escaped<S: TextSink>(out: &mut S, text: &[u8]) -> Result<(), S::Error>
+pub fn push_escaped<S: PlainSink>(out: &mut S, text: &[u8]) -> Result<(), S::Error>
     requires { is_valid TextString text.now ≡ true }
     ensures ok { OnOk result (S.adds out.old (escaped text.now) out.new) }
     ensures err { OnErr result (S.breaks out.old (escaped text.now) out.new) }

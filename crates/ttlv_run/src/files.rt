@@ -12,7 +12,6 @@ use crate::run::{read_back, read_back_to_end, report_error, run, run_to_end};
 use crate::run_error::{RunError, status_in};
 use kmip_ttlv_types::stream::{Sink, Source};
 use std::alloc::{Allocator, Global};
-use std::io::Write;
 
 /// What opens inputs by their names.
 pub trait Opener {
@@ -29,7 +28,7 @@ pub trait Opener {
 
 /// Does with an input what is asked, and returns the exit status, of [`run`], [`read_back`] or [`read_json`]. JSON that is read
 /// takes memory from `json`, all else from `memory`.
-pub fn run_asked<A: Allocator + Copy, B: Allocator + Copy, R: Source, W: Sink, E: Write>(
+pub fn run_asked<A: Allocator + Copy, B: Allocator + Copy, R: Source, W: Sink, E: Sink>(
     json: Global,
     memory: Memory<A, B>,
     asked: Asked<'_>,
@@ -47,7 +46,7 @@ pub fn run_asked<A: Allocator + Copy, B: Allocator + Copy, R: Source, W: Sink, E
           output = held W.emitted W.room output.old;
           output_now = held W.emitted W.room output.new;
         })
-        (E.contents errors.old) (E.contents errors.new) result }
+        (held E.emitted E.room errors.old) (held E.emitted E.room errors.new) result }
 {
     match asked {
         Asked::Print { task, encoding } => {
@@ -70,7 +69,7 @@ pub fn run_asked<A: Allocator + Copy, B: Allocator + Copy, R: Source, W: Sink, E
 }
 
 // Does the same, and returns whether all of the input is whole, or why not all of it was printed.
-fn end_asked<A: Allocator + Copy, B: Allocator + Copy, R: Source, W: Sink, E: Write>(
+fn end_asked<A: Allocator + Copy, B: Allocator + Copy, R: Source, W: Sink, E: Sink>(
     json: Global,
     memory: Memory<A, B>,
     asked: Asked<'_>,
@@ -88,7 +87,7 @@ fn end_asked<A: Allocator + Copy, B: Allocator + Copy, R: Source, W: Sink, E: Wr
           output = held W.emitted W.room output.old;
           output_now = held W.emitted W.room output.new;
         })
-        (E.contents errors.old) (E.contents errors.new) result }
+        (held E.emitted E.room errors.old) (held E.emitted E.room errors.new) result }
 {
     match asked {
         Asked::Print { task, encoding } => {
@@ -111,7 +110,7 @@ fn end_asked<A: Allocator + Copy, B: Allocator + Copy, R: Source, W: Sink, E: Wr
 }
 
 // Does it with a file.
-fn run_file<A: Allocator + Copy, B: Allocator + Copy, O: Opener, W: Sink, E: Write>(
+fn run_file<A: Allocator + Copy, B: Allocator + Copy, O: Opener, W: Sink, E: Sink>(
     json: Global,
     memory: Memory<A, B>,
     asked: Asked<'_>,
@@ -123,8 +122,8 @@ fn run_file<A: Allocator + Copy, B: Allocator + Copy, O: Opener, W: Sink, E: Wri
 ) -> Result<bool, RunError>
     ensures { FileDone (record { opens = O.opens; left = O.Input.left; can_fail = O.Input.can_fail })
         (names_of names.now) asked.entry name.entry
-        (record { opener = opener.old; output = held W.emitted W.room output.old; errors = E.contents errors.old })
-        (record { opener = opener.new; output = held W.emitted W.room output.new; errors = E.contents errors.new }) result }
+        (record { opener = opener.old; output = held W.emitted W.room output.old; errors = held E.emitted E.room errors.old })
+        (record { opener = opener.new; output = held W.emitted W.room output.new; errors = held E.emitted E.room errors.new }) result }
 {
     match opener.open(name) {
         Some(mut input) => end_asked(json, memory, asked, name, names, &mut input, output, errors),
@@ -156,7 +155,7 @@ fn stops(outcome: Result<bool, RunError>) -> bool
 /// Does with each file what is asked, one after the other, and returns the greatest of their exit statuses:
 /// those of [`run`], [`read_back`] and [`read_json`], and 2 for a file that can't be opened. If the output can't be
 /// written, no other file is read; behind a file for which memory doesn't suffice the others are. Memory is that of [`run_asked`].
-pub fn run_files<A: Allocator + Copy, B: Allocator + Copy, O: Opener, W: Sink, E: Write>(
+pub fn run_files<A: Allocator + Copy, B: Allocator + Copy, O: Opener, W: Sink, E: Sink>(
     json: Global,
     memory: Memory<A, B>,
     asked: Asked<'_>,
@@ -168,8 +167,8 @@ pub fn run_files<A: Allocator + Copy, B: Allocator + Copy, O: Opener, W: Sink, E
 ) -> u8
     ensures { FilesDone (record { opens = O.opens; left = O.Input.left; can_fail = O.Input.can_fail })
         (names_of names.now) asked.entry files.now
-        (record { opener = opener.old; output = held W.emitted W.room output.old; errors = E.contents errors.old })
-        (record { opener = opener.new; output = held W.emitted W.room output.new; errors = E.contents errors.new }) result }
+        (record { opener = opener.old; output = held W.emitted W.room output.old; errors = held E.emitted E.room errors.old })
+        (record { opener = opener.new; output = held W.emitted W.room output.new; errors = held E.emitted E.room errors.new }) result }
 {
     let mut status = 0;
     'files: for name in files {

@@ -1,9 +1,7 @@
 //! Lines of JSON, each of which is a message, printed as the messages that they are.
 
-ghost use Rattle.std.specs.Prelude.{◌≡◌, ◌↔◌, IsTrue, ◌≤◌, ◌++◌, ◌⊎◌, ℕ, List, Option, None, IfOk, IfErr, OnOk, OnErr, codes};
-ghost use Rattle.kmip_ttlv_types.specs.Held.{held, Gets};
-ghost use Rattle.std.specs.Io.KnownBytes.{Keeps};
-ghost use Rattle.kmip_ttlv_types.specs.Streams.{AppendsFront};
+ghost use Rattle.std.specs.Prelude.{◌≡◌, ◌↔◌, IsTrue, ◌≤◌, ◌++◌, ◌⊎◌, ℕ, List, None, IfOk, IfErr, OnOk, OnErr, codes};
+ghost use Rattle.kmip_ttlv_types.specs.Held.{Held, held, Gets, Rests, Says};
 ghost use Rattle.ttlv_run.specs.Reasons.{IsOfPrinting, PrintsFront, Reports};
 ghost use Rattle.ttlv_run.specs.JsonLines.{shown, IsBlank, Prints, Spoils, PrintsBytes, FailsAt, fault_at, bad_line, column_report, RespondsJson, PrintedJson, MalformedJson, AbortedJson, JsonEnds};
 
@@ -17,7 +15,6 @@ use itoa::Buffer;
 use kmip_ttlv_json::{JsonError, from_json};
 use kmip_ttlv_types::stream::{Sink, Source};
 use std::alloc::Global;
-use std::io::Write;
 use std::str;
 
 /// The first line that is not the JSON of a message.
@@ -165,9 +162,9 @@ fn respond<R: Source, W: Sink>(
 }
 
 // Writes where the parser stopped, if the line isn't JSON, or nests too deep.
-fn report_column<E: Write>(errors: &mut E, writable: bool, error: JsonError) -> bool
-    ensures { (known : Option (List ℕ)) (front : List ℕ) → Reports writable known (E.contents errors.old) front
-        → Reports result known (E.contents errors.new) (front ++ column_report error) }
+fn report_column<E: Sink>(errors: &mut E, writable: bool, error: JsonError) -> bool
+    ensures { (known : Held) (front : List ℕ) → Reports writable known (held E.emitted E.room errors.old) front
+        → Reports result known (held E.emitted E.room errors.new) (front ++ column_report error) }
 {
     match error {
         JsonError::NotJson { column, .. } | JsonError::TooDeep { column, .. } => {
@@ -179,8 +176,8 @@ fn report_column<E: Write>(errors: &mut E, writable: bool, error: JsonError) -> 
 }
 
 // Writes the line that says which line is no message and why, as far as it can be written. It takes no memory.
-fn report_fault<E: Write>(errors: &mut E, name: &str, fault: LineFault)
-    ensures { AppendsFront (E.contents errors.old) (E.contents errors.new) (bad_line name.now fault) }
+fn report_fault<E: Sink>(errors: &mut E, name: &str, fault: LineFault)
+    ensures { Says (held E.emitted E.room errors.old) (held E.emitted E.room errors.new) (bad_line name.now fault) }
 {
     let writable = report_place(errors, name, Some(fault.offset));
     let writable = report(errors, writable, ": ");
@@ -190,7 +187,7 @@ fn report_fault<E: Write>(errors: &mut E, name: &str, fault: LineFault)
 }
 
 // Does what [`read_json`] does, and returns whether all lines are messages or empty, or why not all were printed.
-pub(crate) fn read_json_to_end<R: Source, W: Sink, E: Write>(
+pub(crate) fn read_json_to_end<R: Source, W: Sink, E: Sink>(
     heap: Global,
     job: &JsonJob<'_>,
     input: &mut R,
@@ -205,7 +202,7 @@ pub(crate) fn read_json_to_end<R: Source, W: Sink, E: Write>(
           output = held W.emitted W.room output.old;
           output_now = held W.emitted W.room output.new;
         })
-        (E.contents errors.old) (E.contents errors.new) result }
+        (held E.emitted E.room errors.old) (held E.emitted E.room errors.new) result }
 {
     match respond(heap, job, input, output) {
         Ok(None) => Ok(true),
@@ -228,7 +225,7 @@ pub(crate) fn read_json_to_end<R: Source, W: Sink, E: Write>(
 /// none are printed, nothing more is read, and `errors` says why that is none. With status 2 those of the lines before are printed:
 /// that came before reading failed, or are in front of the one that is not UTF-8. Statuses 2 and 3 are reported there as
 /// [`run`](crate::run::run) reports them; with status 3 the output has a beginning of what is printed.
-pub fn read_json<R: Source, W: Sink, E: Write>(
+pub fn read_json<R: Source, W: Sink, E: Sink>(
     heap: Global,
     job: &JsonJob<'_>,
     input: &mut R,
@@ -245,7 +242,7 @@ pub fn read_json<R: Source, W: Sink, E: Write>(
           output = held W.emitted W.room output.old;
           output_now = held W.emitted W.room output.new;
         })
-        × Keeps (E.contents errors.old) (E.contents errors.new) }
+        × Rests (held E.emitted E.room errors.old) (held E.emitted E.room errors.new) }
     // With status 1 a line is bad: what is printed of the lines before it was appended, and the errors have its line. A front of
     // the input was read.
     ensures malformed { result ≡ 1 → MalformedJson job.now
@@ -256,7 +253,7 @@ pub fn read_json<R: Source, W: Sink, E: Write>(
           output = held W.emitted W.room output.old;
           output_now = held W.emitted W.room output.new;
         })
-        (E.contents errors.old) (E.contents errors.new) }
+        (held E.emitted E.room errors.old) (held E.emitted E.room errors.new) }
     // With statuses 2 and 3 there is a reason that is true of the input or of the output, and it is reported.
     ensures refused { (result ≡ 2) ⊎ (result ≡ 3) → AbortedJson job.now
         (record {
@@ -266,7 +263,7 @@ pub fn read_json<R: Source, W: Sink, E: Write>(
           output = held W.emitted W.room output.old;
           output_now = held W.emitted W.room output.new;
         })
-        result (E.contents errors.old) (E.contents errors.new) }
+        result (held E.emitted E.room errors.old) (held E.emitted E.room errors.new) }
 {
     match read_json_to_end(heap, job, input, output, errors) {
         Ok(true) => 0,

@@ -1,7 +1,7 @@
 //! Why an input, taken as an encoding, stands for no bytes, and the line that says so.
 
-ghost use Rattle.std.specs.Prelude.{◌≡◌, ◌++◌, ◌<◌, true, ℕ, List, Option};
-ghost use Rattle.kmip_ttlv_types.specs.Streams.{AppendsFront};
+ghost use Rattle.std.specs.Prelude.{◌≡◌, ◌++◌, ◌<◌, true, ℕ, List};
+ghost use Rattle.kmip_ttlv_types.specs.Held.{Held, held, Says};
 ghost use Rattle.std.specs.Fmt.{digit_glyph};
 ghost use Rattle.ttlv_run.specs.Reasons.{Reports};
 ghost use Rattle.ttlv_run.specs.Misreadings.{is_printable, byte_shown, with_kind, line_end, misread_line};
@@ -10,7 +10,6 @@ use crate::job::Encoding;
 use crate::run::{report, report_place};
 use itoa::Buffer;
 use kmip_ttlv_types::stream::Sink;
-use std::io::Write;
 
 /// What is wrong with an input.
 #[derive(Clone, Copy, Debug, PartialEq, Eq)]
@@ -41,9 +40,9 @@ fn is_printable(b: u8) -> bool
 }
 
 // Writes bytes behind others, where those were written to their end; returns whether these were too.
-fn report_bytes<E: Write>(errors: &mut E, writable: bool, bytes: &[u8]) -> bool
-    ensures { (known : Option (List ℕ)) (front : List ℕ) → Reports writable known (E.contents errors.old) front
-        → Reports result known (E.contents errors.new) (front ++ bytes.now) }
+fn report_bytes<E: Sink>(errors: &mut E, writable: bool, bytes: &[u8]) -> bool
+    ensures { (known : Held) (front : List ℕ) → Reports writable known (held E.emitted E.room errors.old) front
+        → Reports result known (held E.emitted E.room errors.new) (front ++ bytes.now) }
 {
     writable && errors.send(bytes).is_ok()
 }
@@ -60,9 +59,9 @@ fn digit(n: u8) -> u8
 }
 
 // Writes a byte as a character in quotes, or in hexadecimal where it isn't printable.
-fn report_byte<E: Write>(errors: &mut E, writable: bool, b: u8) -> bool
-    ensures { (known : Option (List ℕ)) (front : List ℕ) → Reports writable known (E.contents errors.old) front
-        → Reports result known (E.contents errors.new) (front ++ byte_shown b) }
+fn report_byte<E: Sink>(errors: &mut E, writable: bool, b: u8) -> bool
+    ensures { (known : Held) (front : List ℕ) → Reports writable known (held E.emitted E.room errors.old) front
+        → Reports result known (held E.emitted E.room errors.new) (front ++ byte_shown b) }
 {
     if is_printable(b) {
         return report_bytes(errors, writable, &[39, b, 39]);
@@ -71,9 +70,9 @@ fn report_byte<E: Write>(errors: &mut E, writable: bool, b: u8) -> bool
 }
 
 // Writes what is wrong at an offset.
-fn report_kind<E: Write>(errors: &mut E, writable: bool, kind: MisreadKind) -> bool
-    ensures { (known : Option (List ℕ)) (front : List ℕ) → Reports writable known (E.contents errors.old) front
-        → Reports result known (E.contents errors.new) (with_kind front kind) }
+fn report_kind<E: Sink>(errors: &mut E, writable: bool, kind: MisreadKind) -> bool
+    ensures { (known : Held) (front : List ℕ) → Reports writable known (held E.emitted E.room errors.old) front
+        → Reports result known (held E.emitted E.room errors.new) (with_kind front kind) }
 {
     match kind {
         MisreadKind::NoDigit(b) => {
@@ -100,8 +99,8 @@ fn line_end(guessed: bool) -> &'static str
 }
 
 /// Writes the line of an input that stands for no bytes, as far as it can be written. It takes no memory.
-pub fn report_misread<E: Write>(errors: &mut E, name: &str, misread: Misread)
-    ensures { AppendsFront (E.contents errors.old) (E.contents errors.new) (misread_line name.now misread) }
+pub fn report_misread<E: Sink>(errors: &mut E, name: &str, misread: Misread)
+    ensures { Says (held E.emitted E.room errors.old) (held E.emitted E.room errors.new) (misread_line name.now misread) }
 {
     let writable = report_place(errors, name, None);
     let writable = report(errors, writable, ": taken as ");

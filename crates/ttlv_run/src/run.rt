@@ -1,9 +1,8 @@
 //! The whole run over one input, for any reader and any writers.
 
 ghost use Rattle.std.specs.Prelude.{◌≡◌, true, false, ◌<◌, ◌≤◌, ◌+◌, ◌^◌, ◌⊎◌, ◌++◌, ℕ, length, List, Option, Some, None, IfOk, IfErr, OnErr, string_bytes, codes};
-ghost use Rattle.std.specs.Io.KnownBytes.{Consumes, IsAtEnd, Keeps};
-ghost use Rattle.kmip_ttlv_types.specs.Streams.{AppendsFront};
-ghost use Rattle.kmip_ttlv_types.specs.Held.{held, Gets};
+ghost use Rattle.std.specs.Io.KnownBytes.{Consumes, IsAtEnd};
+ghost use Rattle.kmip_ttlv_types.specs.Held.{Held, held, Gets, Rests, Says};
 ghost use Rattle.kmip_ttlv_util.specs.Pieces.{SomeText};
 ghost use Rattle.ttlv_run.specs.Backs.{ReadsBack, ReadsFront, back_line};
 ghost use Rattle.ttlv_run.specs.Escapes.{escaped};
@@ -18,7 +17,7 @@ ghost use Rattle.ttlv_run.specs.Texts.{names_of};
 use crate::back::{BackFault, BackReached, print_back};
 use crate::coding::{encoding_of, form_of, front_size};
 use crate::digits::print_digits;
-use crate::escape::push_text;
+use crate::escape::{NameSink, push_text};
 use crate::job::{BackJob, Encoding, Job, Names, Task};
 use crate::memory::Memory;
 use crate::messages::{Place, Reached, fault_line, print_all, wants_message};
@@ -29,7 +28,7 @@ use itoa::Buffer;
 use kmip_ttlv_types::stream::{Sink, Source};
 use kmip_ttlv_util::Pieces;
 use std::alloc::Allocator;
-use std::io::{Error, ErrorKind, Write};
+use std::io::{Error, ErrorKind};
 
 /// Why printing failed: the output, or out of memory.
 pub(crate) fn run_error_of(error: &Error) -> RunError
@@ -279,25 +278,27 @@ fn respond_back<A: Allocator + Copy, B: Allocator + Copy, R: Source, W: Sink>(
 }
 
 /// Writes a text after another, if that was written to its end; returns whether this was too.
-pub(crate) fn report<E: Write>(errors: &mut E, writable: bool, text: &str) -> bool
-    ensures { (known : Option (List ℕ)) (front : List ℕ) → Reports writable known (E.contents errors.old) front
-        → Reports result known (E.contents errors.new) (front ++ text.now) }
+pub(crate) fn report<E: Sink>(errors: &mut E, writable: bool, text: &str) -> bool
+    ensures { (known : Held) (front : List ℕ) → Reports writable known (held E.emitted E.room errors.old) front
+        → Reports result known (held E.emitted E.room errors.new) (front ++ text.now) }
 {
     writable && errors.send(text.as_bytes()).is_ok()
 }
 
 // Writes what the input is called, escaped; returns whether it was written to its end.
-fn report_name<E: Write>(errors: &mut E, name: &str) -> bool
-    ensures { Reports result (E.contents errors.old) (E.contents errors.new) (escaped name.now) }
+fn report_name<E: Sink>(errors: &mut E, name: &str) -> bool
+    ensures { Reports result (held E.emitted E.room errors.old) (held E.emitted E.room errors.new) (escaped name.now) }
 {
-    let mut pieces = Pieces::new(errors);
-    let written = push_text(&mut pieces, name);
-    pieces.close(written).is_ok()
+    let mut sink = NameSink(Pieces::new(errors));
+    if push_text(&mut sink, name).is_err() {
+        return false;
+    }
+    sink.0.finish().is_ok()
 }
 
 /// Writes what the input is called, and the offset in it, if one is given.
-pub(crate) fn report_place<E: Write>(errors: &mut E, name: &str, offset: Option<usize>) -> bool
-    ensures { Reports result (E.contents errors.old) (E.contents errors.new) (place_report name.now offset) }
+pub(crate) fn report_place<E: Sink>(errors: &mut E, name: &str, offset: Option<usize>) -> bool
+    ensures { Reports result (held E.emitted E.room errors.old) (held E.emitted E.room errors.new) (place_report name.now offset) }
 {
     let writable = report_name(errors, name);
     let Some(at) = offset else {
@@ -309,8 +310,8 @@ pub(crate) fn report_place<E: Write>(errors: &mut E, name: &str, offset: Option<
 
 /// Writes the line that says something of an input, a table or a word, whose name is escaped, as far as it can be written. It takes
 /// no memory.
-pub fn report_words<E: Write>(errors: &mut E, name: &str, words: &str)
-    ensures { AppendsFront (E.contents errors.old) (E.contents errors.new)
+pub fn report_words<E: Sink>(errors: &mut E, name: &str, words: &str)
+    ensures { Says (held E.emitted E.room errors.old) (held E.emitted E.room errors.new)
         (escaped name.now ++ codes ": " ++ words.now ++ codes "\n") }
 {
     let writable = report_place(errors, name, None);
@@ -320,8 +321,8 @@ pub fn report_words<E: Write>(errors: &mut E, name: &str, words: &str)
 }
 
 /// Writes the line of an error, as far as it can be written. It takes no memory.
-pub(crate) fn report_error<E: Write>(errors: &mut E, name: &str, run_error: RunError)
-    ensures { AppendsFront (E.contents errors.old) (E.contents errors.new) (error_line name.now run_error) }
+pub(crate) fn report_error<E: Sink>(errors: &mut E, name: &str, run_error: RunError)
+    ensures { Says (held E.emitted E.room errors.old) (held E.emitted E.room errors.new) (error_line name.now run_error) }
 {
     match run_error {
         RunError::ClosedPipe => (),
@@ -336,8 +337,8 @@ pub(crate) fn report_error<E: Write>(errors: &mut E, name: &str, run_error: RunE
 }
 
 // Writes the line of a text that stops being a diagnostic, as far as it can be written. It takes no memory.
-fn report_back_fault<E: Write>(errors: &mut E, name: &str, fault: BackFault)
-    ensures { AppendsFront (E.contents errors.old) (E.contents errors.new) (back_line name.now fault) }
+fn report_back_fault<E: Sink>(errors: &mut E, name: &str, fault: BackFault)
+    ensures { Says (held E.emitted E.room errors.old) (held E.emitted E.room errors.new) (back_line name.now fault) }
 {
     let writable = report_place(errors, name, Some(fault.offset));
     let writable = report(errors, writable, ": ");
@@ -346,7 +347,7 @@ fn report_back_fault<E: Write>(errors: &mut E, name: &str, fault: BackFault)
 }
 
 // Does what [`run`] does, and returns whether all messages are whole, or why not all were printed.
-pub(crate) fn run_to_end<A: Allocator + Copy, B: Allocator + Copy, R: Source, W: Sink, E: Write>(
+pub(crate) fn run_to_end<A: Allocator + Copy, B: Allocator + Copy, R: Source, W: Sink, E: Sink>(
     memory: Memory<A, B>,
     job: &Job<'_>,
     names: &Names<'_, B>,
@@ -362,7 +363,7 @@ pub(crate) fn run_to_end<A: Allocator + Copy, B: Allocator + Copy, R: Source, W:
           output = held W.emitted W.room output.old;
           output_now = held W.emitted W.room output.new;
         })
-        (E.contents errors.old) (E.contents errors.new) result }
+        (held E.emitted E.room errors.old) (held E.emitted E.room errors.new) result }
 {
     match respond(memory, job, names, input, output) {
         Ok(None) => Ok(true),
@@ -389,7 +390,7 @@ pub(crate) fn run_to_end<A: Allocator + Copy, B: Allocator + Copy, R: Source, W:
 /// of what is printed, or nothing. With statuses 1 to 3 one line on `errors` says why, except for a closed pipe.
 /// Interrupted reads and writes are tried again, as often as a 64-bit count allows. If `errors` can't be written, the
 /// status is the same.
-pub fn run<A: Allocator + Copy, B: Allocator + Copy, R: Source, W: Sink, E: Write>(
+pub fn run<A: Allocator + Copy, B: Allocator + Copy, R: Source, W: Sink, E: Sink>(
     memory: Memory<A, B>,
     job: &Job<'_>,
     names: &Names<'_, B>,
@@ -407,7 +408,7 @@ pub fn run<A: Allocator + Copy, B: Allocator + Copy, R: Source, W: Sink, E: Writ
           output = held W.emitted W.room output.old;
           output_now = held W.emitted W.room output.new;
         })
-        × Keeps (E.contents errors.old) (E.contents errors.new) }
+        × Rests (held E.emitted E.room errors.old) (held E.emitted E.room errors.new) }
     // With status 1 a message of the input is malformed: what is printed up to its fault was appended, and the errors
     // have its line. A front of the input was read. Or there is no message, and the task wants one.
     ensures malformed { result ≡ 1 → Malformed (names_of names.now) job.now
@@ -418,7 +419,7 @@ pub fn run<A: Allocator + Copy, B: Allocator + Copy, R: Source, W: Sink, E: Writ
           output = held W.emitted W.room output.old;
           output_now = held W.emitted W.room output.new;
         })
-        (E.contents errors.old) (E.contents errors.new)
+        (held E.emitted E.room errors.old) (held E.emitted E.room errors.new)
         ⊎ Lacking job.now
         (record {
           can_fail = R.can_fail;
@@ -427,7 +428,7 @@ pub fn run<A: Allocator + Copy, B: Allocator + Copy, R: Source, W: Sink, E: Writ
           output = held W.emitted W.room output.old;
           output_now = held W.emitted W.room output.new;
         })
-        (E.contents errors.old) (E.contents errors.new) }
+        (held E.emitted E.room errors.old) (held E.emitted E.room errors.new) }
     // With statuses 2 and 3 there is a reason that is true of the input or of the output, and it is reported.
     ensures refused { (result ≡ 2) ⊎ (result ≡ 3) → Aborted (names_of names.now) job.now
         (record {
@@ -437,7 +438,7 @@ pub fn run<A: Allocator + Copy, B: Allocator + Copy, R: Source, W: Sink, E: Writ
           output = held W.emitted W.room output.old;
           output_now = held W.emitted W.room output.new;
         })
-        result (E.contents errors.old) (E.contents errors.new) }
+        result (held E.emitted E.room errors.old) (held E.emitted E.room errors.new) }
 {
     match run_to_end(memory, job, names, input, output, errors) {
         Ok(true) => 0,
@@ -452,7 +453,7 @@ pub(crate) fn read_back_to_end<
     B: Allocator + Copy,
     R: Source,
     W: Sink,
-    E: Write,
+    E: Sink,
 >(
     memory: Memory<A, B>,
     job: &BackJob<'_>,
@@ -469,7 +470,7 @@ pub(crate) fn read_back_to_end<
           output = held W.emitted W.room output.old;
           output_now = held W.emitted W.room output.new;
         })
-        (E.contents errors.old) (E.contents errors.new) result }
+        (held E.emitted E.room errors.old) (held E.emitted E.room errors.new) result }
 {
     match respond_back(memory, job, names, input, output) {
         Ok(None) => Ok(true),
@@ -493,7 +494,7 @@ pub(crate) fn read_back_to_end<
 /// With status 2 the output has what the lines before are read back as: those that came before reading failed, or that
 /// are in front of the one that is not UTF-8. Statuses 2 and 3 are reported as [`run`] reports them, and with status 3 the
 /// output is as there.
-pub fn read_back<A: Allocator + Copy, B: Allocator + Copy, R: Source, W: Sink, E: Write>(
+pub fn read_back<A: Allocator + Copy, B: Allocator + Copy, R: Source, W: Sink, E: Sink>(
     memory: Memory<A, B>,
     job: &BackJob<'_>,
     names: &Names<'_, B>,
@@ -511,7 +512,7 @@ pub fn read_back<A: Allocator + Copy, B: Allocator + Copy, R: Source, W: Sink, E
           output = held W.emitted W.room output.old;
           output_now = held W.emitted W.room output.new;
         }) None
-        × Keeps (E.contents errors.old) (E.contents errors.new) }
+        × Rests (held E.emitted E.room errors.old) (held E.emitted E.room errors.new) }
     // With status 1 a line is not whole: what the whole input is read back as was appended, and the first such line
     // is reported.
     ensures malformed { result ≡ 1 → MalformedBack (names_of names.now) job.now
@@ -522,7 +523,7 @@ pub fn read_back<A: Allocator + Copy, B: Allocator + Copy, R: Source, W: Sink, E
           output = held W.emitted W.room output.old;
           output_now = held W.emitted W.room output.new;
         })
-        (E.contents errors.old) (E.contents errors.new) }
+        (held E.emitted E.room errors.old) (held E.emitted E.room errors.new) }
     // With statuses 2 and 3 there is a reason that is true of the input or of the output, and it is reported.
     ensures refused { (result ≡ 2) ⊎ (result ≡ 3) → AbortedBack (names_of names.now) job.now
         (record {
@@ -532,7 +533,7 @@ pub fn read_back<A: Allocator + Copy, B: Allocator + Copy, R: Source, W: Sink, E
           output = held W.emitted W.room output.old;
           output_now = held W.emitted W.room output.new;
         })
-        result (E.contents errors.old) (E.contents errors.new) }
+        result (held E.emitted E.room errors.old) (held E.emitted E.room errors.new) }
 {
     match read_back_to_end(memory, job, names, input, output, errors) {
         Ok(true) => 0,

@@ -4,7 +4,7 @@ ghost use Rattle.std.specs.Prelude.{◌≡◌, ◌++◌, IfOk, IfErr, OnOk, code
 ghost use Rattle.std.specs.Fmt.{decimal};
 ghost use Rattle.std.specs.List.{list_any};
 ghost use Rattle.std.specs.Str.{chars};
-ghost use Rattle.kmip_ttlv_types.specs.Streams.{AppendsFront};
+ghost use Rattle.kmip_ttlv_types.specs.Held.{held, Says};
 ghost use Rattle.ttlv_run.specs.declared.table.TableFault.{TableFault as ATableFault};
 ghost use Rattle.ttlv_run.specs.Escapes.{is_hidden};
 ghost use Rattle.ttlv_run.specs.Reasons.{place_report};
@@ -16,9 +16,8 @@ use crate::run::{report, report_error, report_place};
 use crate::run_error::RunError;
 use itoa::Buffer;
 use kmip_ttlv_names::{TableError, own_names};
-use kmip_ttlv_types::stream::Source;
+use kmip_ttlv_types::stream::{Sink, Source};
 use std::alloc::{AllocError, Allocator};
-use std::io::Write;
 use std::str;
 
 // A table, and behind it another.
@@ -112,8 +111,8 @@ fn status(fault: TableFault) -> u8
 }
 
 // Writes the line that says something of a table's line.
-fn report_line<E: Write>(errors: &mut E, name: &str, line: u128, words: &str)
-    ensures { AppendsFront (E.contents errors.old) (E.contents errors.new)
+fn report_line<E: Sink>(errors: &mut E, name: &str, line: u128, words: &str)
+    ensures { Says (held E.emitted E.room errors.old) (held E.emitted E.room errors.new)
         (place_report name.now None ++ codes ": line " ++ decimal line ++ words.now) }
 {
     let writable = report_place(errors, name, None);
@@ -123,8 +122,8 @@ fn report_line<E: Write>(errors: &mut E, name: &str, line: u128, words: &str)
 }
 
 // Writes the line that says why there is no table, as far as it can be written.
-fn report_table<E: Write>(errors: &mut E, name: &str, fault: TableFault)
-    ensures { AppendsFront (E.contents errors.old) (E.contents errors.new) (table_line name.now fault) }
+fn report_table<E: Sink>(errors: &mut E, name: &str, fault: TableFault)
+    ensures { Says (held E.emitted E.room errors.old) (held E.emitted E.room errors.new) (table_line name.now fault) }
 {
     match fault {
         TableFault::Unread(why) => report_error(errors, name, why),
@@ -146,7 +145,7 @@ fn report_table<E: Write>(errors: &mut E, name: &str, fault: TableFault)
 /// The error is the exit status: 2 where the input can't be read, is not UTF-8, or has a line that names no
 /// tag, or has a control character, or one that can't be seen, and is no comment (white space at its end is no
 /// part of a line); and 3 when out of memory.
-pub fn own_table<A: Allocator + Copy, R: Source, E: Write>(
+pub fn own_table<A: Allocator + Copy, R: Source, E: Sink>(
     alloc: A,
     standard: &str,
     name: &str,
@@ -157,7 +156,7 @@ pub fn own_table<A: Allocator + Copy, R: Source, E: Write>(
         (string_bytes all)) }
     ensures quiet { OnOk result (errors.new ≡ errors.old) }
     ensures err { IfErr result (λ status. (fault : ATableFault) × LacksTable R.can_fail (R.left input.old) (R.left input.new) fault
-        × (status ≡ table_status fault) × AppendsFront (E.contents errors.old) (E.contents errors.new) (table_line name.now fault)) }
+        × (status ≡ table_status fault) × Says (held E.emitted E.room errors.old) (held E.emitted E.room errors.new) (table_line name.now fault)) }
 {
     match read_table(alloc, standard, input) {
         Ok(all) => Ok(all),

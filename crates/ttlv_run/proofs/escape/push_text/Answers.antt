@@ -18,11 +18,11 @@ parts f all seen x far lt is =
     ∙ sym (flat_map-append f (take (n + 1) all) (drop (n + 1) all)) ∙ ap (flat_map f) (take-append-drop (n + 1) all)
 
 pub loop-c-init : goal.loop-c-init
-loop-c-init g c = g.met.S.TextSink.adds_none c.args.out.now
+loop-c-init g c = g.met.S.PlainSink.adds_none c.args.out.now
 
 pub loop-c-preserved : goal.loop-c-preserved
 loop-c-preserved g c =
-    adds_same g.S.TextSink.adds g.S.TextSink.breaks _ _ _ _ (g.met.S.TextSink.adds_both _ _ _ (flat_map escaped_char c.loop-c.yielded)
+    adds_same g.S.PlainSink.adds g.S.PlainSink.breaks _ _ _ _ (g.met.S.PlainSink.adds_both _ _ _ (flat_map escaped_char c.loop-c.yielded)
     (escaped_char c.in-Some.c) c.loop-c.invariant c.in_ok-push_char.ensures.ok) (sym (flat_map-more escaped_char c.in-Some.c c.loop-c.yielded))
 
 pub returns-in_err-push_char-clause-err : goal.returns-in_err-push_char-clause-err
@@ -34,8 +34,8 @@ returns-in_err-push_char-clause-err g c =
     let road = YieldsList-from_chars text c.utf8.text cc in
     let turn = YieldsList-turn road seen _ c.loop-c.yielded_by _ _ x c.in-Some.is c.next.ensures.steps in
     let whole = parts escaped_char (chars text) seen x (YieldsList-so_far road seen _ c.loop-c.yielded_by) turn.0 turn.1 in
-    let here = g.met.S.TextSink.breaks_second _ _ _ (flat_map escaped_char seen) (escaped_char x) c.loop-c.invariant c.in_err-push_char.ensures.err in
-    err_now g.S.TextSink.adds g.S.TextSink.breaks _ _ _ _ (breaks_rest g.S.TextSink.adds g.S.TextSink.breaks g.met.S.TextSink.breaks_first _ _
+    let here = g.met.S.PlainSink.breaks_second _ _ _ (flat_map escaped_char seen) (escaped_char x) c.loop-c.invariant c.in_err-push_char.ensures.err in
+    err_now g.S.PlainSink.adds g.S.PlainSink.breaks _ _ _ _ (breaks_rest g.S.PlainSink.adds g.S.PlainSink.breaks g.met.S.PlainSink.breaks_first _ _
     (flat_map escaped_char seen ++ escaped_char x) (flat_map escaped_char (drop (length seen + 1) (chars text))) _ here whole)
 
 pub returns-clause-ok : goal.returns-clause-ok
@@ -43,4 +43,4 @@ unfolding escaped
 returns-clause-ok g c =
     let end = YieldsList-end (YieldsList-from_chars c.args.text.now c.utf8.text cc)
     c.loop-c.yielded _ c.loop-c.yielded_by _ _ c.in-None.is c.next.ensures.steps in
-    adds_same g.S.TextSink.adds g.S.TextSink.breaks _ _ _ _ c.loop-c.invariant (ap (flat_map escaped_char) (sym (map-id c.loop-c.yielded) ∙ end.0))
+    adds_same g.S.PlainSink.adds g.S.PlainSink.breaks _ _ _ _ c.loop-c.invariant (ap (flat_map escaped_char) (sym (map-id c.loop-c.yielded) ∙ end.0))

@@ -4,4 +4,4 @@ use Rattle.ttlv_run.proofs.misread.report_bytes.Goals as goal
 pub returns-then-writable : goal.returns-then-writable
 returns-then-writable g c = λ known front h.
     decides_more c.send.result c.args.writable c.is_ok.result known _ _ front c.args.bytes.now c.if-writable.true c.is_ok.ensures.value c.send.ensures.ok
-    c.send.ensures.err h
+    c.send.ensures.err c.send.ensures.room c.send.ensures.tight h

@@ -1,5 +1,5 @@
-use Rattle.ttlv_run.proofs.Appending.{decided_front}
+use Rattle.ttlv_run.proofs.Appending.{decided_says}
 use Rattle.ttlv_run.proofs.run.report_words.Goals as goal
 
 pub returns : goal.returns
-returns g c = decided_front _ _ _ _ (c.report.ensures _ _ (c.report-writable-2.ensures _ _ (c.report-writable.ensures _ _ c.report_place-writable.ensures)))
+returns g c = decided_says _ _ _ _ (c.report.ensures _ _ (c.report-writable-2.ensures _ _ (c.report-writable.ensures _ _ c.report_place-writable.ensures)))
