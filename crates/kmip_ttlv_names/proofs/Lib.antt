@@ -3,3 +3,4 @@ pub mod Lists
 pub mod Owns
 pub mod SecretNames
 mod GoodTables
+pub mod ByName

@@ -3,6 +3,8 @@ use Rattle.std.specs.Prelude.{◌≡◌, ℕ, suc, Bool, true, false, List, [], 
 use Rattle.std.specs.Prelude.{None, if◌then◌else◌, ◌==◌, nat_lt, bytes_eq}
 use Rattle.std.specs.List.{slice_split, position_or_len, before_first, after_first}
 use Rattle.std.specs.Str.{trim_end}
+use Rattle.std.specs.Borrow.{Bor}
+use Rattle.std.specs.HashMap.{get_by, HashMap}
 use Rattle.kmip_ttlv_types.specs.Names.{tag_of}
 use Rattle.kmip_ttlv_util.specs.TagNames.{no_names}
 use Rattle.kmip_ttlv_names.specs.declared.table.Line.{Line}
@@ -98,6 +100,10 @@ tag_among name (l ∷ ls) = first_of (tag_if name (line_of l)) (tag_among name l
 -- the tag to which a table gives a name
 unfoldable pub tag_named : List ℕ → List ℕ → Option ℕ
 tag_named name table = tag_among name (lines_of table)
+
+-- the tag that a map has for a name
+abbrev pub tag_in : {S : Type 0} → HashMap (Bor (List ℕ)) ℕ S → List ℕ → Option ℕ
+tag_in tags name = get_by (λ k. bytes_eq name k.now) tags
 
 -- what the code makes of a line
 abbrev pub Means : Said → Line → Type 0

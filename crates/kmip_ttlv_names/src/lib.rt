@@ -5,6 +5,7 @@
 //! tags of KMIP 1.0 (9.1.3.1) and of the later versions. specs/ defines what a table means.
 #![tactic(auto)]
 
+mod by_name;
 mod enumerations;
 mod masks;
 mod own;
@@ -13,6 +14,7 @@ mod standard;
 mod table;
 mod values;
 
+pub use by_name::{TagsByName, tags_by_name};
 pub use enumerations::STANDARD_VALUES;
 pub use masks::STANDARD_MASKS;
 pub use own::{OwnNames, ValueMap, own_names, value_key};

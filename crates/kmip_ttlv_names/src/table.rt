@@ -21,7 +21,7 @@ pub enum TableError {
 
 /// What a line of a table means.
 #[derive(Clone, Copy)]
-enum Line<'t> {
+pub(crate) enum Line<'t> {
     /// Nothing: it is empty, or a comment.
     Blank,
     /// The name of a tag.
@@ -32,7 +32,7 @@ enum Line<'t> {
 
 /// Parses a line: it is blank if it is empty or begins with `#`; otherwise its first word is a tag, and the
 /// rest the tag's name. White space at its end is dropped.
-fn read_line(line: &str) -> Line<'_>
+pub(crate) fn read_line(line: &str) -> Line<'_>
     ensures { Means (line_of line.now) result }
 {
     let line = line.trim_end();
