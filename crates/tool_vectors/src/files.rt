@@ -6,6 +6,7 @@ use kmip_ttlv_names::{
     STANDARD_TAGS, TableError, own_names, standard_masks, standard_secrets, standard_values,
 };
 use std::alloc::{AllocError, Global};
+use std::collections::HashMap;
 use std::io;
 use std::io::{ErrorKind, Read};
 use ttlv_run::files::{Opener, run_files};
@@ -169,6 +170,7 @@ fn outcome_of(
     let secrets = standard_secrets(alloc)?;
     let names = Names {
         tags: own.tags,
+        by_name: HashMap::new(alloc),
         values,
         masks,
         own: own.values,
@@ -230,6 +232,7 @@ fn stops_at_three(alloc: Global) -> Result<bool, TableError> {
     let secrets = standard_secrets(alloc)?;
     let names = Names {
         tags: own.tags,
+        by_name: HashMap::new(alloc),
         values,
         masks,
         own: own.values,
@@ -266,6 +269,7 @@ fn goes_on_behind_no_memory(alloc: Global) -> Result<bool, TableError> {
     let secrets = standard_secrets(&wide)?;
     let names = Names {
         tags: own.tags,
+        by_name: HashMap::new(&wide),
         values,
         masks,
         own: own.values,

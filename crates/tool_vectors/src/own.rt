@@ -4,7 +4,7 @@ use crate::runs::{Outcome, VERSION, of};
 use kmip_ttlv_memory::BoundedAllocator;
 use kmip_ttlv_names::{
     STANDARD_TAGS, TableError, own_names, standard_masks, standard_secrets, standard_values,
-    tag_names,
+    tag_names, tags_by_name,
 };
 use std::alloc::Global;
 use ttlv_run::run::run;
@@ -12,7 +12,7 @@ use ttlv_run::table::own_table;
 use ttlv_run::{Encoding, Job, Look, Names, Task};
 
 // A user's table, a message, and its lines.
-const ROWS: [(&str, &str, &str); 5] = [
+const ROWS: [(&str, &str, &str); 6] = [
     // Of a tag with a name, too, all six digits are shown.
     (
         "000012 Small\n",
@@ -37,6 +37,12 @@ const ROWS: [(&str, &str, &str); 5] = [
         "540000010000003042005C0500000004000000010000000042005C0500000004000000020000000042002C02000000040000000C00000000",
         "Tag: 0x540000, Type: Structure (0x01), Data:\n  Tag: Operation (0x42005C), Type: Enumeration (0x05), Data: 0x000001 (1) Make\n  Tag: Operation (0x42005C), Type: Enumeration (0x05), Data: 0x000002 (2) Create Key Pair\n  Tag: Cryptographic Usage Mask (0x42002C), Type: Integer (0x02), Data: 0x00000C (12) Encipher | Decrypt\n",
     ),
+    // Attributes by a user's names of tags: of an own tag, and of one of KMIP's.
+    (
+        "540001 Own Kind\n540001:00000002 Own Value\n42008D Own State\n",
+        "420091010000005842000A07000000084F776E204B696E6442000B0500000004000000020000000042000B0200000004000000060000000042000A07000000094F776E2053746174650000000000000042000B05000000040000000100000000",
+        "Tag: Template-Attribute (0x420091), Type: Structure (0x01), Data:\n  Tag: Attribute Name (0x42000A), Type: TextString (0x07), Data: Own Kind\n  Tag: Attribute Value (0x42000B), Type: Enumeration (0x05), Data: 0x000002 (2) Own Value\n  Tag: Attribute Value (0x42000B), Type: Integer (0x02), Data: 0x000006 (6) Own Value\n  Tag: Attribute Name (0x42000A), Type: TextString (0x07), Data: Own State\n  Tag: Attribute Value (0x42000B), Type: Enumeration (0x05), Data: 0x000001 (1) Pre-Active\n",
+    ),
     // The lowest bit and the highest; values of another tag, and of another number, name nothing.
     (
         "540002:00000001 Low\n540002:80000000 High\n540003:4 Another\n",
@@ -59,8 +65,12 @@ fn printed(alloc: Global, table: &str, message: &str) -> Result<Outcome, TableEr
         return Err(TableError::OutOfMemory);
     };
     let own = own_names(alloc, all.as_str())?;
+    let Ok(by_name) = tags_by_name(alloc, all.as_str()) else {
+        return Err(TableError::OutOfMemory);
+    };
     let names = Names {
         tags: own.tags,
+        by_name,
         values: standard_values(alloc)?,
         masks: standard_masks(alloc)?,
         own: own.values,

@@ -1,6 +1,8 @@
 //! Runs in memory, and the messages that they are tried on.
 
-use kmip_ttlv_names::{standard_masks, standard_names, standard_secrets, standard_values};
+use kmip_ttlv_names::{
+    STANDARD_TAGS, standard_masks, standard_names, standard_secrets, standard_values, tags_by_name,
+};
 use std::alloc::{AllocError, Allocator, Global};
 use std::collections::HashMap;
 use ttlv_run::run::{read_back, run};
@@ -73,6 +75,7 @@ pub fn names_in<A: Allocator + Copy>(heap: A) -> Result<Names<'static, A>, Alloc
     };
     Ok(Names {
         tags,
+        by_name: tags_by_name(heap, STANDARD_TAGS)?,
         values,
         masks,
         own: HashMap::new(heap),

@@ -12,7 +12,7 @@ use Rattle.kmip_ttlv_items.proofs.Completes.{ends}
 use Rattle.ttlv_run.specs.declared.{job.Task.Task, job.Task.TheVariants.Show, job.Look.Look, lines.Reach.Reach, messages.Place.Place}
 use Rattle.ttlv_run.specs.declared.{messages.Wrong.TheVariants.Malformed, messages.Wrong.TheVariants.NotKmip}
 use Rattle.ttlv_run.specs.Messages.{first_size, message_at, Whole, whole_more, tag_there, is_taken, IsWrong, malformed, not_taken, Breaks, Prints, Continues}
-use Rattle.ttlv_run.specs.Texts.{Names, reach_after, no_reach, item_text, lines_from, message_text, IsMessageText}
+use Rattle.ttlv_run.specs.Texts.{Names, reach_after, reach_all, no_reach, item_text, lines_from, message_text, IsMessageText}
 
 -- a message is some of the bytes that are left
 first_within : (r : List ℕ) → 0 < length r → (0 < first_size r) × (first_size r ≤ length r)
@@ -48,31 +48,26 @@ flat_map-more f x ys = flat_map-append f ys (x ∷ []) ∙ ap (λ (s : List ℕ)
 
 -- ---- the lines of some items, and of others behind them
 
--- how far items reach, where several more were met
-abbrev pub reach_all : Names → Look → Reach → List FoundItem → Reach
-reach_all names look r [] = r
-reach_all names look r (i ∷ is) = reach_all names look (reach_after names look r i) is
-
 module _ (names : Names) (look : Look) (at : ℕ) (bytes : List ℕ) where
   pub lines-append : (r : Reach) (xs ys : List FoundItem) → lines_from names look at bytes r (xs ++ ys) ≡ lines_from names look at bytes r xs
-      ++ lines_from names look at bytes (reach_all names look r xs) ys
+      ++ lines_from names look at bytes (reach_all names look bytes r xs) ys
   lines-append r [] ys = refl
   lines-append r (x ∷ xs) ys =
-      let s = reach_after names look r x in
+      let s = reach_after names look bytes r x in
       let line = item_text names look s at bytes x in
       ap (λ (t : List ℕ). line ++ t) (lines-append s xs ys)
-      ∙ sym (append_assoc line (lines_from names look at bytes s xs) (lines_from names look at bytes (reach_all names look s xs) ys))
+      ∙ sym (append_assoc line (lines_from names look at bytes s xs) (lines_from names look at bytes (reach_all names look bytes s xs) ys))
 
   -- one more
   pub lines-more : (r : Reach) (x : FoundItem) (xs : List FoundItem) → lines_from names look at bytes r (xs ++ (x ∷ [])) ≡ lines_from names look at bytes r xs
-      ++ item_text names look (reach_after names look (reach_all names look r xs) x) at bytes x
+      ++ item_text names look (reach_after names look bytes (reach_all names look bytes r xs) x) at bytes x
   lines-more r x xs = lines-append r xs (x ∷ []) ∙ ap (λ (s : List ℕ). lines_from names look at bytes r xs ++ s)
-      (append-nil (item_text names look (reach_after names look (reach_all names look r xs) x) at bytes x))
+      (append-nil (item_text names look (reach_after names look bytes (reach_all names look bytes r xs) x) at bytes x))
 
-  pub reach-more : (r : Reach) (x : FoundItem) (xs : List FoundItem) → reach_all names look r (xs ++ (x ∷ [])) ≡ reach_after names look
-      (reach_all names look r xs) x
+  pub reach-more : (r : Reach) (x : FoundItem) (xs : List FoundItem) → reach_all names look bytes r (xs ++ (x ∷ [])) ≡ reach_after names look bytes
+      (reach_all names look bytes r xs) x
   reach-more r x [] = refl
-  reach-more r x (y ∷ ys) = reach-more (reach_after names look r y) x ys
+  reach-more r x (y ∷ ys) = reach-more (reach_after names look bytes r y) x ys
 
 module _ (names : Names) (task : Task) (bytes : List ℕ) where
   -- behind a beginning too
@@ -149,7 +144,7 @@ module _ (names : Names) (look : Look) (bytes : List ℕ) (plain : (k : ℕ) →
       let message = message_at bytes p in
       let end : Ends message xs = ends message (message_plain bytes p lt plain) q es xs met in
       let first = lines_from names look p message no_reach xs in
-      let rest = lines_from names look p message (reach_all names look no_reach xs) end.more in
+      let rest = lines_from names look p message (reach_all names look message no_reach xs) end.more in
       let reported = lines_from names look p message no_reach (xs ++ end.more) in
       let is : (front ++ first) ++ rest ≡ front ++ reported = append_assoc front first rest
       ∙ ap (λ (s : List ℕ). front ++ s) (sym (lines-append names look p message no_reach xs end.more)) in

@@ -13,6 +13,7 @@ pub mod FrontsDecided
 pub mod Good
 pub mod Groups
 pub mod Inputs
+pub mod Naming
 pub mod Packets
 pub mod Parts
 pub mod Prefixes

@@ -11,8 +11,8 @@ use Rattle.ttlv_run.specs.Reasons.{IsOfError, PrintsFront}
 use Rattle.ttlv_run.specs.declared.job.{Task.Task, Task.TheVariants.Show, Task.TheVariants.Json, Look.Look}
 use Rattle.kmip_ttlv_json.specs.declared.print.Hiding.{Hiding}
 use Rattle.kmip_ttlv_json.specs.Printings.{secrets_of, shown_of, IsJson}
-use Rattle.ttlv_run.specs.Texts.{Names, no_reach, lines_from, message_text, IsMessageText}
-use Rattle.ttlv_run.proofs.Completion.{reach_all, lines-append}
+use Rattle.ttlv_run.specs.Texts.{Names, no_reach, reach_all, lines_from, message_text, IsMessageText}
+use Rattle.ttlv_run.proofs.Completion.{lines-append}
 
 -- it failed
 pub err_holds : {T E : Type 0} (r : Result T E) (P : Type 0) → P → OnErr r P
@@ -64,7 +64,7 @@ broken_lines {names = names} {at} {bytes} {look = look} {q} {es} {xs} breaks a b
     let end : Ends bytes xs = ends bytes plain q es xs (subst (λ (s : List ℕ). Meets s q es xs) is met) in
     let all = xs ++ end.more in
     record {
-      text = lines_from names look at bytes no_reach xs ++ lines_from names look at bytes (reach_all names look no_reach xs) end.more;
+      text = lines_from names look at bytes no_reach xs ++ lines_from names look at bytes (reach_all names look bytes no_reach xs) end.more;
       is = (end.fault, record { found = all; ended = end.ended; is = sym (lines-append names look at bytes no_reach xs end.more) });
       holds = first a b _ _ h;
     }

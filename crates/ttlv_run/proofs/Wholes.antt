@@ -4,7 +4,7 @@ use Rattle.kmip_ttlv_items.specs.declared.found.Fault.{Fault}
 use Rattle.kmip_ttlv_items.specs.ItemWalks.{Judges}
 use Rattle.kmip_ttlv_json.specs.Printings.{secrets_of, shown_of, IsJson}
 use Rattle.kmip_ttlv_json.specs.declared.print.Hiding.{Hiding}
-use Rattle.ttlv_run.specs.declared.job.{Task.Task, Task.TheVariants.Show, Strict.Strict, Look.Look}
+use Rattle.ttlv_run.specs.declared.job.{Task.TheVariants.Show, Strict.Strict, Look.Look}
 use Rattle.ttlv_run.specs.declared.job.Task.TheVariants.{Whole as OfWhole}
 use Rattle.ttlv_run.specs.declared.job.Strict.TheVariants.{Show as ShowWhole, Json as JsonWhole}
 use Rattle.ttlv_run.specs.Texts.{Names, IsMessageText}

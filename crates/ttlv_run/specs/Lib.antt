@@ -1,3 +1,5 @@
+pub mod AttributeNames
+pub mod Attributes
 pub mod Backs
 pub mod Columns
 pub mod Dates

@@ -15,7 +15,7 @@ use Rattle.kmip_ttlv_util.specs.Pretty.{value_shown}
 use Rattle.kmip_ttlv_util.specs.TagNames.{name_in}
 use Rattle.kmip_ttlv_util.specs.Traces.{trace}
 use Rattle.kmip_ttlv_util.specs.Undiag.{undiag_lines}
-use Rattle.kmip_ttlv_names.specs.NameTables.{lines_of}
+use Rattle.kmip_ttlv_names.specs.NameTables.{lines_of, tag_in}
 use Rattle.kmip_ttlv_items.specs.declared.found.FoundItem.{FoundItem}
 use Rattle.kmip_ttlv_items.specs.declared.found.Fault.{Fault}
 use Rattle.kmip_ttlv_items.specs.ItemWalks.{Ended, content_at}
@@ -28,16 +28,18 @@ use Rattle.ttlv_run.specs.declared.job.Values.{Values}
 use Rattle.ttlv_run.specs.declared.job.Values.TheVariants.{Hidden, Secret, Escaped}
 use Rattle.ttlv_run.specs.declared.job.Look.{Look}
 use Rattle.ttlv_run.specs.declared.lines.Reach.{Reach}
+use Rattle.ttlv_run.specs.Attributes.{attribute_after, naming_tag, enumeration_name}
 use Rattle.ttlv_run.specs.Columns.{body}
 use Rattle.ttlv_run.specs.Dates.{date_shown}
 use Rattle.ttlv_run.specs.Escapes.{escaped}
 use Rattle.ttlv_run.specs.Masks.{value_named, mask_names}
 use Rattle.ttlv_run.specs.declared.job.Names.{Names as NamesAre}
 
--- the names that are printed: of tags, of a tag's values, and of the bits that are set in a mask; and which tags are
--- secret
+-- the names that are printed: of tags, of a tag's values, and of the bits that are set in a mask; which tag has a name; and which
+-- tags are secret
 pub record Names : Type 0 where
   pub tags : ℕ → Option (List ℕ)
+  pub named : List ℕ → Option ℕ
   pub values : ℕ → ℕ → Option (List ℕ)
   pub masks : ℕ → ℕ → List ℕ
   pub secrets : ℕ → Bool
@@ -46,6 +48,7 @@ pub record Names : Type 0 where
 abbrev pub names_of : {A : Type 0} → NamesAre A → Names
 names_of tables = record {
   tags = name_in tables.tags;
+  named = tag_in tables.by_name;
   values = λ tag value. value_named (name_in tables.own) (name_in tables.values tag) tag value;
   masks = λ tag mask. mask_names (value_named (name_in tables.own) (name_in tables.masks tag) tag) mask;
   secrets = has_line tables.secrets;
@@ -73,7 +76,7 @@ unfoldable pub shown : Names → Values → Option ℕ → ℕ → TtlvType → 
 shown names values width tag Structure content = []
 shown names Secret width tag typ content = hidden
 shown names values width tag Enumeration content =
-    value_shown Enumeration content ++ behind_space (names.values tag (from_be_bytes w32 content))
+    value_shown Enumeration content ++ behind_space (enumeration_name names.values names.tags tag (from_be_bytes w32 content))
 shown names Hidden width tag typ content = hidden
 shown names Escaped width tag TextString content = escaped content
 shown names values width tag Integer content =
@@ -103,18 +106,6 @@ abbrev pub painted_value : Bool → TtlvType → List ℕ → List ℕ
 painted_value colored Structure text = []
 painted_value colored typ text = painted colored (27 ∷ codes "[32m") text
 
--- that of an item among the bytes of a message
-unfoldable pub value_part : Names → Look → Values → List ℕ → FoundItem → List ℕ
-value_part names look values bytes i =
-    painted_value look.colored i.typ (shown names values look.width i.tag i.typ (content_at bytes i.offset))
-
--- the line of an item of a message that begins at an offset: the offset, if asked for, the depth, tag, type and value
-unfoldable pub item_line : Names → Look → Values → ℕ → List ℕ → FoundItem → List ℕ
-item_line names look values at bytes i =
-    offset_part look.offsets (at + i.offset)
-    ++ (tag_part names look.colored i
-    ++ (data_part i.typ ++ (value_part names look values bytes i ++ 10 ∷ [])))
-
 -- how far the items of some tags reach, where one more item was met, which is one of them or not
 abbrev pub reached : Bool → ℕ → FoundItem → ℕ
 reached is_one end i = if is_one && nat_lt end (i.offset + 8 + i.length) then i.offset + 8 + i.length else end
@@ -124,20 +115,41 @@ abbrev pub is_asked : Option ℕ → ℕ → Bool
 is_asked None tag = false
 is_asked (Some only) tag = only == tag
 
--- how far the secret items reach, and those that are asked for
-abbrev pub reach_after : Names → Look → Reach → FoundItem → Reach
-reach_after names look r i = record {
-  secret = reached (names.secrets i.tag) r.secret i;
-  asked = reached (is_asked look.only i.tag) r.asked i;
-}
+-- what is said of a value: nothing of one in a secret item, if those are hidden, where they reach so far
+abbrev pub values_shown : Look → ℕ → FoundItem → Values
+values_shown look secret i = if look.secrets_hidden && nat_lt i.offset secret then Secret else look.values
+
+-- how far the secret items reach, and those that are asked for; and which attribute is named
+abbrev pub reach_after : Names → Look → List ℕ → Reach → FoundItem → Reach
+reach_after names look bytes r i =
+    let secret = reached (names.secrets i.tag) r.secret i in
+    record {
+      secret = secret;
+      asked = reached (is_asked look.only i.tag) r.asked i;
+      attribute = attribute_after names.named (values_shown look secret i) bytes r.attribute i;
+    }
+
+-- where several items were met
+abbrev pub reach_all : Names → Look → List ℕ → Reach → List FoundItem → Reach
+reach_all names look bytes r [] = r
+reach_all names look bytes r (i ∷ is) = reach_all names look bytes (reach_after names look bytes r i) is
 
 -- no item was met
 abbrev pub no_reach : Reach
-no_reach = record { secret = 0; asked = 0 }
+no_reach = record { secret = 0; asked = 0; attribute = None }
 
--- what is said of a value: nothing of one in a secret item, if those are hidden
-abbrev pub values_shown : Look → Reach → FoundItem → Values
-values_shown look r i = if look.secrets_hidden && nat_lt i.offset r.secret then Secret else look.values
+-- the value of an item among the bytes of a message, named as the attribute around has it
+unfoldable pub value_part : Names → Look → Reach → List ℕ → FoundItem → List ℕ
+value_part names look r bytes i =
+    painted_value look.colored i.typ
+    (shown names (values_shown look r.secret i) look.width (naming_tag r.attribute i) i.typ (content_at bytes i.offset))
+
+-- the line of an item of a message that begins at an offset: the offset, if asked for, the depth, tag, type and value
+unfoldable pub item_line : Names → Look → Reach → ℕ → List ℕ → FoundItem → List ℕ
+item_line names look r at bytes i =
+    offset_part look.offsets (at + i.offset)
+    ++ (tag_part names look.colored i
+    ++ (data_part i.typ ++ (value_part names look r bytes i ++ 10 ∷ [])))
 
 -- an item is passed over: one tag is asked for, and it is in no item of that tag
 abbrev pub is_passed : Option ℕ → Reach → FoundItem → Bool
@@ -147,14 +159,14 @@ is_passed (Some only) r i = nat_le r.asked i.offset
 -- the line of an item, if it is asked for
 unfoldable pub item_text : Names → Look → Reach → ℕ → List ℕ → FoundItem → List ℕ
 item_text names look r at bytes i =
-    if is_passed look.only r i then [] else item_line names look (values_shown look r i) at bytes i
+    if is_passed look.only r i then [] else item_line names look r at bytes i
 
 -- the lines of items that a walk met one after the other, where those before them reach so far
 abbrev pub lines_from : Names → Look → ℕ → List ℕ → Reach → List FoundItem → List ℕ
 lines_from names look at bytes r [] = []
 lines_from names look at bytes r (i ∷ is) =
-    item_text names look (reach_after names look r i) at bytes i
-    ++ lines_from names look at bytes (reach_after names look r i) is
+    item_text names look (reach_after names look bytes r i) at bytes i
+    ++ lines_from names look at bytes (reach_after names look bytes r i) is
 
 -- what a line of diagnostics is read back as, but for a mark in front of it and white space at its end, each line indented by 64 levels at most; an
 -- empty one as nothing

@@ -4,7 +4,7 @@ ghost use Rattle.std.specs.Prelude.{◌≡◌};
 ghost use Rattle.ttlv_run.specs.Misreadings.{encoding_words};
 
 use kmip_ttlv_json::Hiding;
-use kmip_ttlv_names::ValueMap;
+use kmip_ttlv_names::{TagsByName, ValueMap};
 use kmip_ttlv_util::LentTagMap;
 use std::alloc::{Allocator, Global};
 
@@ -169,6 +169,8 @@ pub struct JsonJob<'w> {
 pub struct Names<'n, A: Allocator = Global> {
     /// The names of tags.
     pub tags: LentTagMap<'n, A>,
+    /// The tags by their names: by them the values of attributes are named.
+    pub by_name: TagsByName<'n, A>,
     /// The lists of enumerations' values, by tag, in the form of kmip_ttlv_names.
     pub values: LentTagMap<'n, A>,
     /// The lists of masks' bits, by tag, in the same form.

@@ -4,6 +4,7 @@ ghost use Rattle.std.specs.Prelude.{◌≡◌, ◌<◌, ◌≤◌, ◌++◌, ℕ
 ghost use Rattle.kmip_ttlv_items.specs.declared.found.Fault.{Fault as AFault};
 ghost use Rattle.kmip_ttlv_items.specs.declared.found.FoundItem.{FoundItem as AnItem};
 ghost use Rattle.kmip_ttlv_items.specs.ItemWalks.{AreBytes, Meets};
+ghost use Rattle.ttlv_run.specs.declared.attributes.Attribute.{Attribute as AnAttribute};
 ghost use Rattle.ttlv_run.specs.declared.run_error.RunError.{RunError as AReason};
 ghost use Rattle.ttlv_run.specs.declared.job.Task.{Task as ATask};
 ghost use Rattle.ttlv_run.specs.declared.job.Strict.{Strict as AStrict};
@@ -15,12 +16,13 @@ ghost use Rattle.ttlv_run.specs.DumpLines.{ColonLine, BareLine, CountsColumn};
 ghost use Rattle.ttlv_run.specs.declared.job.Encoding.{Encoding as AnEncoding};
 ghost use Rattle.ttlv_run.specs.declared.job.Job.{Job as AJob};
 ghost use Rattle.ttlv_run.specs.declared.messages.Place.{Place as APlace};
+ghost use Rattle.ttlv_run.specs.AttributeNames.{NamesAttribute};
 ghost use Rattle.ttlv_run.specs.Fronts.{StandsFront};
 ghost use Rattle.ttlv_run.specs.Inputs.{Stands};
 ghost use Rattle.ttlv_run.specs.Messages.{Whole, message_at, Continues, told};
 ghost use Rattle.ttlv_run.specs.Redactions.{redacted, outline};
 ghost use Rattle.ttlv_run.specs.Runs.{Streams as TheStreams, HasText, Faults, Unwritten};
-ghost use Rattle.ttlv_run.specs.Texts.{Names as TheNames, lines_from, no_reach, IsMessageText};
+ghost use Rattle.ttlv_run.specs.Texts.{Names as TheNames, lines_from, no_reach, reach_all, IsMessageText};
 
 /// What is printed of an input exists, whatever its bytes are; and it goes on behind what is printed of
 /// whole messages in front, and behind the lines of the items that were met of the next one.
@@ -66,4 +68,16 @@ pub fn a_redacted_text_has_one_outline()
         → IsMessageText names (OfWhole strict) at bytes t (Some fault) → t ≡ [] }
     ensures fault { (strict other : AStrict) (p q : APlace) → p.offset ≡ q.offset → p.wrong ≡ q.wrong
         → told (OfWhole strict) p ≡ told (OfWhole other) q }
+{}
+
+/// Where some items of a message were met, the attribute by which values are named is that which the last Attribute Name
+/// among them names, if it is a text and is printed, while no item behind it is outside its structure; and otherwise
+/// there is none.
+pub fn an_attribute_is_named_by_its_name()
+    ensures named { (names : TheNames) (look : TheLook) (bytes : List ℕ) (met : List AnItem) (attribute : AnAttribute)
+        → NamesAttribute names look bytes met attribute
+        → (reach_all names look bytes no_reach met).attribute ≡ Some attribute }
+    ensures alone { (names : TheNames) (look : TheLook) (bytes : List ℕ) (met : List AnItem) (attribute : AnAttribute)
+        → (reach_all names look bytes no_reach met).attribute ≡ Some attribute
+        → NamesAttribute names look bytes met attribute }
 {}

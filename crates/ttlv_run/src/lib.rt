@@ -5,12 +5,13 @@
 //! `files` is the entry, for several inputs, and `run` for one. `job` says what is to be done, `window` holds what was
 //! read and not printed yet, `guess` finds the encoding, `digits` prints a text as it comes, which `decoder` decodes group by group,
 //! `coding` says what the digits of a group stand for, `form` which bytes of a text are digits, and `misread` why it stands for no
-//! bytes. `messages` goes from message to message, `texts`, `lines`, `values`, `dates`, `masks`, `colors` and `escape` print one to any
-//! sink of texts, `back` reads diagnostics back, `from_json` JSON, and `run_error` has the reasons for statuses 2 and 3. `table` reads a
+//! bytes. `messages` goes from message to message, `texts`, `lines`, `values`, `attributes`, `dates`, `masks`, `colors` and `escape` print
+//! one to any sink of texts, `back` reads diagnostics back, `from_json` JSON, and `run_error` has the reasons for statuses 2 and 3. `table` reads a
 //! file of names, `progress` reports how far the reading is, and `memory` says where a run takes its memory from. Items, faults,
 //! diagnostics and JSON are those of kmip_ttlv_items, kmip_ttlv_util and kmip_ttlv_json.
 #![tactic(auto)]
 
+mod attributes;
 mod back;
 mod coding;
 mod colors;

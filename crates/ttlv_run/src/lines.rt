@@ -8,6 +8,7 @@ ghost use Rattle.kmip_ttlv_util.specs.Pieces.{SomeText};
 ghost use Rattle.ttlv_run.specs.Items.{IsGood};
 ghost use Rattle.ttlv_run.specs.Texts.{names_of, offset_part, tag_part, value_part, item_line, values_shown, is_passed, item_text, is_asked, reached, reach_after, IsMessageText};
 
+use crate::attributes::{Attribute, attribute_after, naming_tag};
 use crate::colors::{NONE, TAG, VALUE, push_color};
 use crate::job::{Look, Names, Values};
 use crate::values::push_shown;
@@ -17,13 +18,16 @@ use kmip_ttlv_types::{TtlvTag, TtlvType};
 use kmip_ttlv_util::{Indentation, TextSink, push_beginning, push_data_part};
 use std::alloc::Allocator;
 
-/// How far the items of some tags reach that a walk has met, in bytes from the message's first; 0 where it met none.
+/// How far the items of some tags reach that a walk has met, in bytes from the message's first, 0 where it met none; and the
+/// attribute that it is in.
 #[derive(Clone, Copy)]
 pub struct Reach {
     /// Those whose values are secret.
     pub secret: u128,
     /// Those that are asked for.
     pub asked: u128,
+    /// The attribute that the last Attribute Name names, while the walk is in the structure of that.
+    pub attribute: Option<Attribute>,
 }
 
 // How far items reach, where one more was met.
@@ -54,18 +58,37 @@ fn is_asked(only: Option<u32>, tag: TtlvTag) -> bool
     }
 }
 
-// How far the items of both kinds reach, where one more item was met.
+// What is said of an item's value, where secret items reach so far.
+fn values_shown(look: &Look, secret: u128, item: &FoundItem) -> Values
+    ensures { result ≡ values_shown look.now secret item.now }
+{
+    if look.secrets_hidden && (item.offset as u128) < secret {
+        Values::Secret
+    } else {
+        look.values
+    }
+}
+
+// How far the items of both kinds reach, and the attribute, where one more item was met.
 fn reach_after<A: Allocator>(
     names: &Names<'_, A>,
     look: &Look,
+    bytes: &[u8],
     reach: Reach,
     item: &FoundItem,
 ) -> Reach
-    ensures { result ≡ reach_after (names_of names.now) look.now reach item.now }
+    requires { IsGood bytes.now item.now }
+    ensures { result ≡ reach_after (names_of names.now) look.now bytes.now reach item.now }
 {
     let secret = reached(is_secret(names, item.tag), reach.secret, item);
     let asked = reached(is_asked(look.only, item.tag), reach.asked, item);
-    Reach { secret, asked }
+    let values = values_shown(look, secret, item);
+    let attribute = attribute_after(names, values, bytes, reach.attribute, item);
+    Reach {
+        secret,
+        asked,
+        attribute,
+    }
 }
 
 // Adds a number and a tab.
@@ -108,20 +131,22 @@ fn push_content<S: TextSink, A: Allocator>(
     out: &mut S,
     names: &Names<'_, A>,
     look: &Look,
-    values: Values,
+    reach: &Reach,
     bytes: &[u8],
     item: &FoundItem,
 ) -> Result<(), S::Error>
     requires { IsGood bytes.now item.now }
-    ensures ok { OnOk result (S.adds out.old (value_part (names_of names.now) look.now values bytes.now item.now) out.new) }
-    ensures err { OnErr result (S.breaks out.old (value_part (names_of names.now) look.now values bytes.now item.now) out.new) }
+    ensures ok { OnOk result (S.adds out.old (value_part (names_of names.now) look.now reach.now bytes.now item.now) out.new) }
+    ensures err { OnErr result (S.breaks out.old (value_part (names_of names.now) look.now reach.now bytes.now item.now) out.new) }
 {
     if item.typ == TtlvType::Structure {
         return Ok(());
     }
     let content = &bytes[item.offset + 8..item.offset + 8 + item.length as usize];
     push_color(out, look.colored, VALUE)?;
-    push_shown(out, names, values, look.width, item, content)?;
+    let values = values_shown(look, reach.secret, item);
+    let tag = naming_tag(&reach.attribute, item);
+    push_shown(out, names, values, look.width, tag, item.typ, content)?;
     push_color(out, look.colored, NONE)
 }
 
@@ -130,37 +155,26 @@ fn push_line<S: TextSink, A: Allocator>(
     out: &mut S,
     names: &Names<'_, A>,
     look: &Look,
-    values: Values,
+    reach: &Reach,
     at: usize,
     bytes: &[u8],
     item: &FoundItem,
 ) -> Result<(), S::Error>
     requires good { IsGood bytes.now item.now }
     requires within { at + length bytes.now < 2 ^ 64 }
-    ensures ok { OnOk result (S.adds out.old (item_line (names_of names.now) look.now values at bytes.now item.now) out.new) }
-    ensures err { OnErr result (S.breaks out.old (item_line (names_of names.now) look.now values at bytes.now item.now) out.new) }
+    ensures ok { OnOk result (S.adds out.old (item_line (names_of names.now) look.now reach.now at bytes.now item.now) out.new) }
+    ensures err { OnErr result (S.breaks out.old (item_line (names_of names.now) look.now reach.now at bytes.now item.now) out.new) }
 {
     push_offset(out, look.offsets, at + item.offset)?;
     push_head(out, names, look.colored, item)?;
     push_data_part(out, item.typ)?;
-    push_content(out, names, look, values, bytes, item)?;
+    push_content(out, names, look, reach, bytes, item)?;
     out.push_str("\n")
 }
 
-// What is said of an item's value, where secret items reach so far.
-fn values_shown(look: &Look, reach: Reach, item: &FoundItem) -> Values
-    ensures { result ≡ values_shown look.now reach item.now }
-{
-    if look.secrets_hidden && (item.offset as u128) < reach.secret {
-        Values::Secret
-    } else {
-        look.values
-    }
-}
-
 // Whether an item is passed over, where one tag is asked for and its items reach so far.
-fn is_passed(look: &Look, reach: Reach, item: &FoundItem) -> bool
-    ensures { result ≡ is_passed look.now.only reach item.now }
+fn is_passed(look: &Look, reach: &Reach, item: &FoundItem) -> bool
+    ensures { result ≡ is_passed look.now.only reach.now item.now }
 {
     match look.only {
         Some(_) => reach.asked <= item.offset as u128,
@@ -174,21 +188,20 @@ fn push_item<S: TextSink, A: Allocator>(
     out: &mut S,
     names: &Names<'_, A>,
     look: &Look,
-    reach: Reach,
+    reach: &Reach,
     at: usize,
     bytes: &[u8],
     item: &FoundItem,
 ) -> Result<(), S::Error>
     requires good { IsGood bytes.now item.now }
     requires within { at + length bytes.now < 2 ^ 64 }
-    ensures ok { OnOk result (S.adds out.old (item_text (names_of names.now) look.now reach at bytes.now item.now) out.new) }
-    ensures err { OnErr result (S.breaks out.old (item_text (names_of names.now) look.now reach at bytes.now item.now) out.new) }
+    ensures ok { OnOk result (S.adds out.old (item_text (names_of names.now) look.now reach.now at bytes.now item.now) out.new) }
+    ensures err { OnErr result (S.breaks out.old (item_text (names_of names.now) look.now reach.now at bytes.now item.now) out.new) }
 {
     if is_passed(look, reach, item) {
         return Ok(());
     }
-    let values = values_shown(look, reach, item);
-    push_line(out, names, look, values, at, bytes, item)
+    push_line(out, names, look, reach, at, bytes, item)
 }
 
 /// Adds the lines of a message, which begins at an offset among the bytes of all, up to its first fault, and gives that
@@ -216,12 +229,13 @@ pub fn push_lines<S: TextSink, A: Allocator + Copy>(
     let mut reach = Reach {
         secret: 0,
         asked: 0,
+        attribute: None,
     };
     'items: loop {
         match walk.next()? {
             Step::Item(item) => {
-                reach = reach_after(names, &look, reach, &item);
-                push_item(out, names, &look, reach, at, message, &item)?;
+                reach = reach_after(names, &look, message, reach, &item);
+                push_item(out, names, &look, &reach, at, message, &item)?;
             }
             Step::End(fault) => return Ok(fault),
         }

@@ -9,29 +9,19 @@ ghost use Rattle.kmip_ttlv_types.specs.declared.typ.TtlvType.TheVariants.{Intege
 ghost use Rattle.kmip_ttlv_types.specs.declared.typ.TtlvType.TheVariants.{DateTime as ADateTime};
 ghost use Rattle.kmip_ttlv_types.specs.Leaves.{is_valid};
 ghost use Rattle.kmip_ttlv_util.specs.Pretty.{value_shown};
+ghost use Rattle.ttlv_run.specs.Attributes.{enumeration_name};
 ghost use Rattle.ttlv_run.specs.Dates.{date_shown};
 ghost use Rattle.ttlv_run.specs.Texts.{names_of, behind_space, count_shown, bytes_shown, shown};
 
+use crate::attributes::enumeration_name;
 use crate::dates::push_date;
 use crate::escape::push_escaped;
 use crate::job::{Names, Values};
-use crate::masks::{push_mask, value_named};
+use crate::masks::push_mask;
 use itoa::Buffer;
-use kmip_ttlv_items::FoundItem;
 use kmip_ttlv_types::{TtlvTag, TtlvType};
 use kmip_ttlv_util::{TextSink, push_value};
 use std::alloc::Allocator;
-
-// The name of an enumeration's value, where there is one.
-fn value_name_of<'n, A: Allocator>(
-    names: &Names<'n, A>,
-    tag: TtlvTag,
-    value: u32,
-) -> Option<&'n str>
-    ensures { option_map (λ s. s.now) result ≡ (names_of names.now).values tag value }
-{
-    value_named(names, names.values.get(&tag).copied(), tag, value)
-}
 
 // Adds a name behind a space, where there is one.
 fn push_name<S: TextSink>(out: &mut S, name: Option<&str>) -> Result<(), S::Error>
@@ -56,13 +46,15 @@ fn push_enumeration<S: TextSink, A: Allocator>(
 ) -> Result<(), S::Error>
     requires { is_valid TheEnumeration content.now ≡ true }
     ensures ok { OnOk result (S.adds out.old (value_shown TheEnumeration content.now
-        ++ behind_space ((names_of names.now).values tag (from_be_bytes w32 content.now))) out.new) }
+        ++ behind_space (enumeration_name (names_of names.now).values (names_of names.now).tags tag
+        (from_be_bytes w32 content.now))) out.new) }
     ensures err { OnErr result (S.breaks out.old (value_shown TheEnumeration content.now
-        ++ behind_space ((names_of names.now).values tag (from_be_bytes w32 content.now))) out.new) }
+        ++ behind_space (enumeration_name (names_of names.now).values (names_of names.now).tags tag
+        (from_be_bytes w32 content.now))) out.new) }
 {
     push_value(out, TtlvType::Enumeration, content)?;
     let value = u32::from_be_bytes([content[0], content[1], content[2], content[3]]);
-    push_name(out, value_name_of(names, tag, value))
+    push_name(out, enumeration_name(names, tag, value))
 }
 
 // Adds the names of an integer's bits, where the tag is that of a mask or the user names them.
@@ -156,8 +148,8 @@ fn push_bytes<S: TextSink>(
     push_count(out, content.len())
 }
 
-/// Adds the value of a leaf, if it isn't hidden; a text escaped, if it isn't to be raw, and a string of bytes as far as
-/// `width` allows.
+/// Adds the value of a leaf, if it isn't hidden, named as those of this tag are; a text escaped, if it isn't to be raw, and a
+/// string of bytes as far as `width` allows.
 ///
 /// It fails where the sink fails.
 #[tactic(auto, unfolding(crate::specs::Texts::shown))]
@@ -166,24 +158,23 @@ pub fn push_shown<S: TextSink, A: Allocator>(
     names: &Names<'_, A>,
     values: Values,
     width: Option<usize>,
-    item: &FoundItem,
+    tag: TtlvTag,
+    typ: TtlvType,
     content: &[u8],
 ) -> Result<(), S::Error>
-    requires { item.now.typ ≢ TheStructure → is_valid item.now.typ content.now ≡ true }
-    ensures ok { OnOk result (S.adds out.old (shown (names_of names.now) values width item.now.tag
-        item.now.typ content.now) out.new) }
-    ensures err { OnErr result (S.breaks out.old
-        (shown (names_of names.now) values width item.now.tag item.now.typ content.now) out.new) }
+    requires { typ ≢ TheStructure → is_valid typ content.now ≡ true }
+    ensures ok { OnOk result (S.adds out.old (shown (names_of names.now) values width tag typ content.now) out.new) }
+    ensures err { OnErr result (S.breaks out.old (shown (names_of names.now) values width tag typ content.now) out.new) }
 {
-    match item.typ {
+    match typ {
         TtlvType::Structure => Ok(()),
         _ if values == Values::Secret => out.push_str("<redacted>"),
-        TtlvType::Enumeration => push_enumeration(out, names, item.tag, content),
+        TtlvType::Enumeration => push_enumeration(out, names, tag, content),
         _ if values == Values::Hidden => out.push_str("<redacted>"),
         TtlvType::TextString if values == Values::Escaped => push_escaped(out, content),
-        TtlvType::Integer => push_integer(out, names, item.tag, content),
+        TtlvType::Integer => push_integer(out, names, tag, content),
         TtlvType::DateTime => push_date_time(out, content),
         TtlvType::ByteString => push_bytes(out, width, content),
-        _ => push_value(out, item.typ, content),
+        _ => push_value(out, typ, content),
     }
 }

@@ -8,22 +8,24 @@ use Rattle.ttlv_run.specs.Masks.{value_named, mask_names}
 use Rattle.ttlv_run.specs.Texts.{Names}
 use Rattle.ttlv_words.specs.Tools.{InputsDone}
 
--- names by what tables give: of tags, of a user's values, and of those of lists and of masks; and the secrets
+-- names by what tables give: of tags, and the tags of names, of a user's values, and of those of lists and of masks; and the secrets
 abbrev pub Given : Type 0
 Given = ℕ → Option (List ℕ)
 
-abbrev pub names_by : Given → Given → Given → Given → Given → Names
-names_by tags own values masks secrets = record {
+abbrev pub names_by : Given → (List ℕ → Option ℕ) → Given → Given → Given → Given → Names
+names_by tags named own values masks secrets = record {
   tags = tags;
+  named = named;
   values = λ tag value. value_named own (values tag) tag value;
   masks = λ tag mask. mask_names (value_named own (masks tag) tag) mask;
   secrets = λ tag. is_there (secrets tag);
 }
 
-pub same_names : (t u o p v w m n s r : Given) → t ≡ u → o ≡ p → v ≡ w → m ≡ n → s ≡ r → names_by t o v m s ≡ names_by u p w n r
-same_names t u o p v w m n s r a b c d e =
-    ap (λ (x : Given). names_by x o v m s) a ∙ ap (λ (x : Given). names_by u x v m s) b ∙ ap (λ (x : Given). names_by u p x m s) c
-    ∙ ap (λ (x : Given). names_by u p w x s) d ∙ ap (λ (x : Given). names_by u p w n x) e
+pub same_names : (t u : Given) (f g : List ℕ → Option ℕ) (o p v w m n s r : Given) → t ≡ u → f ≡ g → o ≡ p → v ≡ w → m ≡ n → s ≡ r
+    → names_by t f o v m s ≡ names_by u g p w n r
+same_names t u f g o p v w m n s r a h b c d e =
+    ap (λ (x : Given). names_by x f o v m s) a ∙ ap (λ (x : List ℕ → Option ℕ). names_by u x o v m s) h ∙ ap (λ (x : Given). names_by u g x v m s) b
+    ∙ ap (λ (x : Given). names_by u g p x m s) c ∙ ap (λ (x : Given). names_by u g p w x s) d ∙ ap (λ (x : Given). names_by u g p w n x) e
 
 pub inputs_as : {O I : Type 0} (how : Opening O I) (n m : Names) (a b : Asked) (f g : List (Bor (List ℕ))) (old was new : At O)
     (can_fail : Bool) (l r : Option (List ℕ)) (status : ℕ)

@@ -134,6 +134,7 @@ pub data IsRefused
 abbrev pub names_for : List ℕ → List ℕ → Names
 names_for tags secret = record {
   tags = tags_in tags;
+  named = λ name. tag_named name tags;
   values = λ tag value. value_named (value_names_of tags) (tags_in STANDARD_VALUES.now tag) tag value;
   masks = λ tag mask. mask_names (value_named (value_names_of tags) (tags_in STANDARD_MASKS.now tag) tag) mask;
   secrets = λ tag. is_there (tags_in secret tag);

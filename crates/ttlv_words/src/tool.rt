@@ -14,7 +14,7 @@ use clap::Error;
 use clap::error::ErrorKind;
 use kmip_ttlv_names::{
     STANDARD_MASKS, STANDARD_SECRETS, STANDARD_TAGS, STANDARD_VALUES, TableError, own_names,
-    tag_named, tag_names,
+    tag_named, tag_names, tags_by_name,
 };
 use kmip_ttlv_types::TtlvTag;
 use kmip_ttlv_types::stream::{Sink, Source};
@@ -178,8 +178,12 @@ fn names_in<'t, B: Allocator + Copy>(
     ensures bad { IfErr result (λ e. (n : ℕ) → e ≡ ABadLine n → HasBadLine tags.now secrets.now n) }
 {
     let own = own_names(alloc, tags)?;
+    let Ok(by_name) = tags_by_name(alloc, tags) else {
+        return Err(TableError::OutOfMemory);
+    };
     Ok(Names {
         tags: own.tags,
+        by_name,
         values: tag_names(alloc, STANDARD_VALUES)?,
         masks: tag_names(alloc, STANDARD_MASKS)?,
         own: own.values,

@@ -1,5 +1,5 @@
-use Rattle.std.proofs.Common.{rules, ◌≡◌, ◌∙◌, true, false, sym, ap}
-use Rattle.ttlv_run.specs.{Files.no_file, Files.stops, Files.greater, Reasons.status_in, Texts.names_of}
+use Rattle.std.proofs.Common.{◌∙◌, true, false, sym, ap}
+use Rattle.ttlv_run.specs.{Files.no_file, Files.greater, Texts.names_of}
 use Rattle.ttlv_run.proofs.Sequences.{done_more, done_last}
 use Rattle.ttlv_run.proofs.files.run_files.Goals as goal
 

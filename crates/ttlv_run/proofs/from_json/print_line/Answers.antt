@@ -1,7 +1,7 @@
-use Rattle.std.proofs.Common.{rules, ◌≡◌, ◌≢◌, ◌∙◌, inl, inr, List, ℕ, [], sym, refl, subst}
+use Rattle.std.proofs.Common.{rules, ◌∙◌, inl, inr, List, ℕ, [], sym, refl, subst}
 use Rattle.kmip_ttlv_types.proofs.Held.{gets_none}
 use Rattle.kmip_ttlv_json.specs.Readings.{IsReadAs, FailsToRead}
-use Rattle.ttlv_run.specs.{Columns.body, JsonLines.IsBlank, JsonLines.Spoils, JsonLines.shown}
+use Rattle.ttlv_run.specs.{Columns.body, JsonLines.IsBlank, JsonLines.shown}
 use Rattle.std.proofs.lemmas.Result.{err_from_is_err_and}
 use Rattle.ttlv_run.proofs.from_json.print_line.Goals as goal
 

@@ -1,7 +1,7 @@
-use Rattle.std.proofs.Common.{◌≡◌, ◌≢◌, ◌∙◌, ℕ, ◌+◌, Bool, true, false, List, [], ◌∷◌, length, drop, get_or, ap, sym, refl}
+use Rattle.std.proofs.Common.{◌≡◌, ◌≢◌, ◌∙◌, ℕ, Bool, true, false, List, [], ◌∷◌, drop, get_or, ap, sym, refl}
 use Rattle.std.proofs.Common.{arith, ◌&&◌, ◌==◌}
 use Rattle.std.proofs.lemmas.Bool.{eqb-true, and_parts}
-use Rattle.ttlv_run.specs.Columns.{mark_length, body}
+use Rattle.ttlv_run.specs.Columns.{mark_length}
 use Rattle.ttlv_run.proofs.guess.unmarked.Goals as goal
 
 -- a text with the mark

@@ -1,7 +1,7 @@
-use Rattle.std.proofs.Common.{rules, List, ℕ}
+use Rattle.std.proofs.Common.{rules}
 use Rattle.kmip_ttlv_types.specs.Held.{held}
 use Rattle.kmip_ttlv_util.specs.Pieces.{SomeText, WritesFront, buffered}
-use Rattle.kmip_ttlv_util.proofs.Saying.{closed_by, lent_buffer, sink_of}
+use Rattle.kmip_ttlv_util.proofs.Saying.{closed_by, lent_buffer}
 use Rattle.kmip_ttlv_util.specs.TagNames.{name_in}
 use Rattle.ttlv_run.specs.{Backs.ReadsBack, Backs.ReadsFront, Reasons.PrintsFront}
 use Rattle.ttlv_run.proofs.{Printing.ok_all, Printing.printed_text, BackLines.back_front}

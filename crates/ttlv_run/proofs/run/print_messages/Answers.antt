@@ -1,7 +1,7 @@
-use Rattle.std.proofs.Common.{rules, List, ℕ}
+use Rattle.std.proofs.Common.{rules}
 use Rattle.kmip_ttlv_types.specs.Held.{held, Gets}
 use Rattle.kmip_ttlv_util.specs.Pieces.{SomeText, WritesFront, buffered}
-use Rattle.kmip_ttlv_util.proofs.Saying.{closed_by, lent_buffer, sink_of}
+use Rattle.kmip_ttlv_util.proofs.Saying.{closed_by, lent_buffer}
 use Rattle.ttlv_run.specs.{Streaming.PrintsOn, Streaming.ContinuesBehind, Texts.names_of, Reasons.PrintsFront}
 use Rattle.ttlv_run.proofs.{Printing.ok_so, Printing.printed_text, Windows.goes_on}
 use Rattle.ttlv_run.proofs.run.print_messages.Goals as goal
