@@ -9,3 +9,6 @@ pub mod Determining
 pub mod ReadingBack
 pub mod Returning
 pub mod Sounding
+pub mod Converted
+pub mod Events
+pub mod MembersMet

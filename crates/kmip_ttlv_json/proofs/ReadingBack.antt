@@ -22,7 +22,7 @@ before_last : (us : Trees) (t : Tree) (rest : Result Trees BadMember) → before
 before_last no_trees t rest = refl
 before_last (tree u us) t rest = ap (both (Ok u)) (before_last us t rest)
 
-before_bad : (us : Trees) (bad : BadMember) → before us (Err bad) ≡ Err bad
+pub before_bad : (us : Trees) (bad : BadMember) → before us (Err bad) ≡ Err bad
 before_bad no_trees bad = refl
 before_bad (tree u us) bad = ap (both (Ok u)) (before_bad us bad)
 

@@ -40,15 +40,21 @@ type_named s =
     if bytes_eq s (type_word DateTime) then Some DateTime else
     if bytes_eq s (type_word Interval) then Some Interval else None
 
--- the tag: 0x and six digits
-abbrev pub tag_in : Data → Option ℕ
-tag_in d =
+-- the tag of a text, if there is one: 0x and six digits
+abbrev pub tag_of_text : Option (List ℕ) → Option ℕ
+tag_of_text text =
     option_map (λ bytes. from_be_bytes w32 (0 ∷ bytes))
-    (option_and_then (λ digits. result_ok (decode_sized digits 3)) (option_and_then behind_0x (as_str d)))
+    (option_and_then (λ digits. result_ok (decode_sized digits 3)) (option_and_then behind_0x text))
 
--- the type, by its name
+abbrev pub tag_in : Data → Option ℕ
+tag_in d = tag_of_text (as_str d)
+
+-- the type of a text, by its name
+abbrev pub type_of_text : Option (List ℕ) → Option TtlvType
+type_of_text text = option_and_then type_named text
+
 abbrev pub type_in : Data → Option TtlvType
-type_in d = option_and_then type_named (as_str d)
+type_in d = type_of_text (as_str d)
 
 -- the bytes of a Boolean
 abbrev pub boolean_bytes : Bool → List ℕ
@@ -60,18 +66,24 @@ text_content TextString s = Some s
 text_content ByteString s = bytes_of s
 text_content typ s = option_and_then bytes_of (behind_0x s)
 
--- the bytes that a leaf's value stands for
+-- the bytes that a leaf's value stands for: a text, or `true` or `false`
+abbrev pub content_of : TtlvType → Option (List ℕ) → Option Bool → Option (List ℕ)
+content_of Boolean text truth = option_map boolean_bytes truth
+content_of typ text truth = option_and_then (text_content typ) text
+
 abbrev pub content_in : TtlvType → Data → Option (List ℕ)
-content_in Boolean value = option_map boolean_bytes (as_bool value)
-content_in typ value = option_and_then (text_content typ) (as_str value)
+content_in typ value = content_of typ (as_str value) (as_bool value)
 
 -- they are valid for its type
 abbrev pub valid_in : TtlvType → List ℕ → Option (List ℕ)
 valid_in typ content = if is_valid typ content then Some content else None
 
 -- a leaf
+abbrev pub leaf_of : ℕ → TtlvType → Option (List ℕ) → Result Tree BadMember
+leaf_of tag typ content = ok_or (option_map (leaf tag typ) (option_and_then (valid_in typ) content)) Value
+
 abbrev pub leaf_in : ℕ → TtlvType → Data → Result Tree BadMember
-leaf_in tag typ value = ok_or (option_map (leaf tag typ) (option_and_then (valid_in typ) (content_in typ value))) Value
+leaf_in tag typ value = leaf_of tag typ (content_in typ value)
 
 -- a structure of these trees
 abbrev pub node_of : ℕ → Result Trees BadMember → Result Tree BadMember

@@ -4,4 +4,5 @@ pub mod Parts
 pub mod Printings
 pub mod JsonTrees
 pub mod Readings
+pub mod Events
 pub mod Laws

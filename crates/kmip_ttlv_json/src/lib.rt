@@ -3,17 +3,21 @@
 //! `print` prints a message as a line of JSON, item by item, over the walk of kmip_ttlv_items, and `quoted` a text in
 //! it. The JSON of a message is defined over trees in specs/Jsons, in the words of the toolchain's `serde_json`.
 //!
-//! `read` reads a message back from JSON that `serde_json` parses, into canonical bytes; `members` has what the members of an
-//! item stand for, `nesting` whether it nests too deep, and `failure` why a text is no message. The tree that JSON is, is defined in specs/JsonTrees.
+//! `read` reads a message back from JSON as `serde_json` parses it, into canonical bytes, with no tree between: `seen` has what a value is
+//! seen as, `number` which numbers there are, `members` what the members of an item stand for, `adding` the bytes of items, `nesting`
+//! whether it nests too deep, and `failure` why a text is no message. The tree that JSON is, is defined in specs/JsonTrees.
 #![tactic(auto)]
 
+mod adding;
 mod failure;
 pub mod laws;
 mod members;
 mod nesting;
+mod number;
 mod print;
 mod quoted;
 mod read;
+mod seen;
 
 pub use failure::{BadMember, JsonError};
 pub use print::{Hiding, push_json};

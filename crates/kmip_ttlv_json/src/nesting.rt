@@ -6,7 +6,7 @@ ghost use Rattle.json.specs.Reads.{token_of};
 ghost use Rattle.kmip_ttlv_json.specs.Readings.{depth_behind, is_deep};
 
 use json::{Reader, Scratch, Token};
-use std::alloc::{AllocError, Global};
+use std::alloc::{AllocError, Allocator};
 
 // How many brackets are open behind a token, where so many are in front of it.
 fn depth_behind(depth: usize, token: Token<'_>) -> usize
@@ -28,11 +28,13 @@ pub struct Deep {
 }
 
 /// Returns the first bracket of a text that opens in 127 others, if there is one.
-pub fn first_deep(alloc: Global, text: &str) -> Result<Option<Deep>, AllocError>
+pub fn first_deep<A: Allocator>(
+    text: &str,
+    scratch: &mut Scratch<A>,
+) -> Result<Option<Deep>, AllocError>
     ensures { IfOk result (λ deep. is_some deep ≡ is_deep 0 (tokens text.now)) }
 {
-    let mut scratch = Scratch::new(alloc);
-    let mut reader = Reader::new(text, &mut scratch)?;
+    let mut reader = Reader::new(text, scratch)?;
     let mut depth = 0;
     let mut at = reader.offset();
     'tokens: while let Some(token) = reader.next() {

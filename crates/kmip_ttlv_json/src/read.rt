@@ -1,143 +1,292 @@
-//! A message read back from its JSON.
+//! A message read back from its JSON: event by event, with no tree between.
 
-ghost use Rattle.std.specs.Prelude.{◌≡◌, None, ◌+◌, ◌-◌, ◌≤◌, ◌++◌, true, false, length, take, drop, OnOk, IfOk, IfErr};
-ghost use Rattle.std.specs.Int.{w32, to_be_bytes};
-ghost use Rattle.serde_json.specs.Read.{read};
-ghost use Rattle.serde_json.specs.View.{view, items_view};
+ghost use Rattle.std.specs.Prelude.{◌≡◌, ◌+◌, ◌-◌, ◌≤◌, ◌<◌, ◌++◌, ℕ, List, true, None, Ok, Err, IfOk, IfErr, OnOk, length, take, drop};
+ghost use Rattle.json.specs.Json.{value, items, members};
+ghost use Rattle.serde_json.specs.Data.{Members as DataMembers, object, no_members};
+ghost use Rattle.serde_json.specs.Read.{read, converted, of_json, of_items, of_members};
+ghost use Rattle.kmip_ttlv_types.specs.declared.typ.TtlvType.TheVariants.{Structure as AStructure};
 ghost use Rattle.kmip_ttlv_types.specs.Items.{header};
-ghost use Rattle.kmip_ttlv_types.specs.Trees.{leaf_bytes};
-ghost use Rattle.kmip_ttlv_json.specs.JsonTrees.{leaf_in, node_of, tree_of, below_of, trees_of};
-ghost use Rattle.kmip_ttlv_json.specs.Readings.{IsReadAs, FailsToRead, Fails, AddsTree, AddsTrees};
+ghost use Rattle.kmip_ttlv_json.specs.declared.read.Stop.TheVariants.{NotJson as IsNotJson, NoMemory as IsNoMemory};
+ghost use Rattle.kmip_ttlv_json.specs.JsonTrees.{tree_of};
+ghost use Rattle.kmip_ttlv_json.specs.Readings.{IsReadAs, FailsToRead};
+ghost use Rattle.kmip_ttlv_json.specs.Events.{items_in, both_seen, kept, AddsItem, HasRoom, Meets, Stops, Reads, ReadsItems, ReadsMembers, ReadsMember, ReadsText};
 
+use crate::adding::{push_value, set_header};
 use crate::failure::{BadMember, JsonError};
-use crate::members::{content_of, members_of, tag_of, type_of};
+use crate::members::{Members, tag_of, type_of};
 use crate::nesting::{first_deep, place_of};
-use kmip_ttlv_types::places::is_valid;
+use crate::number::is_in_range;
+use crate::seen::Seen;
+use json::{Invalid, Reader, Scratch, Token};
 use kmip_ttlv_types::{TtlvTag, TtlvType};
-use serde_json::Value;
-use std::alloc::{AllocError, Global};
+use std::alloc::{AllocError, Allocator};
 
-// The four bytes of a length field, of a length that may be too long.
-fn length_bytes(len: usize) -> [u8; 4]
-    ensures { result ≡ to_be_bytes w32 len }
-{
-    let [_, _, _, _, a, b, c, d] = (len as u64).to_be_bytes();
-    [a, b, c, d]
+// How deep JSON may nest.
+const MAX_DEPTH: usize = 127;
+
+/// Why reading stopped.
+#[derive(Clone, Copy)]
+pub enum Stop {
+    /// The text is not JSON.
+    NotJson,
+    /// Out of memory.
+    NoMemory,
 }
 
-// Adds a header.
-fn push_header(out: &mut Vec<u8>, tag: TtlvTag, typ: TtlvType, len: usize) -> Result<(), AllocError>
-    ensures { OnOk result (out.new.items ≡ out.old.items ++ header tag typ len) }
-{
-    let [a, b, c]: [u8; 3] = tag.into();
-    let [d, e, f, g] = length_bytes(len);
-    out.extend_from_slice(&[a, b, c, typ.code(), d, e, f, g])
-}
+impl From<Invalid> for Stop {
+    ghost from_gives = { λ _ e. e ≡ IsNotJson };
 
-// Adds a leaf.
-fn push_leaf(
-    out: &mut Vec<u8>,
-    tag: TtlvTag,
-    typ: TtlvType,
-    content: &[u8],
-) -> Result<(), AllocError>
-    ensures { OnOk result (out.new.items ≡ out.old.items ++ leaf_bytes tag typ content.now) }
-{
-    let padding = (8 - content.len() % 8) % 8;
-    push_header(out, tag, typ, content.len())?;
-    out.extend_from_slice(content)?;
-    out.extend_from_slice(&[0; 8][..padding])?;
-    Ok(())
-}
-
-// Fills in the length of the last structure, whose header is at this offset.
-fn set_length(out: &mut [u8], top: usize)
-    requires { top + 8 ≤ length out.old }
-    ensures { out.new ≡ take (top + 4) out.old ++ (to_be_bytes w32 (length out.old - (top + 8)) ++ drop (top + 8) out.old) }
-{
-    let len = out.len() - (top + 8);
-    out[top + 4..top + 8].copy_from_slice(&length_bytes(len));
-}
-
-// Adds the leaf whose value is this JSON.
-fn push_value(
-    alloc: Global,
-    out: &mut Vec<u8>,
-    tag: TtlvTag,
-    typ: TtlvType,
-    value: &Value,
-) -> Result<(), JsonError>
-    ensures ok { OnOk result (AddsTree (leaf_in tag typ (view value.now)) out.old.items out.new.items false) }
-    ensures err { IfErr result (Fails (leaf_in tag typ (view value.now))) }
-{
-    let Some(content) = content_of(alloc, typ, value)? else {
-        return Err(JsonError::NotItem(BadMember::Value));
-    };
-    if !is_valid(typ, content.as_slice()) {
-        return Err(JsonError::NotItem(BadMember::Value));
+    fn from(_: Invalid) -> Stop {
+        Stop::NotJson
     }
-    push_leaf(out, tag, typ, content.as_slice())?;
-    Ok(())
 }
 
-// Adds the structure whose value is this JSON.
-#[cycle(tree)]
-fn push_node(alloc: Global, out: &mut Vec<u8>, tag: TtlvTag, value: &Value) -> Result<(), JsonError>
-    ensures ok { OnOk result (AddsTree (node_of tag (below_of (view value.now))) out.old.items out.new.items true) }
-    ensures err { IfErr result (Fails (below_of (view value.now))) }
-{
-    let Value::Array(items) = value else {
-        return Err(JsonError::NotItem(BadMember::Value));
-    };
-    let top = out.len();
-    push_header(out, tag, TtlvType::Structure, 0)?;
-    push_items(alloc, out, items)?;
-    set_length(out.as_mut_slice(), top);
-    Ok(())
-}
+impl From<AllocError> for Stop {
+    ghost from_gives = { λ _ e. e ≡ IsNoMemory };
 
-// Adds the items that these are the JSON of.
-#[cycle(tree)]
-fn push_items(alloc: Global, out: &mut Vec<u8>, items: &Vec<Value>) -> Result<(), JsonError>
-    ensures ok { OnOk result (AddsTrees (trees_of (items_view items.now.items)) out.old.items out.new.items) }
-    ensures err { IfErr result (Fails (trees_of (items_view items.now.items))) }
-{
-    for item in items {
-        push_tree(alloc, out, item)?;
+    fn from(_: AllocError) -> Stop {
+        Stop::NoMemory
     }
-    Ok(())
 }
 
-// Adds the item that this is the JSON of, and returns whether it is a Structure.
-#[cycle(tree)]
-fn push_tree(alloc: Global, out: &mut Vec<u8>, item: &Value) -> Result<bool, JsonError>
-    ensures ok { IfOk result (AddsTree (tree_of (view item.now)) out.old.items out.new.items) }
-    ensures err { IfErr result (Fails (tree_of (view item.now))) }
+// What is wrong with items, behind which there is one more.
+fn both(items: Result<(), BadMember>, item: Result<bool, BadMember>) -> Result<(), BadMember>
+    ensures { result ≡ both_seen items item }
 {
-    let Some(members) = members_of(item) else {
-        return Err(JsonError::NotItem(BadMember::Members));
+    match (items, item) {
+        (Ok(()), Ok(_)) => Ok(()),
+        (Ok(()), Err(bad)) => Err(bad),
+        (Err(bad), _) => Err(bad),
+    }
+}
+
+// Drops the bytes behind a mark, unless all are items.
+fn keep_items<A: Allocator>(out: &mut Vec<u8, A>, mark: usize, items: Result<(), BadMember>)
+    ensures { out.new.items ≡ kept mark items out.old.items }
+{
+    if items.is_err() {
+        out.truncate(mark);
+    }
+}
+
+// Ends the structure whose items' bytes are behind room at an offset, if its value is items.
+fn end_structure<A: Allocator>(
+    out: &mut Vec<u8, A>,
+    top: usize,
+    tag: TtlvTag,
+    value: Seen<'_>,
+) -> Result<bool, BadMember>
+    requires { items_in value ≡ Ok tt → top + 8 ≤ length out.old.items }
+    ensures ok { IfOk result (λ structure. (structure ≡ true) × (items_in value.entry ≡ Ok tt) × (out.new.items ≡ take top out.old.items
+        ++ (header tag AStructure (length out.old.items - (top + 8)) ++ drop (top + 8) out.old.items))) }
+    ensures err { IfErr result (λ bad. (items_in value.entry ≡ Err bad) × (out.new.items ≡ out.old.items)) }
+{
+    value.items()?;
+    set_header(out.as_mut_slice(), top, tag);
+    Ok(true)
+}
+
+// Ends the item whose members were met, and whose value's bytes are behind an offset.
+fn end_item<A: Allocator + Copy>(
+    alloc: A,
+    out: &mut Vec<u8, A>,
+    top: usize,
+    met: Members<'_>,
+) -> Result<Result<bool, BadMember>, AllocError>
+    requires { HasRoom met top (length out.old.items) }
+    ensures { IfOk result (λ item. (json : DataMembers) (front : List ℕ) → length front ≡ top → Meets json met.entry front out.old.items
+        → AddsItem (tree_of (object json)) front out.new.items item) }
+{
+    if met.others {
+        return Ok(Err(BadMember::Members));
+    }
+    let Some(tag) = met.tag else {
+        return Ok(Err(BadMember::Members));
     };
-    let Some(tag) = tag_of(members.tag) else {
-        return Err(JsonError::NotItem(BadMember::Tag));
+    let Some(typ) = met.typ else {
+        return Ok(Err(BadMember::Members));
     };
-    let Some(typ) = type_of(members.typ) else {
-        return Err(JsonError::NotItem(BadMember::Typ));
+    let Some(value) = met.value else {
+        return Ok(Err(BadMember::Members));
+    };
+    let Some(tag) = tag_of(tag.text()) else {
+        return Ok(Err(BadMember::Tag));
+    };
+    let Some(typ) = type_of(typ.text()) else {
+        return Ok(Err(BadMember::Typ));
     };
     if typ == TtlvType::Structure {
-        push_node(alloc, out, tag, members.value)?;
-        return Ok(true);
+        return Ok(end_structure(out, top, tag, value));
     }
-    push_value(alloc, out, tag, typ, members.value)?;
-    Ok(false)
+    out.truncate(top);
+    push_value(alloc, out, tag, typ, value)
 }
 
-// Why a text is not read as JSON, where that is seen at this place.
-fn refusal(alloc: Global, text: &str, line: usize, column: usize) -> Result<JsonError, AllocError>
+// Reads a value, and adds the bytes of the items that it is.
+#[cycle(read)]
+fn read_value<'t, A: Allocator + Copy>(
+    alloc: A,
+    reader: &mut Reader<'t>,
+    depth: usize,
+    out: &mut Vec<u8, A>,
+) -> Result<Seen<'t>, Stop>
+    ensures ok { IfOk result (Reads depth reader.old reader.new out.old.items out.new.items) }
+    ensures shorter { OnOk result (length reader.new < length reader.old) }
+    ensures err { IfErr result (Stops (converted of_json (value depth reader.old))) }
+{
+    let token = reader.next().ok_or(Stop::NotJson)?;
+    match token {
+        Token::String(text) => Ok(Seen::Text(text)),
+        Token::Number(text) => if is_in_range(text) {
+            Ok(Seen::Other)
+        } else {
+            Err(Stop::NotJson)
+        },
+        Token::Bool(truth) => Ok(Seen::Truth(truth)),
+        Token::Null => Ok(Seen::Other),
+        Token::EndObject | Token::EndArray | Token::Key(_) | Token::Bad => Err(Stop::NotJson),
+        Token::BeginArray => {
+            if depth == 0 {
+                return Err(Stop::NotJson);
+            }
+            Ok(Seen::Items(read_items(alloc, reader, depth - 1, out)?))
+        }
+        Token::BeginObject => {
+            if depth == 0 {
+                return Err(Stop::NotJson);
+            }
+            Ok(Seen::Item(read_members(alloc, reader, depth - 1, out)?))
+        }
+    }
+}
+
+// Reads the rest of an array, and adds the bytes of its items behind room for a header.
+#[cycle(read)]
+fn read_items<'t, A: Allocator + Copy>(
+    alloc: A,
+    reader: &mut Reader<'t>,
+    depth: usize,
+    out: &mut Vec<u8, A>,
+) -> Result<Result<(), BadMember>, Stop>
+    ensures ok { IfOk result (ReadsItems depth reader.old reader.new out.old.items out.new.items) }
+    ensures shorter { OnOk result (length reader.new < length reader.old) }
+    ensures err { IfErr result (Stops (converted of_items (items (value depth) (length reader.old) reader.old))) }
+{
+    out.extend_from_slice(&[0; 8])?;
+    let mut all = Ok(());
+    'items: while !reader.take_end_array() {
+        let mark = out.len();
+        let seen = read_value(alloc, reader, depth, out)?;
+        all = both(all, seen.item());
+        keep_items(out, mark, all);
+    }
+    Ok(all)
+}
+
+// Reads the rest of an object, and adds the bytes of the item that it is.
+#[cycle(read)]
+fn read_members<'t, A: Allocator + Copy>(
+    alloc: A,
+    reader: &mut Reader<'t>,
+    depth: usize,
+    out: &mut Vec<u8, A>,
+) -> Result<Result<bool, BadMember>, Stop>
+    ensures ok { IfOk result (ReadsMembers depth reader.old reader.new out.old.items out.new.items) }
+    ensures shorter { OnOk result (length reader.new < length reader.old) }
+    ensures err { IfErr result (Stops (converted (λ ms. of_members ms no_members) (members (value depth) (length reader.old) reader.old))) }
+{
+    let top = out.len();
+    let mut met = Members {
+        tag: None,
+        typ: None,
+        value: None,
+        others: false,
+    };
+    'members: while let Some(name) = reader.next_key()? {
+        met = read_member(alloc, reader, depth, out, top, name, met)?;
+    }
+    Ok(end_item(alloc, out, top, met)?)
+}
+
+// Reads a member with this name behind those that were met. Of its value the bytes stay, behind an offset.
+#[cycle(read)]
+fn read_member<'t, A: Allocator + Copy>(
+    alloc: A,
+    reader: &mut Reader<'t>,
+    depth: usize,
+    out: &mut Vec<u8, A>,
+    top: usize,
+    name: &str,
+    met: Members<'t>,
+) -> Result<Members<'t>, Stop>
+    requires { top ≤ length out.old.items }
+    ensures ok { IfOk result (ReadsMember depth name.now reader.old reader.new top out.old.items out.new.items met.entry) }
+    ensures shorter { OnOk result (length reader.new < length reader.old) }
+    ensures err { IfErr result (Stops (converted of_json (value depth reader.old))) }
+{
+    if name == "value" {
+        out.truncate(top);
+        let seen = read_value(alloc, reader, depth, out)?;
+        return Ok(Members {
+            value: Some(seen),
+            ..met
+        });
+    }
+    let mark = out.len();
+    let seen = read_value(alloc, reader, depth, out)?;
+    out.truncate(mark);
+    if name == "tag" {
+        return Ok(Members {
+            tag: Some(seen),
+            ..met
+        });
+    }
+    if name == "type" {
+        return Ok(Members {
+            typ: Some(seen),
+            ..met
+        });
+    }
+    Ok(Members {
+        others: true,
+        ..met
+    })
+}
+
+// Reads a text that is an item, and adds its bytes to none; otherwise gives where reading stopped.
+fn read_text<A: Allocator + Copy>(
+    alloc: A,
+    text: &str,
+    scratch: &mut Scratch<A>,
+    out: &mut Vec<u8, A>,
+) -> Result<Result<bool, BadMember>, (Stop, usize)>
+    ensures ok { IfOk result (ReadsText text.now out.old.items out.new.items) }
+    ensures err { IfErr result (λ e. Stops (read text.now) e.0) }
+{
+    let Ok(mut reader) = Reader::new(text, scratch) else {
+        return Err((Stop::NoMemory, 0));
+    };
+    let read = read_value(alloc, &mut reader, MAX_DEPTH, out);
+    let end = reader.offset();
+    match read {
+        Ok(_) if reader.next().is_some() => Err((Stop::NotJson, end)),
+        Ok(seen) => Ok(seen.item()),
+        Err(stop) => Err((stop, end)),
+    }
+}
+
+// Why a text is not read as JSON, where that is seen at this offset.
+fn refusal<A: Allocator>(
+    text: &str,
+    scratch: &mut Scratch<A>,
+    end: usize,
+) -> Result<JsonError, AllocError>
     requires { read text.now ≡ None }
     ensures { IfOk result (FailsToRead text.now) }
 {
-    Ok(match first_deep(alloc, text)? {
-        Some(deep) if place_of(text, deep.behind) == (line, column) => {
+    let (line, column) = place_of(text, end);
+    Ok(match first_deep(text, scratch)? {
+        Some(deep) if deep.behind == end => {
             let (line, column) = place_of(text, deep.at);
             JsonError::TooDeep { line, column }
         }
@@ -151,25 +300,28 @@ fn refusal(alloc: Global, text: &str, line: usize, column: usize) -> Result<Json
 /// prints: a tag is `0x` and six digits, a type its name, and digits are of either case. Of a member that is given twice
 /// the last counts.
 ///
+/// It takes no more memory than twice the text's length, beside a constant, and stack for 127 levels at most.
+///
 /// Errors: `NotJson` and `TooDeep` with their place; `NotItem` with what is wrong with the first item that isn't one; `NotStructure` if the
 /// root isn't one; `TooLong` if a Structure has 2^32 bytes of content or more; `OutOfMemory`.
 ///
 /// [`push_json`]: crate::push_json
-pub fn from_json(alloc: Global, text: &str) -> Result<Vec<u8>, JsonError>
+pub fn from_json<A: Allocator + Copy>(alloc: A, text: &str) -> Result<Vec<u8, A>, JsonError>
     ensures ok { IfOk result (λ out. IsReadAs text.now out.items) }
     ensures err { IfErr result (FailsToRead text.now) }
 {
-    let item = match Value::from_str(alloc, text) {
-        Ok(item) => item,
-        Err(e) if e.is_memory() => return Err(JsonError::OutOfMemory),
-        Err(e) => return Err(refusal(alloc, text, e.line(), e.column())?),
-    };
+    let mut scratch = Scratch::new(alloc);
     let mut out = Vec::new(alloc);
-    if !push_tree(alloc, &mut out, &item)? {
-        return Err(JsonError::NotStructure);
+    out.reserve_exact(text.len())?;
+    let item = match read_text(alloc, text, &mut scratch, &mut out) {
+        Ok(item) => item,
+        Err((Stop::NotJson, end)) => return Err(refusal(text, &mut scratch, end)?),
+        Err((Stop::NoMemory, _)) => return Err(JsonError::OutOfMemory),
+    };
+    match item {
+        Ok(true) if out.len() >= 8 + (1 << 32) => Err(JsonError::TooLong),
+        Ok(true) => Ok(out),
+        Ok(false) => Err(JsonError::NotStructure),
+        Err(bad) => Err(JsonError::NotItem(bad)),
     }
-    if out.len() >= 8 + (1 << 32) {
-        return Err(JsonError::TooLong);
-    }
-    Ok(out)
 }

@@ -1,0 +1,371 @@
+-- The members of an object that were met, and the item that they make.
+use Rattle.std.proofs.Common.{◌≡◌, ◌≢◌, ◌∙◌, ℕ, ◌+◌, ◌-◌, ◌≤◌, Bool, true, false, not, ◌&&◌, ◌||◌, List, [], ◌∷◌, ◌++◌, length, take, drop, Option, Some, None, Ordering, Less, Equal, Greater}
+use Rattle.std.proofs.Common.{Result, Ok, Err, refl, ap, sym, subst, arith, length-append, append_assoc}
+use Rattle.std.proofs.lemmas.List.{take_at, drop_at}
+use Rattle.std.proofs.lemmas.Map.Lookups.{exact_bytes}
+use Rattle.std.specs.Prelude.{codes, if◌then◌else◌, IfOk, IfErr}
+use Rattle.std.specs.Ordering.{nat_cmp, match_ordering}
+use Rattle.std.specs.Cmp.Lexicographic.{slice_cmp}
+use Rattle.std.specs.Str.{bytes_eq}
+use Rattle.serde_json.specs.Data.{Data, object, Members, no_members, member, put}
+use Rattle.serde_json.specs.Find.{as_str, as_bool}
+use Rattle.kmip_ttlv_types.specs.declared.typ.TtlvType.{TtlvType, TheVariants.Structure}
+use Rattle.kmip_ttlv_types.specs.Items.{header}
+use Rattle.kmip_ttlv_types.specs.Trees.{Tree, Trees, node, bytes, node_bytes, bytes_below}
+use Rattle.kmip_ttlv_json.specs.declared.failure.BadMember.{BadMember}
+use Rattle.kmip_ttlv_json.specs.declared.failure.BadMember.TheVariants.{Members as BadMembers, Tag, Typ}
+use Rattle.kmip_ttlv_json.specs.declared.seen.Seen.{Seen}
+use Rattle.kmip_ttlv_json.specs.declared.members.Members.{Members as SeenMembers}
+use Rattle.kmip_ttlv_json.specs.JsonTrees.{tag_in, tag_of_text, type_of_text, content_of, leaf_in, leaf_of, node_of, typed_in, tagged_in, are_named, tree_of, below_of}
+use Rattle.kmip_ttlv_json.specs.Events.{text_in, truth_in, items_in, room, AddsItem, AreSeen, IsItem, IsSeen, is_other, has_other, three, HasText, HasValue, AreThree}
+use Rattle.kmip_ttlv_json.specs.Events.{AreMet, Meets}
+use Rattle.kmip_ttlv_json.proofs.Determining.{both_true}
+
+-- ---- members with other names
+
+either : (a b : Bool) → b ≡ true → (a || b) ≡ true
+either true b h = refl
+either false b h = h
+
+put_keeps : (o : Ordering) (a b c : Members) → has_other a ≡ true → has_other b ≡ true → has_other c ≡ true → has_other (match_ordering o a b c) ≡ true
+put_keeps Less a b c p q r = p
+put_keeps Equal a b c p q r = q
+put_keeps Greater a b c p q r = r
+
+later : (x y z : Bool) → (x || y) ≡ true → (y ≡ true → z ≡ true) → (x || z) ≡ true
+later true y z h f = refl
+later false y z h f = f h
+
+other_stays : (k : List ℕ) (d : Data) (ms : Members) → has_other ms ≡ true → has_other (put k d ms) ≡ true
+other_stays k d no_members h = absurd (cc)
+other_stays k d (member l e ms) h =
+    put_keeps (slice_cmp nat_cmp k l) (member k d (member l e ms)) (member l d ms) (member l e (put k d ms))
+    (either (is_other k) (has_other (member l e ms)) h) h (later (is_other l) (has_other ms) (has_other (put k d ms)) h (other_stays k d ms))
+
+front_other : (x y : Bool) → x ≡ true → (x || y) ≡ true
+front_other true y h = refl
+front_other false y h = absurd (cc)
+
+-- the comparison's answer is looked at, and what it means
+put_front : (o : Ordering) (k l : List ℕ) (d e : Data) (ms : Members) → slice_cmp nat_cmp k l ≡ o → is_other k ≡ true → has_other (put k d ms) ≡ true
+    → has_other (match_ordering o (member k d (member l e ms)) (member l d ms) (member l e (put k d ms))) ≡ true
+put_front Less k l d e ms is h more = front_other (is_other k) (has_other (member l e ms)) h
+put_front Equal k l d e ms is h more = front_other (is_other l) (has_other ms) (subst (λ n. is_other n ≡ true) (exact_bytes k l is) h)
+put_front Greater k l d e ms is h more = either (is_other l) (has_other (put k d ms)) more
+
+other_put : (k : List ℕ) (d : Data) (ms : Members) → is_other k ≡ true → has_other (put k d ms) ≡ true
+other_put k d no_members h = front_other (is_other k) false h
+other_put k d (member l e ms) h = put_front (slice_cmp nat_cmp k l) k l d e ms refl h (other_put k d ms h)
+
+named_none : (a b c a2 a3 b1 b3 c1 c2 : Bool) (r : Result Tree BadMember)
+    → (not (a || (a2 || a3)) || (not (b1 || (b || b3)) || (not (c1 || (c2 || c)) || false))) ≡ true
+    → (if a && b && c then r else Err BadMembers) ≡ Err BadMembers
+named_none false b c a2 a3 b1 b3 c1 c2 r h = refl
+named_none true false c a2 a3 b1 b3 c1 c2 r h = refl
+named_none true true false a2 a3 b1 b3 c1 c2 r h = refl
+named_none true true true a2 a3 true b3 true c2 r h = absurd (cc)
+named_none true true true a2 a3 true b3 false true r h = absurd (cc)
+named_none true true true a2 a3 true b3 false false r h = absurd (cc)
+named_none true true true a2 a3 false b3 true c2 r h = absurd (cc)
+named_none true true true a2 a3 false b3 false true r h = absurd (cc)
+named_none true true true a2 a3 false b3 false false r h = absurd (cc)
+
+-- an object with another member is no item
+other_none : (ms : Members) → has_other ms ≡ true → tree_of (object ms) ≡ Err BadMembers
+other_none no_members h = refl
+other_none (member a d no_members) h = refl
+other_none (member a d (member b e no_members)) h = refl
+other_none (member a d (member b e (member c f no_members))) h =
+    named_none (bytes_eq a (codes "tag")) (bytes_eq b (codes "type")) (bytes_eq c (codes "value")) (bytes_eq a (codes "type")) (bytes_eq a (codes "value"))
+    (bytes_eq b (codes "tag")) (bytes_eq b (codes "value")) (bytes_eq c (codes "tag")) (bytes_eq c (codes "type")) (tagged_in (tag_in d) e f (below_of f)) h
+other_none (member a d (member b e (member c f (member k g ms)))) h = refl
+
+-- ---- members of an item
+
+put_tag : (d : Data) (a b c : Option Data) → put (codes "tag") d (three a b c) ≡ three (Some d) b c
+put_tag d (Some x) b c = refl
+put_tag d None (Some y) c = refl
+put_tag d None None (Some z) = refl
+put_tag d None None None = refl
+
+put_type : (d : Data) (a b c : Option Data) → put (codes "type") d (three a b c) ≡ three a (Some d) c
+put_type d (Some x) (Some y) c = refl
+put_type d (Some x) None (Some z) = refl
+put_type d (Some x) None None = refl
+put_type d None (Some y) c = refl
+put_type d None None (Some z) = refl
+put_type d None None None = refl
+
+put_value : (d : Data) (a b c : Option Data) → put (codes "value") d (three a b c) ≡ three a b (Some d)
+put_value d (Some x) (Some y) (Some z) = refl
+put_value d (Some x) (Some y) None = refl
+put_value d (Some x) None (Some z) = refl
+put_value d (Some x) None None = refl
+put_value d None (Some y) (Some z) = refl
+put_value d None (Some y) None = refl
+put_value d None None (Some z) = refl
+put_value d None None None = refl
+
+abbrev now_tag : SeenMembers → Seen → SeenMembers
+now_tag met seen = record { tag = Some seen; typ = met.typ; value = met.value; others = met.others }
+
+abbrev now_type : SeenMembers → Seen → SeenMembers
+now_type met seen = record { tag = met.tag; typ = Some seen; value = met.value; others = met.others }
+
+abbrev now_value : SeenMembers → Seen → SeenMembers
+now_value met seen = record { tag = met.tag; typ = met.typ; value = Some seen; others = met.others }
+
+abbrev now_others : SeenMembers → SeenMembers
+now_others met = record { tag = met.tag; typ = met.typ; value = met.value; others = true }
+
+module _ (json : Members) (met : SeenMembers) (d : Data) (seen : Seen) where
+  tag_met : (others : Bool) (added : List ℕ) → as_str d ≡ text_in seen → AreMet others json met added
+      → AreMet others (put (codes "tag") d json) (now_tag met seen) added
+  tag_met true added is m = other_stays (codes "tag") d json m
+  tag_met false added is m = record {
+    tag = Some d;
+    typ = m.typ;
+    value = m.value;
+    are = ap (put (codes "tag") d) m.are ∙ put_tag d m.tag m.typ m.value;
+    has_tag = is;
+    has_type = m.has_type;
+    has_value = m.has_value;
+  }
+
+  type_met : (others : Bool) (added : List ℕ) → as_str d ≡ text_in seen → AreMet others json met added
+      → AreMet others (put (codes "type") d json) (now_type met seen) added
+  type_met true added is m = other_stays (codes "type") d json m
+  type_met false added is m = record {
+    tag = m.tag;
+    typ = Some d;
+    value = m.value;
+    are = ap (put (codes "type") d) m.are ∙ put_type d m.tag m.typ m.value;
+    has_tag = m.has_tag;
+    has_type = is;
+    has_value = m.has_value;
+  }
+
+  value_met : (others : Bool) (added more : List ℕ) → IsSeen seen d more → AreMet others json met added
+      → AreMet others (put (codes "value") d json) (now_value met seen) more
+  value_met true added more is m = other_stays (codes "value") d json m
+  value_met false added more is m = record {
+    tag = m.tag;
+    typ = m.typ;
+    value = Some d;
+    are = ap (put (codes "value") d) m.are ∙ put_value d m.tag m.typ m.value;
+    has_tag = m.has_tag;
+    has_type = m.has_type;
+    has_value = is;
+  }
+
+-- a member is met, of which the bytes go or stay
+module _ (name : List ℕ) (met : SeenMembers) (d : Data) (seen : Seen) (json : Members) (front old new : List ℕ) (m : Meets json met front old) where
+  pub meets_tag : name ≡ codes "tag" → as_str d ≡ text_in seen → new ≡ old
+      → Meets (put name d json) (now_tag met seen) front new
+  meets_tag e is same = record {
+    added = m.added;
+    all = same ∙ m.all;
+    are = subst (λ k. AreMet met.others (put k d json) (now_tag met seen) m.added) (sym e) (tag_met json met d seen met.others m.added is m.are);
+  }
+
+  pub meets_type : name ≡ codes "type" → as_str d ≡ text_in seen → new ≡ old
+      → Meets (put name d json) (now_type met seen) front new
+  meets_type e is same = record {
+    added = m.added;
+    all = same ∙ m.all;
+    are = subst (λ k. AreMet met.others (put k d json) (now_type met seen) m.added) (sym e) (type_met json met d seen met.others m.added is m.are);
+  }
+
+  pub meets_value : name ≡ codes "value" → (more : List ℕ) → IsSeen seen d more → new ≡ take (length front) old ++ more
+      → Meets (put name d json) (now_value met seen) front new
+  meets_value e more is all =
+      let start : take (length front) old ≡ front = ap (take (length front)) m.all ∙ take_at front m.added (length front) refl in
+      record {
+        added = more;
+        all = all ∙ ap (λ (s : List ℕ). s ++ more) start;
+        are = subst (λ k. AreMet met.others (put k d json) (now_value met seen) more) (sym e) (value_met json met d seen met.others m.added more is m.are);
+      }
+
+  pub meets_other : is_other name ≡ true → new ≡ old
+      → Meets (put name d json) (now_others met) front new
+  meets_other other same = record { added = m.added; all = same ∙ m.all; are = other_put name d json other }
+
+-- ---- an item
+
+-- a member that is there or not
+text_there : (a : Option Data) (o : Option Seen) (s : Seen) → HasText a o → o ≡ Some s → (d : Data) × (a ≡ Some d) × (as_str d ≡ text_in s)
+text_there None None s h e = absurd (cc)
+text_there None (Some t) s h e = absurd h
+text_there (Some d) None s h e = absurd h
+text_there (Some d) (Some t) s h e = (d, refl, subst (HasText (Some d)) e h)
+
+value_there : (added : List ℕ) (a : Option Data) (o : Option Seen) (s : Seen) → HasValue a o added → o ≡ Some s
+    → (d : Data) × (a ≡ Some d) × IsSeen s d added
+value_there added None None s h e = absurd (cc)
+value_there added None (Some t) s h e = absurd h
+value_there added (Some d) None s h e = absurd h
+value_there added (Some d) (Some t) s h e = (d, refl, subst (λ o. HasValue (Some d) o added) e h)
+
+text_lacks : (a : Option Data) (o : Option Seen) → HasText a o → o ≡ None → a ≡ None
+text_lacks None o h e = refl
+text_lacks (Some d) None h e = absurd h
+text_lacks (Some d) (Some t) h e = absurd (cc)
+
+value_lacks : (added : List ℕ) (a : Option Data) (o : Option Seen) → HasValue a o added → o ≡ None → a ≡ None
+value_lacks added None o h e = refl
+value_lacks added (Some d) None h e = absurd h
+value_lacks added (Some d) (Some t) h e = absurd (cc)
+
+lacks_tag : (b c : Option Data) → tree_of (object (three None b c)) ≡ Err BadMembers
+lacks_tag None None = refl
+lacks_tag None (Some z) = refl
+lacks_tag (Some y) None = refl
+lacks_tag (Some y) (Some z) = refl
+
+lacks_type : (a c : Option Data) → tree_of (object (three a None c)) ≡ Err BadMembers
+lacks_type None None = refl
+lacks_type None (Some z) = refl
+lacks_type (Some x) None = refl
+lacks_type (Some x) (Some z) = refl
+
+lacks_value : (a b : Option Data) → tree_of (object (three a b None)) ≡ Err BadMembers
+lacks_value None None = refl
+lacks_value None (Some y) = refl
+lacks_value (Some x) None = refl
+lacks_value (Some x) (Some y) = refl
+
+module _ (json : Members) (met : SeenMembers) (front out : List ℕ) (m : Meets json met front out) where
+  -- it is no item, and the bytes stay
+  pub no_item : (bad : BadMember) → tree_of (object json) ≡ Err bad → AddsItem (tree_of (object json)) front out (Err bad)
+  no_item bad e = record { added = m.added; all = m.all; is = e }
+
+  pub has_others : met.others ≡ true → tree_of (object json) ≡ Err BadMembers
+  has_others e = other_none json (subst (λ b. AreMet b json met m.added) e m.are)
+
+  module _ (only : met.others ≡ false) where
+    are_three : AreThree json met m.added
+    are_three = subst (λ b. AreMet b json met m.added) only m.are
+
+    pub has_no_tag : met.tag ≡ None → tree_of (object json) ≡ Err BadMembers
+    has_no_tag e =
+        let t = are_three in
+        ap (λ ms. tree_of (object ms)) (t.are ∙ ap (λ a. three a t.typ t.value) (text_lacks t.tag met.tag t.has_tag e)) ∙ lacks_tag t.typ t.value
+
+    pub has_no_type : met.typ ≡ None → tree_of (object json) ≡ Err BadMembers
+    has_no_type e =
+        let t = are_three in
+        ap (λ ms. tree_of (object ms)) (t.are ∙ ap (λ b. three t.tag b t.value) (text_lacks t.typ met.typ t.has_type e)) ∙ lacks_type t.tag t.value
+
+    pub has_no_value : met.value ≡ None → tree_of (object json) ≡ Err BadMembers
+    has_no_value e =
+        let t = are_three in
+        ap (λ ms. tree_of (object ms)) (t.are ∙ ap (three t.tag t.typ) (value_lacks m.added t.value met.value t.has_value e)) ∙ lacks_value t.tag t.typ
+
+    -- room for a header is there if the value is items
+    pub room_is_there : (seen : Seen) → met.value ≡ Some seen → items_in seen ≡ Ok tt → length front + 8 ≤ length out
+    room_is_there seen e ok =
+        let t = are_three in
+        let v = value_there m.added t.value met.value seen t.has_value e in
+        let b = subst (λ r. AreSeen (below_of v.0) r m.added) ok v.2.below in
+        omega (arith, ap length m.all, length-append front m.added, ap length b.2, length-append room (bytes_below b.0))
+
+-- the members that make an item
+record Complete (json : Members) (tag typ value : Seen) (added : List ℕ) : Type 0 where
+  a : Data
+  b : Data
+  c : Data
+  is : json ≡ three (Some a) (Some b) (Some c)
+  tag_text : as_str a ≡ text_in tag
+  type_text : as_str b ≡ text_in typ
+  seen : IsSeen value c added
+
+complete : (json : Members) (met : SeenMembers) (added : List ℕ) (tag typ value : Seen) → AreThree json met added → met.tag ≡ Some tag
+    → met.typ ≡ Some typ → met.value ≡ Some value → Complete json tag typ value added
+complete json met added tag typ value m e f g =
+    let x = text_there m.tag met.tag tag m.has_tag e in
+    let y = text_there m.typ met.typ typ m.has_type f in
+    let z = value_there added m.value met.value value m.has_value g in
+    record {
+      a = x.0;
+      b = y.0;
+      c = z.0;
+      is = m.are ∙ ap (λ o. three o m.typ m.value) x.1 ∙ ap (λ o. three (Some x.0) o m.value) y.1 ∙ ap (λ o. three (Some x.0) (Some y.0) o) z.1;
+      tag_text = x.2;
+      type_text = y.2;
+      seen = z.2;
+    }
+
+typed_leaf : (tag : ℕ) (typ : TtlvType) (v : Data) (r : Result Trees BadMember) → typ ≢ Structure → typed_in tag (Some typ) v r ≡ leaf_in tag typ v
+typed_leaf tag Structure v r ne = absurd (ne refl)
+typed_leaf tag typ v r ne = refl
+
+module _ (json : Members) (met : SeenMembers) (front out : List ℕ) (m : Meets json met front out) (only : met.others ≡ false)
+    (tag typ value : Seen) (has_tag : met.tag ≡ Some tag) (has_type : met.typ ≡ Some typ) (has_value : met.value ≡ Some value) where
+  all : Complete json tag typ value m.added
+  all = complete json met m.added tag typ value (are_three json met front out m only) has_tag has_type has_value
+
+  tagged : (o : Option ℕ) → tag_of_text (text_in tag) ≡ o → tree_of (object json) ≡ tagged_in o all.b all.c (below_of all.c)
+  tagged o e =
+      ap (λ ms. tree_of (object ms)) all.is ∙ ap (λ s. tagged_in (tag_of_text s) all.b all.c (below_of all.c)) all.tag_text
+      ∙ ap (λ t. tagged_in t all.b all.c (below_of all.c)) e
+
+  pub bad_tag : tag_of_text (text_in tag) ≡ None → tree_of (object json) ≡ Err Tag
+  bad_tag e = tagged None e
+
+  module _ (t : ℕ) (tag_is : tag_of_text (text_in tag) ≡ Some t) where
+    typed : (p : Option TtlvType) → type_of_text (text_in typ) ≡ p → tree_of (object json) ≡ typed_in t p all.c (below_of all.c)
+    typed p e =
+        tagged (Some t) tag_is ∙ ap (λ s. typed_in t (type_of_text s) all.c (below_of all.c)) all.type_text
+        ∙ ap (λ k. typed_in t k all.c (below_of all.c)) e
+
+    pub bad_type : type_of_text (text_in typ) ≡ None → tree_of (object json) ≡ Err Typ
+    bad_type e = typed None e
+
+    module _ (top : ℕ) (top_is : length front ≡ top) (new : List ℕ) where
+      -- the header of a structure is put in
+      structure_bytes : (below : Trees) → m.added ≡ room ++ bytes_below below
+          → new ≡ take top out ++ (header t Structure (length out - (top + 8)) ++ drop (top + 8) out) → new ≡ front ++ bytes (node t below)
+      unfolding node_bytes
+      structure_bytes below e put_in =
+          let d = bytes_below below in
+          let held : out ≡ front ++ (room ++ d) = m.all ∙ ap (λ (s : List ℕ). front ++ s) e in
+          let flat : out ≡ (front ++ room) ++ d = held ∙ sym (append_assoc front room d) in
+          let start : take top out ≡ front = ap (take top) held ∙ take_at front (room ++ d) top top_is in
+          let eight : length (front ++ room) ≡ top + 8 = omega (arith, length-append front room, top_is) in
+          let end : drop (top + 8) out ≡ d = ap (drop (top + 8)) flat ∙ drop_at (front ++ room) d (top + 8) eight in
+          let n : length out - (top + 8) ≡ length d = omega (arith, ap length flat, length-append (front ++ room) d, eight) in
+          put_in ∙ rw (start, end, n) refl
+
+      structure_item : (r : Result Bool BadMember) (below : Result Trees BadMember) (items : Result (Unit {0}) BadMember)
+          → tree_of (object json) ≡ node_of t below → AreSeen below items m.added
+          → IfOk r (λ structure. (structure ≡ true) × (items ≡ Ok tt) × (new ≡ take top out ++ (header t Structure (length out - (top + 8)) ++ drop (top + 8) out)))
+          → IfErr r (λ bad. (items ≡ Err bad) × (new ≡ out)) → AddsItem (tree_of (object json)) front new r
+      structure_item (Ok structure) below items is seen ok err =
+          let b = subst (λ i. AreSeen below i m.added) ok.1 seen in
+          record {
+            added = bytes (node t b.0);
+            all = structure_bytes b.0 b.2 ok.2;
+            is = (node t b.0, is ∙ ap (node_of t) b.1, ok.0, refl);
+          }
+      structure_item (Err bad) below items is seen ok err =
+          let b = subst (λ i. AreSeen below i m.added) err.0 seen in
+          record { added = m.added; all = err.1 ∙ m.all; is = is ∙ ap (node_of t) b }
+
+      pub structure_ends : (r : Result Bool BadMember) → type_of_text (text_in typ) ≡ Some Structure
+          → IfOk r (λ structure. (structure ≡ true) × (items_in value ≡ Ok tt)
+          × (new ≡ take top out ++ (header t Structure (length out - (top + 8)) ++ drop (top + 8) out)))
+          → IfErr r (λ bad. (items_in value ≡ Err bad) × (new ≡ out)) → AddsItem (tree_of (object json)) front new r
+      structure_ends r e ok err = structure_item r (below_of all.c) (items_in value) (typed (Some Structure) e) all.seen.below ok err
+
+      pub leaf_ends : (k : TtlvType) → k ≢ Structure → type_of_text (text_in typ) ≡ Some k → (r : Result Bool BadMember)
+          → AddsItem (leaf_of t k (content_of k (text_in value) (truth_in value))) (take top out) new r → AddsItem (tree_of (object json)) front new r
+      leaf_ends k ne e r h =
+          let start : take top out ≡ front = ap (take top) m.all ∙ take_at front m.added top top_is in
+          let is : tree_of (object json) ≡ leaf_of t k (content_of k (text_in value) (truth_in value)) =
+          typed (Some k) e ∙ typed_leaf t k all.c (below_of all.c) ne ∙ ap (λ s. leaf_of t k (content_of k s (as_bool all.c))) all.seen.text
+          ∙ ap (λ b. leaf_of t k (content_of k (text_in value) b)) all.seen.truth in
+          record {
+            added = h.added;
+            all = h.all ∙ ap (λ (s : List ℕ). s ++ h.added) start;
+            is = subst (λ tree. IsItem tree r h.added) (sym is) h.is;
+          }

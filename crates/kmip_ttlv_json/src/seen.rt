@@ -1,0 +1,63 @@
+//! What a value of JSON is seen as: as much of it as an item's members can be told from, whatever they are.
+
+ghost use Rattle.std.specs.Prelude.{◌≡◌, option_map};
+ghost use Rattle.kmip_ttlv_json.specs.Events.{text_in, truth_in, items_in, item_in};
+
+use crate::failure::BadMember;
+
+/// What a value of JSON is seen as.
+#[derive(Clone, Copy)]
+pub enum Seen<'t> {
+    /// A text.
+    Text(&'t str),
+    /// `true` or `false`.
+    Truth(bool),
+    /// An array: of items, whose bytes were added behind room for a header, or what is wrong with the first that isn't one.
+    Items(Result<(), BadMember>),
+    /// An object: an item, whose bytes were added, and whether it is a Structure, or what is wrong with it.
+    Item(Result<bool, BadMember>),
+    /// A number or `null`.
+    Other,
+}
+
+impl<'t> Seen<'t> {
+    /// The text that it is.
+    pub fn text(self) -> Option<&'t str>
+        ensures { option_map (λ s. s.now) result ≡ text_in self.entry }
+    {
+        match self {
+            Seen::Text(text) => Some(text),
+            _ => None,
+        }
+    }
+
+    /// Which of `true` and `false` it is.
+    pub fn truth(self) -> Option<bool>
+        ensures { result ≡ truth_in self.entry }
+    {
+        match self {
+            Seen::Truth(truth) => Some(truth),
+            _ => None,
+        }
+    }
+
+    /// What is wrong with it as a Structure's value.
+    pub fn items(self) -> Result<(), BadMember>
+        ensures { result ≡ items_in self.entry }
+    {
+        match self {
+            Seen::Items(items) => items,
+            _ => Err(BadMember::Value),
+        }
+    }
+
+    /// What is wrong with it as an item, or whether it is a Structure.
+    pub fn item(self) -> Result<bool, BadMember>
+        ensures { result ≡ item_in self.entry }
+    {
+        match self {
+            Seen::Item(item) => item,
+            _ => Err(BadMember::Members),
+        }
+    }
+}
