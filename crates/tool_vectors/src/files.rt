@@ -179,7 +179,6 @@ fn outcome_of(
     let mut output = Vec::new(alloc);
     let mut errors = Vec::new(alloc);
     let status = run_files(
-        alloc,
         of(alloc),
         asked,
         &names,
@@ -241,7 +240,6 @@ fn stops_at_three(alloc: Global) -> Result<bool, TableError> {
     let files = ["none", "two", "cut"];
     let mut errors = Vec::new(alloc);
     let status = run_files(
-        alloc,
         of(alloc),
         HEXADECIMAL,
         &names,
@@ -283,7 +281,6 @@ fn goes_on_behind_no_memory(alloc: Global) -> Result<bool, TableError> {
     let mut output = Vec::new(alloc);
     let mut errors = Vec::new(alloc);
     let status = run_files(
-        alloc,
         memory,
         CHECK,
         &names,

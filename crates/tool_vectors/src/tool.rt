@@ -274,7 +274,6 @@ fn ran(alloc: Global, request: &Request<'_>, terminal: Terminal<'_>, mut stdin: 
     let mut errors = Vec::new(alloc);
     let memory = Wiping::new(alloc);
     let status = run_request(
-        alloc,
         &memory,
         request,
         terminal,

@@ -143,7 +143,6 @@ fn run_all(rt: &HostRuntime, request: &Request<'_>) -> u8 {
     };
     let memory = Wiping::new(rt.alloc());
     run_request(
-        rt.alloc(),
         &memory,
         request,
         terminal,

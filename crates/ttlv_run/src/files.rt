@@ -11,7 +11,7 @@ use crate::memory::Memory;
 use crate::run::{read_back, read_back_to_end, report_error, run, run_to_end};
 use crate::run_error::{RunError, status_in};
 use kmip_ttlv_types::stream::{Sink, Source};
-use std::alloc::{Allocator, Global};
+use std::alloc::Allocator;
 
 /// What opens inputs by their names.
 pub trait Opener {
@@ -26,10 +26,8 @@ pub trait Opener {
         ensures { opens self.old name.now result self.new };
 }
 
-/// Does with an input what is asked, and returns the exit status, of [`run`], [`read_back`] or [`read_json`]. JSON that is read
-/// takes memory from `json`, all else from `memory`.
+/// Does with an input what is asked, and returns the exit status, of [`run`], [`read_back`] or [`read_json`].
 pub fn run_asked<A: Allocator + Copy, B: Allocator + Copy, R: Source, W: Sink, E: Sink>(
-    json: Global,
     memory: Memory<A, B>,
     asked: Asked<'_>,
     name: &str,
@@ -63,14 +61,13 @@ pub fn run_asked<A: Allocator + Copy, B: Allocator + Copy, R: Source, W: Sink, E
         }
         Asked::FromJson { raw } => {
             let job = JsonJob { name, raw };
-            read_json(json, &job, input, output, errors)
+            read_json(memory.input, &job, input, output, errors)
         }
     }
 }
 
 // Does the same, and returns whether all of the input is whole, or why not all of it was printed.
 fn end_asked<A: Allocator + Copy, B: Allocator + Copy, R: Source, W: Sink, E: Sink>(
-    json: Global,
     memory: Memory<A, B>,
     asked: Asked<'_>,
     name: &str,
@@ -104,14 +101,13 @@ fn end_asked<A: Allocator + Copy, B: Allocator + Copy, R: Source, W: Sink, E: Si
         }
         Asked::FromJson { raw } => {
             let job = JsonJob { name, raw };
-            read_json_to_end(json, &job, input, output, errors)
+            read_json_to_end(memory.input, &job, input, output, errors)
         }
     }
 }
 
 // Does it with a file.
 fn run_file<A: Allocator + Copy, B: Allocator + Copy, O: Opener, W: Sink, E: Sink>(
-    json: Global,
     memory: Memory<A, B>,
     asked: Asked<'_>,
     name: &str,
@@ -126,7 +122,7 @@ fn run_file<A: Allocator + Copy, B: Allocator + Copy, O: Opener, W: Sink, E: Sin
         (record { opener = opener.new; output = held W.emitted W.room output.new; errors = held E.emitted E.room errors.new }) result }
 {
     match opener.open(name) {
-        Some(mut input) => end_asked(json, memory, asked, name, names, &mut input, output, errors),
+        Some(mut input) => end_asked(memory, asked, name, names, &mut input, output, errors),
         None => {
             report_error(errors, name, RunError::UnopenedInput);
             Err(RunError::UnopenedInput)
@@ -154,9 +150,8 @@ fn stops(outcome: Result<bool, RunError>) -> bool
 
 /// Does with each file what is asked, one after the other, and returns the greatest of their exit statuses:
 /// those of [`run`], [`read_back`] and [`read_json`], and 2 for a file that can't be opened. If the output can't be
-/// written, no other file is read; behind a file for which memory doesn't suffice the others are. Memory is that of [`run_asked`].
+/// written, no other file is read; behind a file for which memory doesn't suffice the others are.
 pub fn run_files<A: Allocator + Copy, B: Allocator + Copy, O: Opener, W: Sink, E: Sink>(
-    json: Global,
     memory: Memory<A, B>,
     asked: Asked<'_>,
     names: &Names<'_, B>,
@@ -172,7 +167,7 @@ pub fn run_files<A: Allocator + Copy, B: Allocator + Copy, O: Opener, W: Sink, E
 {
     let mut status = 0;
     'files: for name in files {
-        let outcome = run_file(json, memory, asked, name, names, opener, output, errors);
+        let outcome = run_file(memory, asked, name, names, opener, output, errors);
         status = greater(status, status_in(outcome));
         if stops(outcome) {
             return status;

@@ -1,6 +1,6 @@
 //! Lines of JSON, each of which is a message, printed as the messages that they are.
 
-ghost use Rattle.std.specs.Prelude.{◌≡◌, ◌↔◌, IsTrue, ◌≤◌, ◌++◌, ◌⊎◌, ℕ, List, None, IfOk, IfErr, OnOk, OnErr, codes};
+ghost use Rattle.std.specs.Prelude.{◌≡◌, ◌↔◌, false, IsTrue, ◌≤◌, ◌++◌, ◌⊎◌, ℕ, List, None, IfOk, IfErr, OnOk, OnErr, codes};
 ghost use Rattle.kmip_ttlv_types.specs.Held.{Held, held, Gets, Rests, Says};
 ghost use Rattle.ttlv_run.specs.Reasons.{IsOfPrinting, PrintsFront, Reports};
 ghost use Rattle.ttlv_run.specs.JsonLines.{shown, IsBlank, Prints, Spoils, PrintsBytes, FailsAt, fault_at, bad_line, column_report, RespondsJson, PrintedJson, MalformedJson, AbortedJson, JsonEnds};
@@ -10,11 +10,13 @@ use crate::guess::unmarked;
 use crate::job::JsonJob;
 use crate::run::{report, report_error, report_place, run_error_of};
 use crate::run_error::RunError;
+use crate::texts::push_hexadecimal;
 use crate::window::Window;
 use itoa::Buffer;
 use kmip_ttlv_json::{JsonError, from_json};
 use kmip_ttlv_types::stream::{Sink, Source};
-use std::alloc::Global;
+use kmip_ttlv_util::Pieces;
+use std::alloc::Allocator;
 use std::str;
 
 /// The first line that is not the JSON of a message.
@@ -38,13 +40,22 @@ fn send<W: Sink>(output: &mut W, bytes: &[u8]) -> Result<(), RunError>
     }
 }
 
+// Writes a message in hexadecimal and a line feed, in pieces.
+fn print_hexadecimal<W: Sink>(message: &[u8], output: &mut W) -> Result<(), RunError>
+    ensures ok { OnOk result (Gets (held W.emitted W.room output.old) (held W.emitted W.room output.new) (shown false message.now)) }
+    ensures why { IfErr result IsOfPrinting }
+    ensures err { IfErr result (λ why. PrintsFront why (held W.emitted W.room output.old) (held W.emitted W.room output.new) (shown false message.now)) }
+{
+    let mut pieces = Pieces::new(output);
+    let printed = push_hexadecimal(&mut pieces, message);
+    match pieces.close(printed) {
+        Ok(()) => Ok(()),
+        Err(e) => Err(run_error_of(&e)),
+    }
+}
+
 // Writes what is printed of a message.
-fn print_message<W: Sink>(
-    heap: Global,
-    raw: bool,
-    message: &[u8],
-    output: &mut W,
-) -> Result<(), RunError>
+fn print_message<W: Sink>(raw: bool, message: &[u8], output: &mut W) -> Result<(), RunError>
     ensures ok { OnOk result (Gets (held W.emitted W.room output.old) (held W.emitted W.room output.new) (shown raw message.now)) }
     ensures why { IfErr result IsOfPrinting }
     ensures err { IfErr result (λ why. PrintsFront why (held W.emitted W.room output.old) (held W.emitted W.room output.new) (shown raw message.now)) }
@@ -52,9 +63,7 @@ fn print_message<W: Sink>(
     if raw {
         return send(output, message);
     }
-    let mut text = hex::encode_upper(heap, message)?;
-    text.push('\n')?;
-    send(output, text.as_bytes())
+    print_hexadecimal(message, output)
 }
 
 // Whether a text is white space of JSON alone.
@@ -65,8 +74,8 @@ fn is_blank(text: &[u8]) -> bool
 }
 
 // Prints the message that a line is, behind its mark, and gives why it is none.
-fn print_line<W: Sink>(
-    heap: Global,
+fn print_line<A: Allocator + Copy, W: Sink>(
+    heap: A,
     raw: bool,
     line: &str,
     output: &mut W,
@@ -81,7 +90,7 @@ fn print_line<W: Sink>(
     }
     match from_json(heap, text) {
         Ok(message) => {
-            print_message(heap, raw, message.as_slice(), output)?;
+            print_message(raw, message.as_slice(), output)?;
             Ok(None)
         }
         Err(JsonError::OutOfMemory) => Err(RunError::NoMemory),
@@ -90,8 +99,8 @@ fn print_line<W: Sink>(
 }
 
 // Prints the message that the bytes of a line are, and gives why they are none.
-fn print_bytes<W: Sink>(
-    heap: Global,
+fn print_bytes<A: Allocator + Copy, W: Sink>(
+    heap: A,
     raw: bool,
     line: &[u8],
     output: &mut W,
@@ -116,8 +125,8 @@ fn fault_at(offset: usize, error: Option<JsonError>) -> Option<LineFault>
 }
 
 // Prints the messages that the lines of an input are, each when it is there, and gives the first line that is none.
-fn respond<R: Source, W: Sink>(
-    heap: Global,
+fn respond<A: Allocator + Copy, R: Source, W: Sink>(
+    heap: A,
     job: &JsonJob<'_>,
     input: &mut R,
     output: &mut W,
@@ -187,8 +196,8 @@ fn report_fault<E: Sink>(errors: &mut E, name: &str, fault: LineFault)
 }
 
 // Does what [`read_json`] does, and returns whether all lines are messages or empty, or why not all were printed.
-pub(crate) fn read_json_to_end<R: Source, W: Sink, E: Sink>(
-    heap: Global,
+pub(crate) fn read_json_to_end<A: Allocator + Copy, R: Source, W: Sink, E: Sink>(
+    heap: A,
     job: &JsonJob<'_>,
     input: &mut R,
     output: &mut W,
@@ -225,8 +234,8 @@ pub(crate) fn read_json_to_end<R: Source, W: Sink, E: Sink>(
 /// none are printed, nothing more is read, and `errors` says why that is none. With status 2 those of the lines before are printed:
 /// that came before reading failed, or are in front of the one that is not UTF-8. Statuses 2 and 3 are reported there as
 /// [`run`](crate::run::run) reports them; with status 3 the output has a beginning of what is printed.
-pub fn read_json<R: Source, W: Sink, E: Sink>(
-    heap: Global,
+pub fn read_json<A: Allocator + Copy, R: Source, W: Sink, E: Sink>(
+    heap: A,
     job: &JsonJob<'_>,
     input: &mut R,
     output: &mut W,

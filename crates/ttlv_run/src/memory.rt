@@ -7,7 +7,7 @@ use std::alloc::Allocator;
 /// as when out of memory.
 #[derive(Clone, Copy)]
 pub struct Memory<A: Allocator + Copy, B: Allocator + Copy> {
-    /// The bytes of the input that are buffered come from here.
+    /// The bytes of the input that are buffered come from here, and for a line of JSON its texts and its message.
     pub input: A,
     /// All else comes from here: the names, the ends of the structures that are open at once, and the line on
     /// standard error.

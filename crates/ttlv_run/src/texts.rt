@@ -35,8 +35,8 @@ fn push_diagnostic<S: TextSink, A: Allocator + Copy>(
     out.push_str("\n")
 }
 
-// Adds the bytes of a message in hexadecimal and a line feed.
-fn push_hexadecimal<S: TextSink>(out: &mut S, message: &[u8]) -> Result<(), S::Error>
+/// Adds the bytes of a message in hexadecimal and a line feed.
+pub(crate) fn push_hexadecimal<S: TextSink>(out: &mut S, message: &[u8]) -> Result<(), S::Error>
     ensures ok { OnOk result (S.adds out.old (encode_upper message.now ++ 10 ∷ []) out.new) }
     ensures err { OnErr result (S.breaks out.old (encode_upper message.now ++ 10 ∷ []) out.new) }
 {

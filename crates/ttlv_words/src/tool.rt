@@ -193,7 +193,6 @@ fn names_in<'t, B: Allocator + Copy>(
 
 // Does with each input what is asked.
 fn run_inputs<B: Allocator + Copy, O: Opener, R: Source, W: Sink, E: Write>(
-    json: Global,
     memory: Memory<B, B>,
     asked: Asked<'_>,
     files: &[&str],
@@ -211,7 +210,6 @@ fn run_inputs<B: Allocator + Copy, O: Opener, R: Source, W: Sink, E: Write>(
 {
     if files.is_empty() {
         return run_asked(
-            json,
             memory,
             asked,
             "standard input",
@@ -221,7 +219,7 @@ fn run_inputs<B: Allocator + Copy, O: Opener, R: Source, W: Sink, E: Write>(
             errors,
         );
     }
-    run_files(json, memory, asked, names, files, opener, output, errors)
+    run_files(memory, asked, names, files, opener, output, errors)
 }
 
 // The tables of names and of secrets; or the status where there is none.
@@ -246,10 +244,9 @@ fn tables_of<B: Allocator + Copy, T: Opener, E: Write>(
 
 /// Does what a request asks for, and returns the exit status: those of [`run_asked`] and [`run_files`]; 2 for a table that can't
 /// be read, a table of secrets that names values, and a tag that is none; and 3 when out of memory. Tables are opened by
-/// `tables`, files by `opener`; where none is named, `stdin` is the input. JSON that is read takes memory from `json`, all else from
-/// `alloc`: also the bytes of the input.
+/// `tables`, files by `opener`; where none is named, `stdin` is the input. Memory is taken
+/// from `alloc`: also for the bytes of the input.
 pub fn run_request<B: Allocator + Copy, T: Opener, O: Opener, R: Source, W: Sink, E: Write>(
-    json: Global,
     alloc: B,
     request: &Request<'_>,
     terminal: Terminal<'_>,
@@ -292,7 +289,6 @@ pub fn run_request<B: Allocator + Copy, T: Opener, O: Opener, R: Source, W: Sink
         rest: alloc,
     };
     run_inputs(
-        json,
         memory,
         asked,
         request.files.as_slice(),

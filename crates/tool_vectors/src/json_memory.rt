@@ -1,0 +1,139 @@
+//! The memory that lines of JSON take, and what comes of it when some is refused.
+
+use crate::runs::{Outcome, repeated};
+use kmip_ttlv_memory::BoundedAllocator;
+use std::alloc::{AllocError, Allocator, Global};
+use ttlv_run::JsonJob;
+use ttlv_run::from_json::read_json;
+
+// What a line begins with, what comes so often that it has 400,000 bytes, what it ends with, and the status.
+type Row = (&'static str, &'static str, &'static str, u8);
+
+const ROWS: [Row; 14] = [
+    // Many small leaves.
+    (
+        "{\"tag\":\"0x420069\",\"type\":\"Structure\",\"value\":[",
+        "{\"tag\":\"0x42006A\",\"type\":\"Integer\",\"value\":\"0x00000001\"},",
+        "{\"tag\":\"0x42006A\",\"type\":\"Boolean\",\"value\":true}]}",
+        0,
+    ),
+    // Empty structures.
+    (
+        "{\"tag\":\"0x420069\",\"type\":\"Structure\",\"value\":[",
+        "{\"tag\":\"0x42006A\",\"type\":\"Structure\",\"value\":[]},",
+        "{\"tag\":\"0x42006A\",\"type\":\"Boolean\",\"value\":true}]}",
+        0,
+    ),
+    // Structures in one another, the value in front of the tag.
+    (
+        "{\"value\":[",
+        "{\"value\":[{\"value\":[{\"value\":[],\"tag\":\"0x42006A\",\"type\":\"Structure\"}],\"type\":\"Structure\",\"tag\":\"0x42006A\"}],\"tag\":\"0x42006A\",\"type\":\"Structure\"},",
+        "{\"tag\":\"0x42006A\",\"type\":\"Boolean\",\"value\":true}],\"tag\":\"0x420069\",\"type\":\"Structure\"}",
+        0,
+    ),
+    // A long text, as it is and in escapes.
+    (
+        "{\"tag\":\"0x420069\",\"type\":\"Structure\",\"value\":[{\"tag\":\"0x42006A\",\"type\":\"TextString\",\"value\":\"",
+        "Operation",
+        "\"}]}",
+        0,
+    ),
+    (
+        "{\"tag\":\"0x420069\",\"type\":\"Structure\",\"value\":[{\"tag\":\"0x42006A\",\"type\":\"TextString\",\"value\":\"",
+        "\\u00e9\\n",
+        "\"}]}",
+        0,
+    ),
+    // A long value, and one behind another that doesn't count.
+    (
+        "{\"tag\":\"0x420069\",\"type\":\"Structure\",\"value\":[{\"tag\":\"0x42006A\",\"type\":\"ByteString\",\"value\":\"",
+        "00FF",
+        "\"}]}",
+        0,
+    ),
+    (
+        "{\"tag\":\"0x420069\",\"type\":\"Structure\",",
+        "\"value\":[{\"tag\":\"0x42006A\",\"type\":\"Structure\",\"value\":[]}],",
+        "\"value\":[]}",
+        0,
+    ),
+    // JSON that is no message.
+    ("[", "[],", "[]]", 1),
+    ("[", "1,", "1]", 1),
+    (
+        "{",
+        "\"tag\":{\"tag\":[[],[]],\"value\":[]},",
+        "\"type\":0}",
+        1,
+    ),
+    ("[", "\"\",", "{}]", 1),
+    // What is no JSON.
+    ("[", "[[", "", 1),
+    ("{\"value\":[", "[],{\"value\":[]},", "", 1),
+    ("", "\"", "", 1),
+];
+
+// The line of a row.
+fn line_of(alloc: Global, row: Row) -> Result<String, AllocError> {
+    let (front, item, back, _) = row;
+    let mut line = String::from_str(alloc, front)?;
+    line.push_str(repeated(alloc, item, 400_000 / item.len() as u64)?.as_str())?;
+    line.push_str(back)?;
+    Ok(line)
+}
+
+// A run over a line; what it takes comes from `heap`.
+fn outcome_of<A: Allocator + Copy>(alloc: Global, heap: A, line: &str) -> Outcome {
+    let job = JsonJob {
+        name: "capture",
+        raw: false,
+    };
+    let mut input = line.as_bytes();
+    let mut output = Vec::new(alloc);
+    let mut errors = Vec::new(alloc);
+    let status = read_json(heap, &job, &mut input, &mut output, &mut errors);
+    Outcome {
+        status,
+        output,
+        errors,
+    }
+}
+
+// Whether a line is read within three times its length and a constant.
+fn is_read_within(alloc: Global, row: Row) -> Result<bool, AllocError> {
+    let line = line_of(alloc, row)?;
+    let heap = BoundedAllocator::new(alloc, 3 * line.len() + 131_072);
+    let outcome = outcome_of(alloc, &heap, line.as_str());
+    Ok(outcome.status == row.3 && !heap.has_failed())
+}
+
+#[test]
+fn a_line_takes_three_times_its_length(rt: HostRuntime) {
+    for row in ROWS {
+        assert_eq!(rt; is_read_within(rt.alloc(), row), Ok(true), "{row:?}");
+    }
+}
+
+// A message with a leaf of each form that a value has.
+const LEAVES: &str =
+    "{\"tag\":\"0x420069\",\"type\":\"Structure\",\"value\":[{\"tag\":\"0x42006A\",\"type\":\"Integer\",\"value\":\"0x00000001\"},{\"tag\":\"0x42006A\",\"type\":\"TextString\",\"value\":\"Key\"},{\"tag\":\"0x42006A\",\"type\":\"ByteString\",\"value\":\"00FF\"},{\"tag\":\"0x42006A\",\"type\":\"Boolean\",\"value\":true}]}";
+
+// Whether each allocation may fail: nothing is printed then, and the status is 3.
+fn each_may_fail(alloc: Global, line: &str) -> bool {
+    for before in 0..100u64 {
+        let heap = BoundedAllocator::failing_after(alloc, before);
+        let outcome = outcome_of(alloc, &heap, line);
+        if !heap.has_failed() {
+            return before > 0 && outcome.status == 0;
+        }
+        if !outcome.is(3, "", "capture: out of memory\n") {
+            return false;
+        }
+    }
+    false
+}
+
+#[test]
+fn each_growth_for_json_may_fail(rt: HostRuntime) {
+    assert!(rt; each_may_fail(rt.alloc(), LEAVES));
+}
