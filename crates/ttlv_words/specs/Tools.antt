@@ -5,7 +5,7 @@ use Rattle.std.specs.Option.{option_or}
 use Rattle.clap.specs.declared.error.kind.ErrorKind.{ErrorKind}
 use Rattle.clap.specs.declared.error.kind.ErrorKind.TheVariants.{DisplayHelp, DisplayVersion, OutOfMemory}
 use Rattle.kmip_ttlv_types.specs.Names.{tag_of}
-use Rattle.kmip_ttlv_names.specs.NameTables.{names_of as tags_in, first_of, bad_line, tag_named}
+use Rattle.kmip_ttlv_names.specs.NameTables.{names_of as tags_in, bad_line, tag_named}
 use Rattle.kmip_ttlv_names.specs.OwnNames.{value_names_of, bad_own_line}
 use Rattle.kmip_ttlv_types.specs.Held.{Rests}
 use Rattle.kmip_ttlv_types.specs.Streams.{AppendsFront}

@@ -11,19 +11,22 @@ returns-then-eq-clause-ok g c =
 
 pub returns-in_err-push_color-clause-err : goal.returns-in_err-push_color-clause-err
 returns-in_err-push_color-clause-err g c =
-    let same = value_leaf (names_of c.args.names.now) c.args.look.now c.args.reach.now c.args.bytes.now c.args.item.now _ _ refl refl (search rules) c.requires.len in
+    let same = value_leaf (names_of c.args.names.now) c.args.look.now c.args.reach.now c.args.bytes.now c.args.item.now _ _ refl refl
+    (search rules) c.requires.len in
     err_now g.S.TextSink.adds g.S.TextSink.breaks _ _ _ _ (breaks_same g.S.TextSink.adds g.S.TextSink.breaks _ _ _ _
     (g.met.S.TextSink.breaks_first _ _ _ _ c.in_err-push_color.ensures.err) same)
 
 pub returns-in_err-push_shown-clause-err : goal.returns-in_err-push_shown-clause-err
 returns-in_err-push_shown-clause-err g c =
-    let same = value_leaf (names_of c.args.names.now) c.args.look.now c.args.reach.now c.args.bytes.now c.args.item.now _ _ c.values_shown-values.ensures c.naming_tag-tag.ensures (search rules) c.requires.len in
+    let same = value_leaf (names_of c.args.names.now) c.args.look.now c.args.reach.now c.args.bytes.now c.args.item.now _ _ c.values_shown-values.ensures
+    c.naming_tag-tag.ensures (search rules) c.requires.len in
     err_now g.S.TextSink.adds g.S.TextSink.breaks _ _ _ _ (breaks_same g.S.TextSink.adds g.S.TextSink.breaks _ _ _ _
     (g.met.S.TextSink.breaks_second _ _ _ _ _ c.in_ok-push_color.ensures.ok (g.met.S.TextSink.breaks_first _ _ _ _ c.in_err-push_shown.ensures.err)) same)
 
 pub returns : goal.returns
 returns g c =
-    let same = value_leaf (names_of c.args.names.now) c.args.look.now c.args.reach.now c.args.bytes.now c.args.item.now _ _ c.values_shown-values.ensures c.naming_tag-tag.ensures (search rules) c.requires.len in
+    let same = value_leaf (names_of c.args.names.now) c.args.look.now c.args.reach.now c.args.bytes.now c.args.item.now _ _ c.values_shown-values.ensures
+    c.naming_tag-tag.ensures (search rules) c.requires.len in
     record {
       ok = ok_same g.S.TextSink.adds g.S.TextSink.breaks c.push_color-2.result _ _ _ _
           (ok_then g.S.TextSink.adds g.S.TextSink.breaks g.met.S.TextSink.adds_both c.push_color-2.result _ _ _ _ _ c.in_ok-push_color.ensures.ok
