@@ -2,5 +2,5 @@ pub mod Tables
 pub mod Lists
 pub mod Owns
 pub mod SecretNames
-mod GoodTables
+pub mod GoodTables
 pub mod ByName
