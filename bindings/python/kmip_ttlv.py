@@ -133,7 +133,8 @@ class Malformed(ValueError):
 
     def __init__(self, fault, found):
         self.fault, self.items = fault, found
-        self.path = tuple(it.tag for it in found if it.typ == 1 and it.offset + 8 <= fault.offset < it.offset + 8 + it.length)
+        # of those before it, the Structures that end behind where it begins
+        self.path = tuple(it.tag for it in found if fault.offset < it.offset + 8 + it.length)
         inner = [f"0x{tag:06X}" for tag in self.path[-8:]]
         around = ", in " + " > ".join([".."] * (len(self.path) > 8) + inner) if inner else ""
         super().__init__(f"at byte {fault.offset}{around}: {FAULTS[fault.kind]}")

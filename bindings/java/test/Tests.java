@@ -203,9 +203,22 @@ public final class Tests {
             same(digits(encode(root)), digits(message));
         }
         same(decode(VERSION), VERSION_NODE);
-        same(VERSION_NODE.equals(structure(0x420069)) || structure(0x420069).equals(VERSION_NODE), false);
-        same(new Value.Integer(1).equals(new Value.Enumeration(1)), false);
+        nodesThatDiffer();
         same(new Value.DateTime(1205495800).instant().toString(), "2008-03-14T11:56:40Z");
+    }
+
+    /** Of these no two are the same: in tags, types, values, and how they nest. */
+    private static void nodesThatDiffer() {
+        Node leaf = new Node(2, new Value.Integer(1));
+        List<Node> nodes = List.of(leaf, new Node(1, new Value.Integer(1)), new Node(2, new Value.Integer(2)), new Node(2, new Value.Enumeration(1)),
+                structure(2), structure(1), structure(1, leaf), structure(1, leaf, leaf), structure(1, structure(1), leaf),
+                structure(1, structure(1, leaf)), structure(1, leaf, structure(1)));
+        for (Node one : nodes) {
+            for (Node two : nodes) {
+                same(one.equals(two), one == two);
+                same(one.value().equals(two.value()), new Node(3, one.value()).equals(new Node(3, two.value())));
+            }
+        }
     }
 
     private static void bigIntegers() {

@@ -157,9 +157,9 @@ struct Builder {
 }
 
 impl Builder {
-    /// Puts the nodes of this depth and below into those around them.
+    /// Puts the nodes of this depth and below, but for the root, into those around them.
     fn close(&mut self, depth: usize) {
-        while self.open.len() > depth.max(1) {
+        while self.open.len() > depth {
             let last = self.open.pop();
             if let (Some(node), Some(Node { value: Value::Structure(nodes), .. })) = (last, self.open.last_mut()) {
                 nodes.push(node);

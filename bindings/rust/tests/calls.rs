@@ -121,9 +121,34 @@ fn nodes() {
     assert_eq!(depths, [(0, 0x69), (1, 0x6A), (1, 0x6B)]);
     assert_ne!(node, Node::new(0x420069, Value::Structure(vec![])));
     assert_ne!(node, Node::new(0x420069, Value::Structure(node.value.nodes()[..1].to_vec())));
-    assert_ne!(Node::new(1, Value::Integer(1)), Node::new(1, Value::Enumeration(1)));
     assert_eq!(node.clone().into_value(), node.value);
     assert!(matches!(decode(&message[..39]), Err(Error::Malformed { items, .. }) if items.len() == 2));
+}
+
+/// Of these no two are the same: in tags, types, values, and how they nest.
+#[test]
+fn nodes_that_differ() {
+    let leaf = || Node::new(2, Value::Integer(1));
+    let structure = |nodes| Node::new(1, Value::Structure(nodes));
+    let nodes = [
+        leaf(),
+        Node::new(1, Value::Integer(1)),
+        Node::new(2, Value::Integer(2)),
+        Node::new(2, Value::Enumeration(1)),
+        Node::new(2, Value::Structure(vec![])),
+        structure(vec![]),
+        structure(vec![leaf()]),
+        structure(vec![leaf(), leaf()]),
+        structure(vec![structure(vec![]), leaf()]),
+        structure(vec![structure(vec![leaf()])]),
+        structure(vec![leaf(), structure(vec![])]),
+    ];
+    for (at, one) in nodes.iter().enumerate() {
+        for (other, two) in nodes.iter().enumerate() {
+            assert_eq!(one == two, at == other, "{one:?} {two:?}");
+        }
+        assert_eq!(&one.clone(), one);
+    }
 }
 
 /// The standard's examples of encodings (9.1.2), and values at the ends of their ranges.

@@ -240,10 +240,14 @@ class Walks(unittest.TestCase):
             with self.assertRaises(kmip_ttlv.Malformed) as refused:
                 kmip_ttlv.decode(message)
             self.assertEqual((refused.exception.path, refused.exception.fault.offset), (path, offset))
-        with self.assertRaises(kmip_ttlv.Malformed) as refused:
-            kmip_ttlv.items(nested(20, b"\0"))
-        self.assertEqual(refused.exception.path, (0x420020,) * 20)
-        self.assertIn(", in .. > " + " > ".join(["0x420020"] * 8) + ": ", str(refused.exception))
+        for depth in (1, 8, 9, 20):
+            deep = bytearray(nested(depth, b"\0"))
+            deep[2 : 8 * depth : 8] = range(depth)
+            with self.assertRaises(kmip_ttlv.Malformed) as refused:
+                kmip_ttlv.items(deep)
+            self.assertEqual(refused.exception.path, tuple(range(0x420000, 0x420000 + depth)))
+            shown = [f"0x4200{at:02X}" for at in range(max(depth - 8, 0), depth)]
+            self.assertIn(", in " + " > ".join([".."] * (depth > 8) + shown) + ": ", str(refused.exception))
 
     def test_other_buffers(self):
         """What has a buffer is read by it, whatever it says of its length."""
@@ -356,6 +360,7 @@ class Walks(unittest.TestCase):
         self.assertEqual(repr(node(1, 1, [leaf, node(2, 1, []), leaf])), f"Node(tag=1, typ=1, value=[{leaf!r}, Node(tag=2, typ=1, value=[]), {leaf!r}])")
         self.assertEqual(repr(leaf), "Node(tag=4325408, typ=2, value=1)")
         self.assertEqual(repr(node("a", b"b", None)), "Node(tag='a', typ=b'b', value=None)")
+        self.assertEqual(repr(node([], 8, b"b")), "Node(tag=[], typ=8, value=b'b')")
         self.assertEqual(repr(node(1, 1, ["a", (1,)])), "Node(tag=1, typ=1, value=['a', (1,)])")
         self.assertTrue(leaf == (0x420020, 2, 1) and (0x420020, 2, 1) == leaf and leaf != other and leaf != (0x420020, 2))
         self.assertTrue(leaf != [0x420020, 2, 1] and leaf != 5 and node(1, 1, [leaf]) != node(1, 1, [other]))

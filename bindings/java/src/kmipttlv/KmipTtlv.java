@@ -23,7 +23,7 @@ import java.util.Objects;
  * false unless you compare with these. {@code limit} is how many bytes of memory the library may hold to make a text, since a text can grow with
  * the square of the depth: {@link #usualLimit}, or Long.MAX_VALUE.
  *
- * <p>The native library is the file that the system property {@code kmipttlv.library} names, or else {@code kmip_ttlv_jni} in
+ * <p>The native library is the file whose absolute path is the system property {@code kmipttlv.library}, or else {@code kmip_ttlv_jni} in
  * {@code java.library.path}.
  */
 public final class KmipTtlv {
