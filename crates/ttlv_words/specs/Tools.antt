@@ -7,8 +7,7 @@ use Rattle.clap.specs.declared.error.kind.ErrorKind.TheVariants.{DisplayHelp, Di
 use Rattle.kmip_ttlv_types.specs.Names.{tag_of}
 use Rattle.kmip_ttlv_names.specs.NameTables.{names_of as tags_in, bad_line, tag_named}
 use Rattle.kmip_ttlv_names.specs.OwnNames.{value_names_of, bad_own_line}
-use Rattle.kmip_ttlv_types.specs.Held.{Rests}
-use Rattle.kmip_ttlv_types.specs.Streams.{AppendsFront}
+use Rattle.kmip_ttlv_types.specs.Held.{Rests, Says}
 use Rattle.kmip_ttlv_names.specs.declared.standard.TheConstants.{STANDARD_TAGS}
 use Rattle.kmip_ttlv_names.specs.declared.enumerations.TheConstants.{STANDARD_VALUES}
 use Rattle.kmip_ttlv_names.specs.declared.masks.TheConstants.{STANDARD_MASKS}
@@ -98,11 +97,9 @@ with_look (Print (Whole (ShowWhole look)) encoding) colored only =
     Print (Whole (ShowWhole (record look { colored = colored; only = only }))) encoding
 with_look asked colored only = asked
 
--- a line of a table names nothing; of that of secrets also a line that names a value
+-- the line of a table that names nothing: of that of tags, or of that of secrets, where a line that names a value does not either
 pub data HasBadLine (tags secret : List ℕ) (n : ℕ) : Type 0 where
   of_tags : bad_own_line tags ≡ Some n → HasBadLine tags secret n
-  of_values : bad_line STANDARD_VALUES.now ≡ Some n → HasBadLine tags secret n
-  of_masks : bad_line STANDARD_MASKS.now ≡ Some n → HasBadLine tags secret n
   of_secrets : bad_line secret ≡ Some n → HasBadLine tags secret n
 
 -- a word of the request, if it is there
@@ -124,9 +121,10 @@ pub data IsRefused
       → status ≡ 2 → line ≡ line_of (word_of r.tag) (codes "no tag has this name")
       → IsRefused tables r old new status line
   bad_names :
-      (tags secret : List ℕ) (n : ℕ) → AreRead tables r.names r.secrets old new tags secret → HasBadLine tags secret n
+      (tags secret : List ℕ) (path : Bor (List ℕ)) (n : ℕ) → AreRead tables r.names r.secrets old new tags secret
+      → r.secrets ≡ Some path → bad_line secret ≡ Some n
       → status ≡ 2
-      → line ≡ line_of (word_of r.secrets) (codes "a table of secrets names tags alone, as `540001 Own Secret`")
+      → line ≡ line_of path.now (codes "a table of secrets names tags alone, as `540001 Own Secret`")
       → IsRefused tables r old new status line
   memory_ended : status ≡ 3 → line ≡ no_memory_line → IsRefused tables r old new status line
 
@@ -167,6 +165,6 @@ pub data RequestDone
   refused :
       (line : List ℕ)
       → IsRefused tables r old_tables new_tables status line
-      → AppendsFront old.errors new.errors line
+      → Says old.errors new.errors line
       → Rests old.output new.output
       → RequestDone tables files r terminal old_tables new_tables old new can_fail input input_left status

@@ -2,10 +2,9 @@
 
 ghost use Rattle.std.specs.Prelude.{◌≡◌, ℕ, List, None, IfOk, IfErr, OnOk, option_map, string_bytes};
 ghost use Rattle.clap.specs.Words.{kind_of};
-ghost use Rattle.kmip_ttlv_types.specs.Held.{held};
+ghost use Rattle.kmip_ttlv_types.specs.Held.{held, Says};
 ghost use Rattle.kmip_ttlv_names.specs.NameTables.{bad_line};
 ghost use Rattle.kmip_ttlv_names.specs.declared.table.TableError.TheVariants.{BadLine as ABadLine};
-ghost use Rattle.kmip_ttlv_types.specs.Streams.{AppendsFront};
 ghost use Rattle.ttlv_run.specs.Texts.{names_of};
 ghost use Rattle.ttlv_words.specs.Tools.{is_colored, IsUsage, no_memory_line, IsTable, LacksFile, AreRead, LacksOne, HasBadLine, word_of, tag_asked, with_look, names_for, InputsDone, RequestDone};
 
@@ -13,13 +12,13 @@ use crate::request::{Color, Request};
 use clap::Error;
 use clap::error::ErrorKind;
 use kmip_ttlv_names::{
-    STANDARD_MASKS, STANDARD_SECRETS, STANDARD_TAGS, STANDARD_VALUES, TableError, own_names,
+    STANDARD_SECRETS, STANDARD_TAGS, TableError, own_names, standard_masks, standard_values,
     tag_named, tag_names, tags_by_name,
 };
 use kmip_ttlv_types::TtlvTag;
 use kmip_ttlv_types::stream::{Sink, Source};
-use std::alloc::{AllocError, Allocator, Global};
-use std::io::{Eprint, Print, Write};
+use std::alloc::{AllocError, Allocator};
+use std::io::{Eprint, Print};
 use ttlv_run::files::{Opener, run_asked, run_files};
 use ttlv_run::run::report_words;
 use ttlv_run::table::own_table;
@@ -55,16 +54,16 @@ fn is_colored(color: Color, terminal: Terminal<'_>) -> bool
 }
 
 // Reports that memory ran out before an input was read, and returns the exit status.
-fn no_memory<E: Write>(errors: &mut E) -> u8
+fn no_memory<E: Sink>(errors: &mut E) -> u8
     ensures status { result ≡ 3 }
-    ensures reported { AppendsFront (E.contents errors.old) (E.contents errors.new) no_memory_line }
+    ensures reported { Says (held E.emitted E.room errors.old) (held E.emitted E.room errors.new) no_memory_line }
 {
     report_words(errors, "ttlv", "out of memory");
     FAILED
 }
 
 /// Reports what is wrong with the words, or prints the help or the version that they ask for, and returns the exit status.
-pub fn report_usage<R: Print + Eprint, E: Write>(rt: &R, errors: &mut E, error: &Error) -> u8
+pub fn report_usage<R: Print + Eprint, E: Sink>(rt: &R, errors: &mut E, error: &Error) -> u8
     ensures { IsUsage (kind_of error.now) result }
 {
     if error.kind() == ErrorKind::OutOfMemory {
@@ -78,7 +77,7 @@ pub fn report_usage<R: Print + Eprint, E: Write>(rt: &R, errors: &mut E, error: 
 }
 
 // A table of tags, and behind it that of a file, if one is named; or the status where there is none.
-fn table<B: Allocator + Copy, T: Opener, E: Write>(
+fn table<B: Allocator + Copy, T: Opener, E: Sink>(
     alloc: B,
     tables: &mut T,
     standard: &str,
@@ -90,7 +89,7 @@ fn table<B: Allocator + Copy, T: Opener, E: Write>(
     ensures quiet { OnOk result (errors.new ≡ errors.old) }
     ensures err { IfErr result (λ status. (line : List ℕ)
         × LacksFile (record { opens = T.opens; left = T.Input.left; can_fail = T.Input.can_fail }) tables.old tables.new path.entry status line
-        × AppendsFront (E.contents errors.old) (E.contents errors.new) line) }
+        × Says (held E.emitted E.room errors.old) (held E.emitted E.room errors.new) line) }
 {
     let Some(path) = path else {
         let alone: Result<String<B>, AllocError> = String::from_str(alloc, standard);
@@ -184,15 +183,15 @@ fn names_in<'t, B: Allocator + Copy>(
     Ok(Names {
         tags: own.tags,
         by_name,
-        values: tag_names(alloc, STANDARD_VALUES)?,
-        masks: tag_names(alloc, STANDARD_MASKS)?,
+        values: standard_values(alloc)?,
+        masks: standard_masks(alloc)?,
         own: own.values,
         secrets: tag_names(alloc, secrets)?,
     })
 }
 
 // Does with each input what is asked.
-fn run_inputs<B: Allocator + Copy, O: Opener, R: Source, W: Sink, E: Write>(
+fn run_inputs<B: Allocator + Copy, O: Opener, R: Source, W: Sink, E: Sink>(
     memory: Memory<B, B>,
     asked: Asked<'_>,
     files: &[&str],
@@ -204,8 +203,8 @@ fn run_inputs<B: Allocator + Copy, O: Opener, R: Source, W: Sink, E: Write>(
 ) -> u8
     ensures { InputsDone (record { opens = O.opens; left = O.Input.left; can_fail = O.Input.can_fail })
         (names_of names.now) asked.entry files.now
-        (record { opener = opener.old; output = held W.emitted W.room output.old; errors = E.contents errors.old })
-        (record { opener = opener.new; output = held W.emitted W.room output.new; errors = E.contents errors.new })
+        (record { opener = opener.old; output = held W.emitted W.room output.old; errors = held E.emitted E.room errors.old })
+        (record { opener = opener.new; output = held W.emitted W.room output.new; errors = held E.emitted E.room errors.new })
         R.can_fail (R.left stdin.old) (R.left stdin.new) result }
 {
     if files.is_empty() {
@@ -223,7 +222,7 @@ fn run_inputs<B: Allocator + Copy, O: Opener, R: Source, W: Sink, E: Write>(
 }
 
 // The tables of names and of secrets; or the status where there is none.
-fn tables_of<B: Allocator + Copy, T: Opener, E: Write>(
+fn tables_of<B: Allocator + Copy, T: Opener, E: Sink>(
     alloc: B,
     tables: &mut T,
     names: Option<&str>,
@@ -235,7 +234,7 @@ fn tables_of<B: Allocator + Copy, T: Opener, E: Write>(
     ensures quiet { OnOk result (errors.new ≡ errors.old) }
     ensures err { IfErr result (λ status. (line : List ℕ)
         × LacksOne (record { opens = T.opens; left = T.Input.left; can_fail = T.Input.can_fail }) names.entry secrets.entry tables.old tables.new status line
-        × AppendsFront (E.contents errors.old) (E.contents errors.new) line) }
+        × Says (held E.emitted E.room errors.old) (held E.emitted E.room errors.new) line) }
 {
     let tags = table(alloc, tables, STANDARD_TAGS, names, errors)?;
     let secret = table(alloc, tables, STANDARD_SECRETS, secrets, errors)?;
@@ -246,7 +245,7 @@ fn tables_of<B: Allocator + Copy, T: Opener, E: Write>(
 /// be read, a table of secrets that names values, and a tag that is none; and 3 when out of memory. Tables are opened by
 /// `tables`, files by `opener`; where none is named, `stdin` is the input. Memory is taken
 /// from `alloc`: also for the bytes of the input.
-pub fn run_request<B: Allocator + Copy, T: Opener, O: Opener, R: Source, W: Sink, E: Write>(
+pub fn run_request<B: Allocator + Copy, T: Opener, O: Opener, R: Source, W: Sink, E: Sink>(
     alloc: B,
     request: &Request<'_>,
     terminal: Terminal<'_>,
@@ -259,8 +258,8 @@ pub fn run_request<B: Allocator + Copy, T: Opener, O: Opener, R: Source, W: Sink
     ensures { RequestDone (record { opens = T.opens; left = T.Input.left; can_fail = T.Input.can_fail })
         (record { opens = O.opens; left = O.Input.left; can_fail = O.Input.can_fail })
         request.now terminal.entry tables.old tables.new
-        (record { opener = opener.old; output = held W.emitted W.room output.old; errors = E.contents errors.old })
-        (record { opener = opener.new; output = held W.emitted W.room output.new; errors = E.contents errors.new })
+        (record { opener = opener.old; output = held W.emitted W.room output.old; errors = held E.emitted E.room errors.old })
+        (record { opener = opener.new; output = held W.emitted W.room output.new; errors = held E.emitted E.room errors.new })
         R.can_fail (R.left stdin.old) (R.left stdin.new) result }
 {
     let (tags, secret) = match tables_of(alloc, tables, request.names, request.secrets, errors) {

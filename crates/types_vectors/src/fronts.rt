@@ -35,27 +35,17 @@ fn gives_a_front(bytes: &[u8], room: usize, wanted: &[u8]) -> bool {
     fills(&mut source, room, wanted) && Some(source.0) == bytes.get(wanted.len()..)
 }
 
-// Whether a cursor at this offset of five bytes and these does, and is behind that front then.
-fn gives_a_front_at(bytes: &[u8], room: usize, wanted: &[u8]) -> bool {
-    let mut all = [0xAAu8; 8];
-    let end = bytes.len().saturating_add(5);
-    if let Some(place) = all.get_mut(5..end) {
-        place.copy_from_slice(bytes);
-    }
-    let mut cursor = Cursor::new(all.get(..end).unwrap_or(&[]));
-    cursor.set_position(5);
-    let mut source = MemoryCursor(cursor);
-    fills(&mut source, room, wanted) && source.0.position() == 5 + wanted.len() as u64
-}
-
-#[test]
-fn a_front_of_memory(rt: HostRuntime) -> Result<(), Fail> {
-    for (bytes, room, wanted) in FRONTS {
-        assert!(rt; gives_a_front(bytes, room, wanted), "{bytes:?}, {room}");
-        assert!(rt; gives_a_front_at(bytes, room, wanted), "{bytes:?}, {room}");
-    }
-    Ok(())
-}
+// Where a cursor over 01 to 05 stands, and how long the buffer is; and what it is filled with from its start on.
+const FRONTS_AT: [(u64, usize, &[u8]); 8] = [
+    (0, 0, b""),
+    (0, 3, b"\x01\x02\x03"),
+    (3, 1, b"\x04"),
+    (3, 2, b"\x04\x05"),
+    (3, 8, b"\x04\x05"),
+    (5, 8, b""),
+    (6, 8, b""),
+    (u64::MAX, 8, b""),
+];
 
 // A cursor at an offset of the bytes.
 fn cursor_at(bytes: &[u8], at: u64) -> MemoryCursor<&[u8]> {
@@ -64,14 +54,25 @@ fn cursor_at(bytes: &[u8], at: u64) -> MemoryCursor<&[u8]> {
     MemoryCursor(cursor)
 }
 
+// Whether such a cursor gives this front, and is behind it then.
+fn gives_a_front_at(at: u64, room: usize, wanted: &[u8]) -> bool {
+    let mut source = cursor_at(b"\x01\x02\x03\x04\x05", at);
+    fills(&mut source, room, wanted)
+        && source.0.position() == at.saturating_add(wanted.len() as u64)
+}
+
 #[test]
-fn no_front_past_the_end(rt: HostRuntime) -> Result<(), Fail> {
-    for at in [3u64, 4, u64::MAX] {
-        let mut source = cursor_at(b"\x01\x02\x03", at);
-        assert!(rt;
-            fills(&mut source, 8, b"") && source.0.position() == at,
-            "{at}"
-        );
+fn a_front_of_memory(rt: HostRuntime) -> Result<(), Fail> {
+    for (bytes, room, wanted) in FRONTS {
+        assert!(rt; gives_a_front(bytes, room, wanted), "{bytes:?}, {room}");
+    }
+    Ok(())
+}
+
+#[test]
+fn a_front_from_a_cursor_on(rt: HostRuntime) -> Result<(), Fail> {
+    for (at, room, wanted) in FRONTS_AT {
+        assert!(rt; gives_a_front_at(at, room, wanted), "{at}, {room}");
     }
     Ok(())
 }
