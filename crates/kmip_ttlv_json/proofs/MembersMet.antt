@@ -1,5 +1,5 @@
 -- The members of an object that were met, and the item that they make.
-use Rattle.std.proofs.Common.{◌≡◌, ◌≢◌, ◌∙◌, ℕ, ◌+◌, ◌-◌, ◌≤◌, Bool, true, false, not, ◌&&◌, ◌||◌, List, [], ◌∷◌, ◌++◌, length, take, drop, Option, Some, None, Ordering, Less, Equal, Greater}
+use Rattle.std.proofs.Common.{◌≡◌, ◌≢◌, ◌∙◌, ℕ, ◌+◌, ◌-◌, ◌≤◌, Bool, true, false, not, ◌&&◌, ◌||◌, List, ◌++◌, length, take, drop, Option, Some, None, Ordering, Less, Equal, Greater}
 use Rattle.std.proofs.Common.{Result, Ok, Err, refl, ap, sym, subst, arith, length-append, append_assoc}
 use Rattle.std.proofs.lemmas.List.{take_at, drop_at}
 use Rattle.std.proofs.lemmas.Map.Lookups.{exact_bytes}
@@ -16,10 +16,9 @@ use Rattle.kmip_ttlv_json.specs.declared.failure.BadMember.{BadMember}
 use Rattle.kmip_ttlv_json.specs.declared.failure.BadMember.TheVariants.{Members as BadMembers, Tag, Typ}
 use Rattle.kmip_ttlv_json.specs.declared.seen.Seen.{Seen}
 use Rattle.kmip_ttlv_json.specs.declared.members.Members.{Members as SeenMembers}
-use Rattle.kmip_ttlv_json.specs.JsonTrees.{tag_in, tag_of_text, type_of_text, content_of, leaf_in, leaf_of, node_of, typed_in, tagged_in, are_named, tree_of, below_of}
+use Rattle.kmip_ttlv_json.specs.JsonTrees.{tag_in, tag_of_text, type_of_text, content_of, leaf_in, leaf_of, node_of, typed_in, tagged_in, tree_of, below_of}
 use Rattle.kmip_ttlv_json.specs.Events.{text_in, truth_in, items_in, room, AddsItem, AreSeen, IsItem, IsSeen, is_other, has_other, three, HasText, HasValue, AreThree}
 use Rattle.kmip_ttlv_json.specs.Events.{AreMet, Meets}
-use Rattle.kmip_ttlv_json.proofs.Determining.{both_true}
 
 -- ---- members with other names
 

@@ -1,15 +1,11 @@
 -- JSON as trees, and the bytes that are made of them.
-use Rattle.std.proofs.Common.{◌≡◌, ◌∙◌, ℕ, zero, suc, ◌+◌, ◌-◌, ◌<◌, ◌≤◌, ◌^◌, true, List, [], ◌∷◌, ◌++◌, length, take, drop, get_or, replicate, Result, Ok}
+use Rattle.std.proofs.Common.{◌≡◌, ◌∙◌, ℕ, ◌+◌, ◌<◌, ◌≤◌, ◌^◌, true, List, [], ◌++◌, length, replicate, Result, Ok}
 use Rattle.std.proofs.Common.{Err, refl, ap, sym, arith, append_assoc, length-append}
-use Rattle.std.proofs.lemmas.List.{take_at, drop_at}
-use Rattle.std.specs.Int.{w32, to_be_bytes}
-use Rattle.serde_json.specs.{Data.depth, Data.items_depth, View.view, View.items_view, declared.value.Value.Value}
 use Rattle.kmip_ttlv_types.specs.{declared.typ.TtlvType.TheVariants.Structure, ItemTypes.pad_len, Items.header}
 use Rattle.kmip_ttlv_types.specs.Trees.{Tree, Trees, leaf, node, no_trees, tree, bytes, bytes_below, leaf_bytes, node_bytes, IsStructure, Fits, FitsBelow}
 use Rattle.kmip_ttlv_write.specs.OpenStructures.{add_last}
-use Rattle.kmip_ttlv_write.proofs.{Opens.below_last, Patches.lead}
-use Rattle.kmip_ttlv_json.specs.{declared.failure.BadMember.BadMember, declared.failure.JsonError.JsonError, JsonTrees.both, Readings.Fails, Readings.is_node}
-use Rattle.kmip_ttlv_json.specs.declared.failure.JsonError.TheVariants.{NotItem, OutOfMemory}
+use Rattle.kmip_ttlv_write.proofs.{Opens.below_last}
+use Rattle.kmip_ttlv_json.specs.{declared.failure.BadMember.BadMember, JsonTrees.both, Readings.is_node}
 
 -- ---- trees, one after the other
 
@@ -43,38 +39,6 @@ begun_more whole rest old mid new t b e = record {
   is = b.is ∙ sym (before_last b.done t rest);
   all = rw below_last (e ∙ ap (λ (s : List ℕ). s ++ bytes t) b.all ∙ append_assoc old (bytes_below b.done) (bytes t));
 }
-
-pub fails_all : {whole : Result Trees BadMember} (rest : Result Trees BadMember) (one : Result Tree BadMember) {old new : List ℕ} (e : JsonError)
-    → Begun whole (both one rest) old new → Fails one e → Fails whole e
-fails_all rest one (NotItem bad) b h = b.is ∙ ap (λ (r : Result Tree BadMember). before b.done (both r rest)) h ∙ before_bad b.done bad
-fails_all rest one OutOfMemory b h = tt
-fails_all rest one e b h = h
-
--- an item of an array is no deeper than all of them
-pub item_deep : (vs : List Value) (i : ℕ) (d : Value) → i < length vs → depth (view (get_or vs i d)) ≤ items_depth (items_view vs)
-item_deep [] i d lt = absurd (omega arith)
-item_deep (v ∷ vs) zero d lt = omega arith
-item_deep (v ∷ vs) (suc i) d lt = let h = item_deep vs i d (omega arith) in omega (arith, h)
-
--- ---- the length of a structure is filled in
-
-module _ (old d out : List ℕ) (tag top : ℕ) (top-is : top ≡ length old) (held : out ≡ (old ++ header tag Structure 0) ++ d) where
-  front : take (top + 4) out ≡ old ++ lead tag Structure
-  front =
-      let e : out ≡ (old ++ lead tag Structure) ++ (to_be_bytes w32 0 ++ d) = held ∙ simp append_assoc in
-      ap (take (top + 4)) e ∙ take_at (old ++ lead tag Structure) (to_be_bytes w32 0 ++ d) (top + 4) (omega (arith, length-append old (lead tag Structure)))
-
-  back : drop (top + 8) out ≡ d
-  back = ap (drop (top + 8)) held ∙ drop_at (old ++ header tag Structure 0) d (top + 8) (omega (arith, length-append old (header tag Structure 0)))
-
-  pub len : length out ≡ top + 8 + length d
-  len = ap length held ∙ omega (arith, length-append (old ++ header tag Structure 0) d, length-append old (header tag Structure 0))
-
-  pub node_put : take (top + 4) out ++ (to_be_bytes w32 (length out - (top + 8)) ++ drop (top + 8) out) ≡ old ++ node_bytes tag d
-  unfolding node_bytes
-  node_put =
-      let n : length out - (top + 8) ≡ length d = omega (arith, len) in
-      rw (front, back, n) (simp append_assoc)
 
 -- ---- what fits
 

@@ -10,7 +10,7 @@ use Rattle.kmip_ttlv_types.specs.Trees.{Tree, Trees, bytes, bytes_below}
 use Rattle.kmip_ttlv_json.specs.declared.failure.BadMember.{BadMember}
 use Rattle.kmip_ttlv_json.specs.declared.failure.BadMember.TheVariants.{Members as BadMembers, Value}
 use Rattle.kmip_ttlv_json.specs.declared.seen.Seen.{Seen}
-use Rattle.kmip_ttlv_json.specs.declared.seen.Seen.TheVariants.{Text, Truth, Items as SeenItems, Item as SeenItem, Other}
+use Rattle.kmip_ttlv_json.specs.declared.seen.Seen.TheVariants.{Text, Truth, Items as SeenItems, Item as SeenItem}
 use Rattle.kmip_ttlv_json.specs.declared.members.Members.{Members as SeenMembers}
 use Rattle.kmip_ttlv_json.specs.declared.read.Stop.{Stop}
 use Rattle.kmip_ttlv_json.specs.declared.read.Stop.TheVariants.{NotJson, NoMemory}

@@ -1,10 +1,10 @@
 -- What reading a message back from JSON comes to.
-use Rattle.std.specs.Prelude.{◌≡◌, ℕ, ◌+◌, ◌-◌, Bool, true, false, ◌||◌, nat_lt, List, [], ◌∷◌, ◌++◌, codes, Some, None, Result, Ok, Err}
+use Rattle.std.specs.Prelude.{◌≡◌, ℕ, ◌+◌, ◌-◌, Bool, true, false, ◌||◌, nat_lt, List, [], ◌∷◌, codes, Some, None, Result, Ok, Err}
 use Rattle.serde_json.specs.Data.{Data}
 use Rattle.serde_json.specs.Read.{read, max_depth}
 use Rattle.json.specs.Lex.{tokens}
 use Rattle.json.specs.Token.{Token, begin_object, end_object, begin_array, end_array}
-use Rattle.kmip_ttlv_types.specs.Trees.{Tree, Trees, leaf, node, bytes, bytes_below, IsStructure, Fits}
+use Rattle.kmip_ttlv_types.specs.Trees.{Tree, leaf, node, bytes, IsStructure, Fits}
 use Rattle.kmip_ttlv_json.specs.declared.failure.BadMember.{BadMember}
 use Rattle.kmip_ttlv_json.specs.declared.failure.BadMember.TheVariants.{Members, Tag, Typ, Value}
 use Rattle.kmip_ttlv_json.specs.declared.failure.JsonError.{JsonError}
@@ -63,26 +63,7 @@ error_words NotStructure = codes "the root is no Structure"
 error_words TooLong = codes "a length has more than four bytes"
 error_words OutOfMemory = codes "out of memory"
 
--- why the JSON of an item gives no tree, or out of memory
-abbrev pub Fails : {A : Type 0} → Result A BadMember → JsonError → Type 0
-Fails result (NotItem bad) = result ≡ Err bad
-Fails result OutOfMemory = Unit {0}
-Fails result _ = ⊥
-
 -- a tree is a structure
 abbrev pub is_node : Tree → Bool
 is_node (leaf tag typ content) = false
 is_node (node tag below) = true
-
--- canonical bytes of the tree that JSON is were added to others; whether it is a structure
-pub record AddsTree (result : Result Tree BadMember) (old new : List ℕ) (structure : Bool) : Type 0 where
-  pub added : Tree
-  pub is : result ≡ Ok added
-  pub kind : structure ≡ is_node added
-  pub all : new ≡ old ++ bytes added
-
--- and of several trees
-pub record AddsTrees (result : Result Trees BadMember) (old new : List ℕ) : Type 0 where
-  pub added : Trees
-  pub is : result ≡ Ok added
-  pub all : new ≡ old ++ bytes_below added
