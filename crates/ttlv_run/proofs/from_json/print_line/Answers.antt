@@ -2,7 +2,7 @@ use Rattle.std.proofs.Common.{rules, ◌∙◌, inl, inr, List, ℕ, [], sym, re
 use Rattle.kmip_ttlv_types.proofs.Held.{gets_none}
 use Rattle.kmip_ttlv_json.specs.Readings.{IsReadAs, FailsToRead}
 use Rattle.ttlv_run.specs.{Columns.body, JsonLines.IsBlank, JsonLines.shown}
-use Rattle.std.proofs.lemmas.Result.{err_from_is_err_and}
+use Rattle.std.proofs.lemmas.{Bool.true≢false, Result.err_from_is_err_and}
 use Rattle.ttlv_run.proofs.from_json.print_line.Goals as goal
 
 pub returns-then-is_blank-clause-ok : goal.returns-then-is_blank-clause-ok
@@ -24,7 +24,7 @@ pub returns-in-Err-clause-ok : goal.returns-in-Err-clause-ok
 returns-in-Err-clause-ok g c =
     let is = c.unmarked-text.ensures.is in
     let some : IsBlank (body c.args.line.now) → ⊥ =
-    λ blank. let h = c.is_blank.ensures.1 (subst IsBlank (sym (c.as_bytes.ensures.value ∙ is)) blank) in cc in (
+    λ blank. true≢false (sym (c.is_blank.ensures.1 (subst IsBlank (sym (c.as_bytes.ensures.value ∙ is)) blank)) ∙ c.if-is_blank.false) in (
       record {
         some = some;
         fails = subst (λ (s : List ℕ). FailsToRead s c.in-Err.error) is c.in-Err.ensures.err;
