@@ -114,6 +114,21 @@ fn a_line_takes_four_times_its_length(rt: HostRuntime) {
     }
 }
 
+// A line is moved a few times at most while it is read, however long it gets.
+fn is_moved_little(alloc: Global) -> Result<bool, AllocError> {
+    let item = "{\"tag\":\"0x42006A\",\"type\":\"Structure\",\"value\":[]},";
+    let mut line = String::from_str(alloc, "[")?;
+    line.push_str(repeated(alloc, item, 80_000)?.as_str())?;
+    let heap = BoundedAllocator::in_blocks(alloc, 16_777_216);
+    let outcome = outcome_of(alloc, &heap, line.as_str());
+    Ok(outcome.status == 1 && heap.asked() < 12 * line.len())
+}
+
+#[test]
+fn a_long_line_is_moved_a_few_times(rt: HostRuntime) {
+    assert_eq!(rt; is_moved_little(rt.alloc()), Ok(true));
+}
+
 // A message with a leaf of each form that a value has.
 const LEAVES: &str =
     "{\"tag\":\"0x420069\",\"type\":\"Structure\",\"value\":[{\"tag\":\"0x42006A\",\"type\":\"Integer\",\"value\":\"0x00000001\"},{\"tag\":\"0x42006A\",\"type\":\"TextString\",\"value\":\"Key\"},{\"tag\":\"0x42006A\",\"type\":\"ByteString\",\"value\":\"00FF\"},{\"tag\":\"0x42006A\",\"type\":\"Boolean\",\"value\":true}]}";

@@ -143,8 +143,15 @@ impl<A: Allocator> Window<A> {
         self.read_behind(input, room)
     }
 
-    /// Reads until a line feed came or the input ended; returns whether it did. How long a line gets isn't known, so room
-    /// for it grows by a piece at a time.
+    // For how many bytes room is made behind a line whose end isn't known: a piece, or a quarter of what is there, so that what is
+    // there is moved a few times at most, however long the line gets.
+    fn room_for_line(&self) -> usize
+        ensures { 0 < result }
+    {
+        PIECE.max(self.count / 4)
+    }
+
+    /// Reads until a line feed came or the input ended; returns whether it did.
     pub fn read_lines<R: Source>(&mut self, input: &mut R) -> Result<bool, RunError>
         ensures ok { IfOk result (YieldsLines (R.left input.old) (R.left input.new) (buffered self.old) (buffered self.new)) }
         ensures why { IfErr result (IsUnread R.can_fail) }
@@ -152,7 +159,8 @@ impl<A: Allocator> Window<A> {
     {
         'pieces: loop {
             let before = self.buffered().len();
-            if self.read_behind(input, PIECE)? == 0 {
+            let room = self.room_for_line();
+            if self.read_behind(input, room)? == 0 {
                 return Ok(true);
             }
             if has_line_feed(self.buffered(), before) {
