@@ -1,5 +1,6 @@
 -- JSON read event by event: the loops over an array's items and an object's members, a turn at a time.
-use Rattle.std.proofs.Common.{◌≡◌, ◌∙◌, ℕ, ◌+◌, ◌-◌, ◌<◌, ◌≤◌, ◌^◌, Bool, true, false, List, [], ◌∷◌, ◌++◌, length, take, Option, Some, None, Result, Ok, Err, refl, ap, sym, subst}
+use Rattle.std.proofs.Common.{◌≡◌, ◌∙◌, ℕ, ◌+◌, ◌-◌, ◌<◌, ◌≤◌, ◌^◌, Bool, true, false, List, [], ◌∷◌, ◌++◌, length, take, Option, Some, None}
+use Rattle.std.proofs.Common.{Result, Ok, Err, refl, ap, sym, subst}
 use Rattle.std.proofs.Common.{arith, append_assoc, append-nil}
 use Rattle.std.proofs.lemmas.List.{take_at}
 use Rattle.std.specs.Prelude.{is_some, IfErr}
@@ -16,9 +17,11 @@ use Rattle.kmip_ttlv_json.specs.declared.members.Members.{Members as SeenMembers
 use Rattle.kmip_ttlv_json.specs.declared.read.Stop.{Stop}
 use Rattle.kmip_ttlv_json.specs.declared.read.Stop.TheVariants.{NotJson, NoMemory}
 use Rattle.kmip_ttlv_json.specs.JsonTrees.{tree_of, trees_of, both}
-use Rattle.kmip_ttlv_json.specs.Events.{both_seen, kept, item_in, room, AddsItem, IsItem, Stops, IsSeen, Reads, ReadsItems, ReadsMember, ReadsMembers, ReadsText, Meets}
+use Rattle.kmip_ttlv_json.specs.Events.{both_seen, kept, item_in, room, AddsItem, IsItem, Stops, IsSeen, Reads, ReadsItems, ReadsMember, ReadsMembers}
+use Rattle.kmip_ttlv_json.specs.Events.{ReadsText, Meets}
 use Rattle.kmip_ttlv_json.specs.Readings.{ReadsAs, IsReadAs}
-use Rattle.kmip_ttlv_json.proofs.Converted.{converted_array, converted_object, item_read, item_refused, items_over, member_read, member_refused, key_refused, members_over}
+use Rattle.kmip_ttlv_json.proofs.Converted.{converted_array, converted_object, item_read, item_refused, items_over, member_read, member_refused}
+use Rattle.kmip_ttlv_json.proofs.Converted.{key_refused, members_over}
 use Rattle.kmip_ttlv_json.proofs.ReadingBack.{before, before_bad, before_end, Begun, begun_more, structure_fits, structure_is_long, added_alone}
 
 mapped_twice : {A B C : Type 0} (f : B → C) (g : A → B) (r : Option (A × List Token)) → parse_map f (parse_map g r) ≡ parse_map (λ a. f (g a)) r

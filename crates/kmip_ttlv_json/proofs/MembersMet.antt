@@ -1,5 +1,6 @@
 -- The members of an object that were met, and the item that they make.
-use Rattle.std.proofs.Common.{◌≡◌, ◌≢◌, ◌∙◌, ℕ, ◌+◌, ◌-◌, ◌≤◌, Bool, true, false, not, ◌&&◌, ◌||◌, List, ◌++◌, length, take, drop, Option, Some, None, Ordering, Less, Equal, Greater}
+use Rattle.std.proofs.Common.{◌≡◌, ◌≢◌, ◌∙◌, ℕ, ◌+◌, ◌-◌, ◌≤◌, Bool, true, false, not, ◌&&◌, ◌||◌, List, ◌++◌, length, take, drop, Option}
+use Rattle.std.proofs.Common.{Some, None, Ordering, Less, Equal, Greater}
 use Rattle.std.proofs.Common.{Result, Ok, Err, refl, ap, sym, subst, arith, length-append, append_assoc}
 use Rattle.std.proofs.lemmas.List.{take_at, drop_at}
 use Rattle.std.proofs.lemmas.Map.Lookups.{exact_bytes}
@@ -17,7 +18,8 @@ use Rattle.kmip_ttlv_json.specs.declared.failure.BadMember.TheVariants.{Members 
 use Rattle.kmip_ttlv_json.specs.declared.seen.Seen.{Seen}
 use Rattle.kmip_ttlv_json.specs.declared.members.Members.{Members as SeenMembers}
 use Rattle.kmip_ttlv_json.specs.JsonTrees.{tag_in, tag_of_text, type_of_text, content_of, leaf_in, leaf_of, node_of, typed_in, tagged_in, tree_of, below_of}
-use Rattle.kmip_ttlv_json.specs.Events.{text_in, truth_in, items_in, room, AddsItem, AreSeen, IsItem, IsSeen, is_other, has_other, three, HasText, HasValue, AreThree}
+use Rattle.kmip_ttlv_json.specs.Events.{text_in, truth_in, items_in, room, AddsItem, AreSeen, IsItem, IsSeen, is_other, has_other, three}
+use Rattle.kmip_ttlv_json.specs.Events.{HasText, HasValue, AreThree}
 use Rattle.kmip_ttlv_json.specs.Events.{AreMet, Meets}
 
 -- ---- members with other names
@@ -26,7 +28,8 @@ either : (a b : Bool) → b ≡ true → (a || b) ≡ true
 either true b h = refl
 either false b h = h
 
-put_keeps : (o : Ordering) (a b c : Members) → has_other a ≡ true → has_other b ≡ true → has_other c ≡ true → has_other (match_ordering o a b c) ≡ true
+put_keeps : (o : Ordering) (a b c : Members) → has_other a ≡ true → has_other b ≡ true → has_other c ≡ true
+    → has_other (match_ordering o a b c) ≡ true
 put_keeps Less a b c p q r = p
 put_keeps Equal a b c p q r = q
 put_keeps Greater a b c p q r = r
@@ -46,7 +49,8 @@ front_other true y h = refl
 front_other false y h = absurd (cc)
 
 -- the comparison's answer is looked at, and what it means
-put_front : (o : Ordering) (k l : List ℕ) (d e : Data) (ms : Members) → slice_cmp nat_cmp k l ≡ o → is_other k ≡ true → has_other (put k d ms) ≡ true
+put_front : (o : Ordering) (k l : List ℕ) (d e : Data) (ms : Members) → slice_cmp nat_cmp k l ≡ o → is_other k ≡ true
+    → has_other (put k d ms) ≡ true
     → has_other (match_ordering o (member k d (member l e ms)) (member l d ms) (member l e (put k d ms))) ≡ true
 put_front Less k l d e ms is h more = front_other (is_other k) (has_other (member l e ms)) h
 put_front Equal k l d e ms is h more = front_other (is_other l) (has_other ms) (subst (λ n. is_other n ≡ true) (exact_bytes k l is) h)
@@ -337,7 +341,8 @@ module _ (json : Members) (met : SeenMembers) (front out : List ℕ) (m : Meets 
 
       structure_item : (r : Result Bool BadMember) (below : Result Trees BadMember) (items : Result (Unit {0}) BadMember)
           → tree_of (object json) ≡ node_of t below → AreSeen below items m.added
-          → IfOk r (λ structure. (structure ≡ true) × (items ≡ Ok tt) × (new ≡ take top out ++ (header t Structure (length out - (top + 8)) ++ drop (top + 8) out)))
+          → IfOk r (λ structure. (structure ≡ true) × (items ≡ Ok tt)
+          × (new ≡ take top out ++ (header t Structure (length out - (top + 8)) ++ drop (top + 8) out)))
           → IfErr r (λ bad. (items ≡ Err bad) × (new ≡ out)) → AddsItem (tree_of (object json)) front new r
       structure_item (Ok structure) below items is seen ok err =
           let b = subst (λ i. AreSeen below i m.added) ok.1 seen in

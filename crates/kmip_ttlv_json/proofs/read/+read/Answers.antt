@@ -1,4 +1,5 @@
-use Rattle.std.proofs.Common.{◌≡◌, ◌∙◌, ◌-◌, ◌<◌, ◌++◌, true, false, List, [], ◌∷◌, length, take, Some, None, option_map, refl, sym, ap, ap₂, subst, arith, rules}
+use Rattle.std.proofs.Common.{◌≡◌, ◌∙◌, ◌-◌, ◌<◌, ◌++◌, true, false, List, [], ◌∷◌, length, take, Some, None, option_map, refl, sym, ap}
+use Rattle.std.proofs.Common.{ap₂, subst, arith, rules}
 use Rattle.std.specs.Prelude.{ℕ, is_some, codes}
 use Rattle.std.specs.Str.{bytes_eq}
 use Rattle.std.proofs.lemmas.{Slice.Eq.bytes_eq-Decides, List.take_at}
