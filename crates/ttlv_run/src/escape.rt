@@ -14,9 +14,9 @@ use kmip_ttlv_util::{Pieces, TextSink};
 use std::io::{self, Error};
 use std::str;
 
-/// What escaped texts are appended to. Its only errors are its own: none is out of memory of someone else.
+/// A sink that escaped texts are appended to: any [`TextSink`], or a [`NameSink`].
 ///
-/// Each [`TextSink`] is one, and so is [`NameSink`].
+/// Nothing but the sink can make appending fail, where a text sink may be told that memory ran out.
 pub trait PlainSink {
     /// Why a part can't be appended.
     type Error;
