@@ -300,7 +300,7 @@ fn refusal<A: Allocator>(
 /// prints: a tag is `0x` and six digits, a type its name, and digits are of either case. Of a member that is given twice
 /// the last counts.
 ///
-/// It takes no more memory than twice the text's length, beside a constant, and stack for 127 levels at most.
+/// It takes twice the text's length of memory and half of its longest value at most, and stack for 127 levels.
 ///
 /// Errors: `NotJson` and `TooDeep` with their place; `NotItem` with what is wrong with the first item that isn't one; `NotStructure` if the
 /// root isn't one; `TooLong` if a Structure has 2^32 bytes of content or more; `OutOfMemory`.

@@ -6,7 +6,7 @@ use std::alloc::{AllocError, Allocator, Global};
 use ttlv_run::JsonJob;
 use ttlv_run::from_json::read_json;
 
-// What a line begins with, what comes so often that it has 400,000 bytes, what it ends with, and the status.
+// What a line begins with, what comes so often that it has 120,000 bytes, what it ends with, and the status.
 type Row = (&'static str, &'static str, &'static str, u8);
 
 const ROWS: [Row; 14] = [
@@ -77,7 +77,8 @@ const ROWS: [Row; 14] = [
 fn line_of(alloc: Global, row: Row) -> Result<String, AllocError> {
     let (front, item, back, _) = row;
     let mut line = String::from_str(alloc, front)?;
-    line.push_str(repeated(alloc, item, 400_000 / item.len() as u64)?.as_str())?;
+    let often = 120_000u64.checked_div(item.len() as u64).unwrap_or(0);
+    line.push_str(repeated(alloc, item, often)?.as_str())?;
     line.push_str(back)?;
     Ok(line)
 }
@@ -102,7 +103,7 @@ fn outcome_of<A: Allocator + Copy>(alloc: Global, heap: A, line: &str) -> Outcom
 // Whether a line is read within four times its length and a constant.
 fn is_read_within(alloc: Global, row: Row) -> Result<bool, AllocError> {
     let line = line_of(alloc, row)?;
-    let heap = BoundedAllocator::new(alloc, 4 * line.len() + 131_072);
+    let heap = BoundedAllocator::new(alloc, line.len().saturating_mul(4).saturating_add(70_000));
     let outcome = outcome_of(alloc, &heap, line.as_str());
     Ok(outcome.status == row.3 && !heap.has_failed())
 }
@@ -121,7 +122,7 @@ fn is_moved_little(alloc: Global) -> Result<bool, AllocError> {
     line.push_str(repeated(alloc, item, 80_000)?.as_str())?;
     let heap = BoundedAllocator::in_blocks(alloc, 16_777_216);
     let outcome = outcome_of(alloc, &heap, line.as_str());
-    Ok(outcome.status == 1 && heap.asked() < 12 * line.len())
+    Ok(outcome.status == 1 && heap.asked() / 12 < line.len())
 }
 
 #[test]
