@@ -9,6 +9,7 @@ pub mod Completion
 pub mod Counting
 pub mod Decoders
 pub mod DumpLines
+pub mod Entries
 pub mod FrontsDecided
 pub mod Good
 pub mod Groups

@@ -1,7 +1,9 @@
 -- The names of values, and of a mask's bits.
-use Rattle.std.specs.Prelude.{◌≡◌, ◌<◌, ◌≤◌, ℕ, zero, suc, ◌*◌, ◌/◌, ◌%◌, Bool, true, false, ◌==◌, List, [], ◌++◌}
-use Rattle.std.specs.Prelude.{Option, Some, None, if◌then◌else◌, codes}
-use Rattle.kmip_ttlv_names.specs.ValueNames.{entry_name, name_of_value, or_else}
+use Rattle.std.specs.Prelude.{◌≡◌, ◌<◌, ◌≤◌, ℕ, zero, suc, ◌+◌, ◌*◌, ◌/◌, ◌%◌, Bool, true, false, ◌==◌, List, [], ◌++◌}
+use Rattle.std.specs.Prelude.{Option, Some, None, if◌then◌else◌, codes, length}
+use Rattle.std.specs.List.{position_or_len, before_first}
+use Rattle.kmip_ttlv_types.specs.Names.{number}
+use Rattle.kmip_ttlv_names.specs.ValueNames.{entry_name, is_equals, is_semicolon, name_of_value, or_else}
 use Rattle.kmip_ttlv_names.specs.OwnNames.{value_key}
 use Rattle.ttlv_run.specs.declared.masks.Entry.{Entry}
 use Rattle.ttlv_run.specs.declared.masks.Entry.TheVariants.{Passed, Named, Later}
@@ -29,8 +31,14 @@ IsNext value list name rest =
     × ((other : ℕ) → value < other → name_of_value other list ≡ name_of_value other rest)
 
 -- another list has the names of the values above this one
-abbrev pub NamesAbove : ℕ → Option (List ℕ) → Option (List ℕ) → Type 0
-NamesAbove value list rest = (other : ℕ) → value < other → value_in list other ≡ value_in rest other
+abbrev pub NamesAbove : ℕ → List ℕ → List ℕ → Type 0
+NamesAbove value list rest = (other : ℕ) → value < other → name_of_value other list ≡ name_of_value other rest
+
+-- how an entry for this value begins: with its number and an equals sign
+pub record BeginsFor (value : ℕ) (front : List ℕ) : Type 0 where
+  pub means : number (before_first is_equals front) ≡ Some value
+  pub ends : position_or_len is_equals front + 1 ≡ length front
+  pub one : position_or_len is_semicolon front ≡ length front
 
 -- what stands in front of a name: a space, or a bar where it isn't the first
 abbrev pub mark : Bool → List ℕ

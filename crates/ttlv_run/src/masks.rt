@@ -1,16 +1,17 @@
 //! The names of values, and of a mask's bits.
 
-ghost use Rattle.std.specs.Prelude.{◌≡◌, ℕ, true, None, length, OnOk, OnErr, option_map};
-ghost use Rattle.std.specs.List.{position_or_len};
+ghost use Rattle.std.specs.Prelude.{◌≡◌, ◌<◌, ◌^◌, ℕ, true, Some, None, OnOk, OnErr, option_map};
+ghost use Rattle.std.specs.List.{before_first, after_first};
 ghost use Rattle.kmip_ttlv_names.specs.OwnNames.{value_key};
 ghost use Rattle.kmip_ttlv_names.specs.ValueNames.{is_semicolon};
 ghost use Rattle.kmip_ttlv_util.specs.TagNames.{name_in};
-ghost use Rattle.ttlv_run.specs.Masks.{value_in, value_named, mark, behind_mark, still_first, set_name, mask_names, IsEntry, IsNext, NamesAbove};
+ghost use Rattle.ttlv_run.specs.Masks.{value_in, value_named, mark, behind_mark, still_first, set_name, mask_names, BeginsFor, IsEntry, IsNext, NamesAbove};
 
 use crate::job::Names;
 use kmip_ttlv_names::{value_key, value_name};
 use kmip_ttlv_types::{TtlvTag, number};
 use kmip_ttlv_util::TextSink;
+use memchr::memchr;
 use std::alloc::Allocator;
 
 // The user's own name of a tag's value.
@@ -79,15 +80,58 @@ fn entry_for(entry: &str, value: u32) -> Entry<'_>
     }
 }
 
-// The name of a value in the last entry of a list, and what is left of it for greater ones.
-fn last_name(entry: &str, value: u32) -> (Option<&str>, &str)
-    requires { position_or_len is_semicolon entry.now ≡ length entry.now }
-    ensures { IsNext value entry.now (option_map (λ s. s.now) result.0) result.1.now }
+// How an entry of a list begins that is for each bit, from the lowest on: with its number and an equals sign.
+const FRONTS: [&str; 32] = [
+    "1=",
+    "2=",
+    "4=",
+    "8=",
+    "10=",
+    "20=",
+    "40=",
+    "80=",
+    "100=",
+    "200=",
+    "400=",
+    "800=",
+    "1000=",
+    "2000=",
+    "4000=",
+    "8000=",
+    "10000=",
+    "20000=",
+    "40000=",
+    "80000=",
+    "100000=",
+    "200000=",
+    "400000=",
+    "800000=",
+    "1000000=",
+    "2000000=",
+    "4000000=",
+    "8000000=",
+    "10000000=",
+    "20000000=",
+    "40000000=",
+    "80000000=",
+];
+
+// How an entry of a list begins that is for the bit so many places from the lowest.
+fn front_of(place: usize) -> &'static str
+    requires { place < 32 }
+    ensures { BeginsFor (2 ^ place) result.now }
 {
-    match entry_for(entry, value) {
-        Entry::Passed => (None, ""),
-        Entry::Named(name) => (Some(name), ""),
-        Entry::Later => (None, entry),
+    FRONTS[place]
+}
+
+// The first entry of a list, and the others.
+fn cut(list: &str) -> (&str, &str)
+    ensures entry { result.0.now ≡ before_first is_semicolon list.now }
+    ensures others { result.1.now ≡ after_first is_semicolon list.now }
+{
+    match memchr(b';', list.as_bytes()) {
+        Some(place) => (&list[..place], &list[place + 1..]),
+        None => (list, ""),
     }
 }
 
@@ -97,38 +141,52 @@ fn next_name(list: &str, value: u32) -> (Option<&str>, &str)
     ensures { IsNext value list.now (option_map (λ s. s.now) result.0) result.1.now }
 {
     let mut rest = list;
-    'entries: while let Some((entry, more)) = rest.split_once(';') {
+    'entries: while !rest.is_empty() {
+        let (entry, others) = cut(rest);
         match entry_for(entry, value) {
-            Entry::Passed => rest = more,
-            Entry::Named(name) => return (Some(name), more),
+            Entry::Passed => rest = others,
+            Entry::Named(name) => return (Some(name), others),
             Entry::Later => return (value_name(rest, value), rest),
         }
     }
-    last_name(rest, value)
+    (None, "")
+}
+
+// The name of a bit in a list, and what is left of the list for greater ones. The bit's entry is the first as a rule.
+fn bit_name<'l>(list: &'l str, bit: u32, front: &str) -> (Option<&'l str>, &'l str)
+    requires { BeginsFor bit front.now }
+    ensures { IsNext bit list.now (option_map (λ s. s.now) result.0) result.1.now }
+{
+    match list.strip_prefix(front) {
+        Some(named) => {
+            let (name, others) = cut(named);
+            (Some(name), others)
+        }
+        None => next_name(list, bit),
+    }
 }
 
 // The name of a bit of a mask, if it is set and has one, and what is left of the list for greater bits.
 fn set_name<'n, A: Allocator>(
     names: &Names<'n, A>,
-    list: Option<&'n str>,
+    list: &'n str,
     tag: TtlvTag,
-    bit: u32,
+    place: usize,
     is_set: bool,
-) -> (Option<&'n str>, Option<&'n str>)
+) -> (Option<&'n str>, &'n str)
+    requires { place < 32 }
     ensures name { option_map (λ s. s.now) result.0 ≡ set_name (value_named (name_in names.now.own)
-        (option_map (λ s. s.now) list.entry) tag) bit is_set }
-    ensures rest { NamesAbove bit (option_map (λ s. s.now) list.entry) (option_map (λ s. s.now) result.1) }
+        (Some list.now) tag) (2 ^ place) is_set }
+    ensures rest { NamesAbove (2 ^ place) list.now result.1.now }
 {
     if !is_set {
         return (None, list);
     }
-    let Some(entries) = list else {
-        return (own_name(names, tag, bit), None);
-    };
-    let (listed, rest) = next_name(entries, bit);
+    let bit = 1 << place;
+    let (listed, rest) = bit_name(list, bit, front_of(place));
     match own_name(names, tag, bit) {
-        Some(name) => (Some(name), Some(rest)),
-        None => (listed, Some(rest)),
+        Some(name) => (Some(name), rest),
+        None => (listed, rest),
     }
 }
 
@@ -163,15 +221,11 @@ fn still_first(is_first: bool, name: Option<&str>) -> bool
     }
 }
 
-// Whether no value has a name: there is no list, and the user names none.
-fn is_unnamed<A: Allocator>(names: &Names<'_, A>, list: Option<&str>) -> bool
-    ensures { result ≡ true → (tag value : ℕ) → value_named (name_in names.now.own)
-        (option_map (λ s. s.now) list.entry) tag value ≡ None }
+// Whether no value has a name: a list is empty, and the user names none.
+fn is_unnamed<A: Allocator>(names: &Names<'_, A>, list: &str) -> bool
+    ensures { result ≡ true → (tag value : ℕ) → value_named (name_in names.now.own) (Some list.now) tag value ≡ None }
 {
-    match list {
-        Some(_) => false,
-        None => names.own.is_empty(),
-    }
+    list.is_empty() && names.own.is_empty()
 }
 
 /// Adds the names of the bits of a mask that are set, from the lowest on: the user's, or else those in a list.
@@ -189,20 +243,17 @@ pub fn push_mask<'n, S: TextSink, A: Allocator>(
     ensures err { OnErr result (S.breaks out.old (mask_names (value_named (name_in names.now.own)
         (option_map (λ s. s.now) list.entry) tag) mask) out.new) }
 {
-    if is_unnamed(names, list) {
-        return Ok(());
-    }
-    let mut rest = mask as u64;
-    let mut bit: u64 = 1;
+    let mut entries = list.unwrap_or("");
+    let mut rest = mask;
+    let mut place = 0;
     let mut is_first = true;
-    let mut entries = list;
-    'bits: while rest > 0 {
-        let (name, later) = set_name(names, entries, tag, bit as u32, rest % 2 == 1);
+    'bits: while rest > 0 && !is_unnamed(names, entries) {
+        let (name, others) = set_name(names, entries, tag, place, rest % 2 == 1);
         push_bit(out, is_first, name)?;
         is_first = still_first(is_first, name);
-        entries = later;
+        entries = others;
         rest /= 2;
-        bit *= 2;
+        place += 1;
     }
     Ok(())
 }
