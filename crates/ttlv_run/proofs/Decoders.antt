@@ -207,7 +207,7 @@ pub record Same (new old : Decoder) : Type 0 where
   pub begun : begun new ≡ begun old
 
 -- it holds what the other read, whatever the part is
-holds_as : {new : Decoder} {s bytes digits rest : List ℕ} {part : LinePart} (old : Decoder) → new.form ≡ old.form → new.part ≡ part → new.phase ≡ old.phase
+pub holds_as : {new : Decoder} {s bytes digits rest : List ℕ} {part : LinePart} (old : Decoder) → new.form ≡ old.form → new.part ≡ part → new.phase ≡ old.phase
     → begun new ≡ begun old
     → Reads old.form (first_part old.form) s digits part rest
     → Knows old.phase old.form digits (begun old) bytes

@@ -1,5 +1,6 @@
 -- The first entry of a list of names, and the others.
-use Rattle.std.proofs.Common.{◌≡◌, ℕ, zero, suc, ◌+◌, ◌<◌, ◌≤◌, ◌^◌, ◌==◌, ◌&&◌, Bool, true, false, not, cond, Bor, List, [], ◌∷◌, ◌++◌, length, Option, Some, None}
+use Rattle.std.proofs.Common.{◌≡◌, ℕ, zero, suc, ◌+◌, ◌<◌, ◌≤◌, ◌^◌, ◌==◌, ◌&&◌, Bool, true, false, not, cond}
+use Rattle.std.proofs.Common.{Bor, List, [], ◌∷◌, ◌++◌, length, Option, Some, None}
 use Rattle.std.proofs.Common.{ap, refl, sym, subst, ◌∙◌, arith, get_or, true≢false}
 use Rattle.std.specs.Prelude.{nat_lt}
 use Rattle.std.specs.List.{position_or_len, before_first, after_first}
@@ -171,7 +172,8 @@ one_begins : (fs : List (Bor (List ℕ))) (place start : ℕ) (d : Bor (List ℕ
 unfolding all_begin
 one_begins [] place start d all lt = absurd (omega (arith, lt))
 one_begins (f ∷ fs) zero start d all lt =
-    subst (λ (k : ℕ). BeginsFor (2 ^ k) f.now) (omega arith) (begins_is (2 ^ start) f.now (and_parts (begins (2 ^ start) f.now) (all_begin (suc start) fs) all).0)
+    subst (λ (k : ℕ). BeginsFor (2 ^ k) f.now) (omega arith)
+    (begins_is (2 ^ start) f.now (and_parts (begins (2 ^ start) f.now) (all_begin (suc start) fs) all).0)
 one_begins (f ∷ fs) (suc place) start d all lt =
     subst (λ (k : ℕ). BeginsFor (2 ^ k) (get_or fs place d).now) (omega arith)
     (one_begins fs place (suc start) d (and_parts (begins (2 ^ start) f.now) (all_begin (suc start) fs) all).1 (omega (arith, lt)))

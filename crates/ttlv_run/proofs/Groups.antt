@@ -479,8 +479,76 @@ digits_behind form (suc n) (c ∷ s) (b ∷ t) front all le whole bytes is of_al
     front_step form p.g p.r (b ∷ t) front all first.0 p.long (front_bytes p.g p.r parts) first.1 (sym (ap (decode_form form) p.are) ∙ is) over
     (λ fs xs here there. digits_behind form n p.r (b ∷ t) fs xs (omega (arith, p.less, le)) p.whole (back_bytes p.g p.r parts) here there)
 
--- a call of base64 decodes a group to three bytes at most
-pub decoded_within : (e : GeneralPurpose) (g old new : List ℕ) (r : Result ℕ DecodeError) → length old ≡ 3 → IfOk r (λ n. IsDecodedInto e g n old new)
-    → IfSome (result_ok r) (λ n. n ≤ 3)
-decoded_within e g old new (Err f) three ok = tt
-decoded_within e g old new (Ok n) three ok = omega (arith, three, ok.2)
+-- a call of base64 decodes to as many bytes as there is room for
+pub decoded_within : (e : GeneralPurpose) (g old new : List ℕ) (r : Result ℕ DecodeError) → length new ≡ length old
+    → IfOk r (λ n. IsDecodedInto e g n old new) → IfSome (result_ok r) (λ n. n ≤ length new)
+decoded_within e g old new (Err f) len ok = tt
+decoded_within e g old new (Ok n) len ok = omega (arith, len, ok.2)
+
+-- ---- runs of whole groups
+
+-- so many bytes are whole groups of so many digits
+abbrev pub AreWhole : Form → ℕ → ℕ → Type 0
+AreWhole form digits bytes = bytes ≡ digits / width form * (width form - 1)
+
+rest_whole : (form : Form) (digits x xs first : ℕ) → AreWhole form (width form + digits) x → x ≡ first + xs → first + 1 ≡ width form → AreWhole form digits xs
+rest_whole form digits x xs first = by_width form
+    (λ (w : ℕ). x ≡ (w + digits) / w * (w - 1) → x ≡ first + xs → first + 1 ≡ w → xs ≡ digits / w * (w - 1))
+    (λ a b c. omega (arith, a, b, c)) (λ a b c. omega (arith, a, b, c))
+
+one_whole : (form : Form) (digits x : ℕ) → digits ≡ width form → AreWhole form digits x → width form ≤ x + 1
+one_whole form digits x = by_width form (λ (w : ℕ). digits ≡ w → x ≡ digits / w * (w - 1) → w ≤ x + 1)
+    (λ a b. omega (arith, a, b)) (λ a b. omega (arith, a, b))
+
+pub both_whole : (form : Form) (a b : ℕ) → a % width form ≡ 0 → b % width form ≡ 0 → (a + b) % width form ≡ 0
+both_whole form a b = by_width form (λ (w : ℕ). a % w ≡ 0 → b % w ≡ 0 → (a + b) % w ≡ 0) (λ x y. omega (arith, x, y)) (λ x y. omega (arith, x, y))
+
+pub prepended : (x y : List ℕ) (o : Option (List ℕ)) → prepend_known (x ++ y) o ≡ prepend_known x (prepend_known y o)
+prepended x y None = refl
+prepended x y (Some z) = ap Some (append_assoc x y z)
+
+nothing_in_front : (o : Option (List ℕ)) → o ≡ prepend_known [] o
+nothing_in_front None = refl
+nothing_in_front (Some x) = refl
+
+-- the first group of a run, and the others
+run_step : (form : Form) (g r x rest : List ℕ) → length g ≡ width form → IsBytes (g ++ r) → IsBytes x → AreWhole form (length (g ++ r)) (length x)
+    → decode_form form (g ++ r) ≡ Some x
+    → ((xs : List ℕ) → 0 < length r → IsBytes xs → AreWhole form (length r) (length xs) → decode_form form r ≡ Some xs
+    → decode_form form (r ++ rest) ≡ prepend_known xs (decode_form form rest))
+    → decode_form form ((g ++ r) ++ rest) ≡ prepend_known x (decode_form form rest)
+run_step form g [] x rest long bytes are whole is on =
+    let alone : g ++ [] ≡ g = append-nil g in
+    let known = group_known form g x long (front_bytes g [] bytes) are
+    (one_whole form (length (g ++ [])) (length x) (omega (arith, long, length-append g [])) whole) (sym (ap (decode_form form) alone) ∙ is) in
+    ap (λ (t : List ℕ). decode_form form (t ++ rest)) alone ∙ group_then form g x long (front_bytes g [] bytes) known rest
+run_step form g (b ∷ r) x rest long bytes are whole is on =
+    let plain = front_bytes g (b ∷ r) bytes in
+    let first = first_known form g (b ∷ r) x long (omega arith) is in
+    let parts = prepend_parts first.0 x (decode_form form (b ∷ r)) (sym (group_then form g first.0 long plain first.1 (b ∷ r)) ∙ is) in
+    let other = on parts.0 (omega arith) (back_bytes first.0 parts.0 (subst IsBytes parts.2 are))
+    (rest_whole form (length (b ∷ r)) (length x) (length parts.0) (length first.0)
+    (subst (λ (n : ℕ). AreWhole form n (length x)) (omega (arith, long, length-append g (b ∷ r))) whole)
+    (ap (λ (t : List ℕ). length t) parts.2 ∙ length-append first.0 parts.0) (whole_decodes form g first.0 long plain first.1).1) parts.1 in
+    ap (decode_form form) (append_assoc g (b ∷ r) rest) ∙ group_then form g first.0 long plain first.1 ((b ∷ r) ++ rest)
+    ∙ ap (prepend_known first.0) other ∙ sym (prepended first.0 parts.0 (decode_form form rest))
+    ∙ ap (λ (t : List ℕ). prepend_known t (decode_form form rest)) (sym parts.2)
+
+-- a run that is as many bytes as it can be is these in front of any digits
+pub run_decodes : (form : Form) (n : ℕ) (s x rest : List ℕ) → length s ≤ n → length s % width form ≡ 0 → IsBytes s → IsBytes x
+    → AreWhole form (length s) (length x) → decode_form form s ≡ Some x → decode_form form (s ++ rest) ≡ prepend_known x (decode_form form rest)
+run_decodes form n [] x rest le groups bytes are whole is =
+    subst (λ (y : List ℕ). decode_form form rest ≡ prepend_known y (decode_form form rest)) (some_same (sym (nothing form) ∙ is))
+    (nothing_in_front (decode_form form rest))
+run_decodes form zero (c ∷ s) x rest le groups bytes are whole is = absurd (omega (arith, le))
+run_decodes form (suc n) (c ∷ s) x rest le groups bytes are whole is =
+    let p = split_of form (c ∷ s) (omega arith) groups in
+    let all : IsBytes (p.g ++ p.r) = subst IsBytes p.are bytes in
+    ap (λ (t : List ℕ). decode_form form (t ++ rest)) p.are
+    ∙ run_step form p.g p.r x rest p.long all are (subst (λ (t : List ℕ). AreWhole form (length t) (length x)) p.are whole)
+    (sym (ap (decode_form form) p.are) ∙ is)
+    (λ xs some plain whole_xs known. run_decodes form n p.r xs rest (omega (arith, p.less, le)) p.whole (back_bytes p.g p.r all) plain whole_xs known)
+
+-- the digits of whole groups
+pub whole_digits : (form : Form) (n : ℕ) → ((n / width form * width form) % width form ≡ 0) × (n / width form * width form ≤ n)
+whole_digits form n = by_width form (λ (w : ℕ). ((n / w * w) % w ≡ 0) × (n / w * w ≤ n)) (omega arith, omega arith) (omega arith, omega arith)

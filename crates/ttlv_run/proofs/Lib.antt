@@ -8,6 +8,7 @@ pub mod Calendar
 pub mod Completion
 pub mod Counting
 pub mod Decoders
+pub mod DigitRuns
 pub mod DumpLines
 pub mod Entries
 pub mod FrontsDecided

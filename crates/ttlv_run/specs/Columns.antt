@@ -172,6 +172,15 @@ step ArmouredText part b next = in_armour part b
 step DumpText part b next = in_dump part b
 step PacketText part b next = in_packet part b next
 
+-- a digit and no padding, in a text whose digits stand freely
+abbrev pub is_plain : Form → ℕ → Bool
+is_plain HexadecimalText b = is_hex_digit b
+is_plain Base64Text b = is_base64_digit b && not (b == 61)
+is_plain ArmouredText b = is_base64_digit b && not (b == 61)
+is_plain Base64UrlText b = is_url_digit b && not (b == 61)
+is_plain DumpText b = false
+is_plain PacketText b = false
+
 -- a text is read from a part of a line on: these of its bytes are digits, in this part stands what follows, and this is left
 pub data Reads (form : Form) (first : LinePart) (s : List ℕ) : List ℕ → LinePart → List ℕ → Type 0 where
   begins : Reads form first s [] first s

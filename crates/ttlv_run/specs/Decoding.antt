@@ -1,7 +1,8 @@
 -- What the front of a text of digits stands for, and a decoder that has read it.
-use Rattle.std.specs.Prelude.{◌≡◌, ℕ, ◌+◌, ◌%◌, ◌<◌, ◌≤◌, Bool, true, false, List, [], ◌∷◌, ◌++◌, length, take, slice_index, Option, Some, None, Result, Ok}
+use Rattle.std.specs.Prelude.{◌≡◌, ℕ, ◌+◌, ◌%◌, ◌<◌, ◌≤◌, Bool, true, false, List, [], ◌∷◌, ◌++◌, length, take, drop, slice_index, Option, Some, None, Result, Ok}
 use Rattle.std.specs.Prelude.{Err}
 use Rattle.std.specs.Io.KnownBytes.{prepend_known}
+use Rattle.std.specs.List.{list_all}
 use Rattle.ttlv_run.specs.declared.coding.Undecoded.{Undecoded}
 use Rattle.ttlv_run.specs.declared.decoder.Decoder.{Decoder}
 use Rattle.ttlv_run.specs.declared.decoder.Group.{Group}
@@ -11,12 +12,13 @@ use Rattle.ttlv_run.specs.declared.decoder.Phase.{Phase}
 use Rattle.ttlv_run.specs.declared.decoder.Phase.TheVariants.{Groups, Padded, Spoilt}
 use Rattle.ttlv_run.specs.declared.form.Form.{Form}
 use Rattle.ttlv_run.specs.declared.form.LinePart.{LinePart}
+use Rattle.ttlv_run.specs.declared.form.LinePart.TheVariants.{Free}
 use Rattle.ttlv_run.specs.declared.form.Step.TheVariants.{Wrong}
 use Rattle.ttlv_run.specs.declared.misread.MisreadKind.{MisreadKind}
 use Rattle.ttlv_run.specs.declared.misread.MisreadKind.TheVariants.{NoDigit, WrongCount}
 use Rattle.ttlv_run.specs.declared.run_error.RunError.{RunError}
 use Rattle.ttlv_run.specs.declared.run_error.RunError.TheVariants.{NoMemory}
-use Rattle.ttlv_run.specs.Columns.{first_part, step, Reads}
+use Rattle.ttlv_run.specs.Columns.{first_part, is_plain, step, Reads}
 use Rattle.ttlv_run.specs.Fronts.{ReadsBytes}
 use Rattle.ttlv_run.specs.Inputs.{decode_form, width}
 
@@ -107,6 +109,21 @@ pub record Reading (d : Decoder) (mark : ℕ) (s bytes : List ℕ) : Type 0 wher
   pub start : d.waiting ≡ None → (s ≡ []) × (bytes ≡ [])
   pub at : characters d ≡ mark + length s
 
+-- a character waits, behind whole groups of digits that stand freely
+pub record BeginsGroup (d : Decoder) (b : ℕ) : Type 0 where
+  pub part : d.part ≡ Free
+  pub phase : d.phase ≡ Groups
+  pub whole : d.count ≡ 0
+  pub waits : d.waiting ≡ Some b
+
+-- whole groups of digits, the first of which waits, and one more digit behind them; none is padding
+pub record IsRun (d : Decoder) (digits : List ℕ) (next : ℕ) : Type 0 where
+  pub begins : BeginsGroup d (slice_index digits 0)
+  pub some : 0 < length digits
+  pub whole : length digits % width d.form ≡ 0
+  pub all : list_all (is_plain d.form) digits ≡ true
+  pub on : is_plain d.form next ≡ true
+
 -- behind these bytes stands a character that can't stand there
 pub record StuckAt (form : Form) (mark : ℕ) (s bytes : List ℕ) (place b : ℕ) : Type 0 where
   pub rest : List ℕ
@@ -159,6 +176,11 @@ pub record Grows (old new : List ℕ) (P : List ℕ → Type 0) : Type 0 where
   pub came : List ℕ
   pub are : new ≡ old ++ came
   pub holds : P came
+
+-- some of the characters behind the one that waits, the first of these, came to a decoder, unless memory ran out
+abbrev pub DecodesRun : Decoder → ℕ → List ℕ → List ℕ → List ℕ → Result ℕ RunError → Type 0
+DecodesRun new mark s chars bytes (Ok n) = Reading new mark (s ++ take n (drop 1 chars)) bytes
+DecodesRun new mark s chars bytes (Err why) = why ≡ NoMemory
 
 -- more characters came, behind those that a decoder has read: it has read these too, up to the first error
 abbrev pub DecodesPiece : Decoder → ℕ → List ℕ → List ℕ → List ℕ → Result (Option Undecoded) RunError → Type 0

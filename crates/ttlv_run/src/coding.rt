@@ -1,6 +1,6 @@
 //! The bytes that digits stand for, a group at a time, and what the encoding of an input says of its digits.
 
-ghost use Rattle.std.specs.Prelude.{◌≡◌, ◌<◌, ◌≤◌, ◌+◌, ℕ, List, length, take, Some, None, IfOk, IfErr, IfSome, IfNone};
+ghost use Rattle.std.specs.Prelude.{◌≡◌, ◌<◌, ◌≤◌, ◌+◌, ◌*◌, ◌/◌, ℕ, List, length, take, Some, None, IfOk, IfErr, IfSome, IfNone};
 ghost use Rattle.base64.specs.GeneralPurpose.{IsBytes};
 ghost use Rattle.ttlv_run.specs.declared.run_error.RunError.TheVariants.{MisreadInput as AMisread};
 ghost use Rattle.ttlv_run.specs.Fronts.{front_size, taken_as};
@@ -82,25 +82,25 @@ pub fn width(form: Form) -> usize
     }
 }
 
-/// Decodes a group of digits, or less, and gives how many bytes they stand for.
-pub fn decode_group(form: Form, group: &[u8], bytes: &mut [u8]) -> Option<usize>
-    requires few { length group.now ≤ 4 }
-    requires room { length bytes.old ≡ 3 }
-    ensures within { IfSome result (λ n. n ≤ 3) }
-    ensures some { IfSome result (λ n. decode_form form group.now ≡ Some (take n bytes.new)) }
-    ensures none { IfNone result (decode_form form group.now ≡ None) }
+/// Decodes digits into the front of `bytes`, and gives how many bytes they stand for.
+pub fn decode_form(form: Form, digits: &[u8], bytes: &mut [u8]) -> Option<usize>
+    requires room { length digits.now ≤ 4 * (length bytes.old / 3) }
+    ensures within { IfSome result (λ n. n ≤ length bytes.new) }
+    ensures some { IfSome result (λ n. decode_form form digits.now ≡ Some (take n bytes.new)) }
+    ensures none { IfNone result (decode_form form digits.now ≡ None) }
+    ensures digits { IsBytes digits.now }
     ensures bytes { IsBytes bytes.new }
-    ensures len { length bytes.new ≡ 3 }
+    ensures len { length bytes.new ≡ length bytes.old }
 {
-    match alphabet_of(form, has_padding(group)) {
+    match alphabet_of(form, has_padding(digits)) {
         Alphabet::HexadecimalDigits => {
-            let count = group.len() / 2;
-            hex::decode_to_slice(group, &mut bytes[..count]).ok()?;
+            let count = digits.len() / 2;
+            hex::decode_to_slice(digits, &mut bytes[..count]).ok()?;
             Some(count)
         }
-        Alphabet::Base64Digits => STANDARD.decode_slice_unchecked(group, bytes).ok(),
-        Alphabet::UrlDigits => URL_SAFE.decode_slice_unchecked(group, bytes).ok(),
-        Alphabet::BareUrlDigits => URL_SAFE_NO_PAD.decode_slice_unchecked(group, bytes).ok(),
+        Alphabet::Base64Digits => STANDARD.decode_slice_unchecked(digits, bytes).ok(),
+        Alphabet::UrlDigits => URL_SAFE.decode_slice_unchecked(digits, bytes).ok(),
+        Alphabet::BareUrlDigits => URL_SAFE_NO_PAD.decode_slice_unchecked(digits, bytes).ok(),
     }
 }
 

@@ -1,12 +1,14 @@
 //! Decodes a text of digits as it comes: each group of digits when the character behind its last one is there.
 
-ghost use Rattle.std.specs.Prelude.{◌≡◌, ◌<◌, ◌≤◌, ◌+◌, ◌-◌, ◌^◌, ◌∷◌, ◌++◌, ℕ, List, [], length, slice_index, Some, None, IfSome, IfNone};
+ghost use Rattle.std.specs.Prelude.{◌≡◌, ◌<◌, ◌≤◌, ◌+◌, ◌-◌, ◌*◌, ◌/◌, ◌^◌, ◌∷◌, ◌++◌, ℕ, true, List, [], length, take, drop, slice_index, Some, None, IfSome, IfNone};
+ghost use Rattle.std.specs.List.{list_all};
 ghost use Rattle.base64.specs.GeneralPurpose.{IsBytes};
 ghost use Rattle.ttlv_run.specs.declared.misread.MisreadKind.TheVariants.{NoDigit as IsNoDigit, WrongCount as IsWrongCount};
+ghost use Rattle.ttlv_run.specs.Columns.{is_plain};
 ghost use Rattle.ttlv_run.specs.Inputs.{width, decode_form};
 
-use crate::coding::{Undecoded, decode_group, width};
-use crate::form::{Form, LinePart, Step, first_part, step_of};
+use crate::coding::{Undecoded, decode_form, width};
+use crate::form::{Form, LinePart, Step, first_part, is_plain, step_of};
 use crate::misread::MisreadKind;
 
 /// The bytes of a group of digits: three at most.
@@ -29,7 +31,7 @@ impl Group {
         ensures digits { IsBytes digits.now }
     {
         let mut bytes = [0; 3];
-        let count = decode_group(form, digits, &mut bytes)?;
+        let count = decode_form(form, digits, &mut bytes)?;
         Some(Group { bytes, count })
     }
 
@@ -64,6 +66,23 @@ pub enum Phase {
     Spoilt,
 }
 
+/// The most digits that are decoded at once.
+pub const RUN: usize = 512;
+
+// How many of some characters, from the first on, are digits that are no padding: one more than a run at most.
+fn digits_in(form: Form, chars: &[u8]) -> usize
+    ensures within { result ≤ length chars.now }
+    ensures most { result ≤ 513 }
+    ensures all { list_all (is_plain form) (take result chars.now) ≡ true }
+{
+    let most = chars.len().min(RUN + 1);
+    let mut count = 0;
+    'digits: while count < most && is_plain(form, chars[count]) {
+        count += 1;
+    }
+    count
+}
+
 /// A text whose front was read.
 #[derive(Clone, Copy)]
 pub struct Decoder {
@@ -84,7 +103,7 @@ pub struct Decoder {
 impl Decoder {
     ghost use Rattle.ttlv_run.specs.declared.decoder.Made.TheVariants.{Failed as AnError};
     ghost use Rattle.ttlv_run.specs.declared.decoder.Phase.TheVariants.{Groups};
-    ghost use Rattle.ttlv_run.specs.Decoding.{begun, characters, IsOpen, Knows, Holds, Yields, Takes, Reading, Pushes, Finishes, Ends};
+    ghost use Rattle.ttlv_run.specs.Decoding.{begun, characters, BeginsGroup, IsRun, IsOpen, Knows, Holds, Yields, Takes, Reading, Pushes, Finishes, Ends};
 
     /// A decoder in front of a text behind its mark, which has so many bytes.
     pub fn new(form: Form, mark: usize) -> Decoder
@@ -229,6 +248,53 @@ impl Decoder {
         self.waiting = Some(b);
         self.offset += 1;
         made
+    }
+
+    // Whether the character that waits is the first of some, and begins a group of digits where these stand freely.
+    fn begins_group(&self, chars: &[u8]) -> bool
+        ensures { result ≡ true → BeginsGroup self.now (slice_index chars.now 0) × (0 < length chars.now) }
+    {
+        let begins = self.part == LinePart::Free && self.phase == Phase::Groups && self.count == 0;
+        begins && chars.len() > 0 && self.waiting == Some(chars[0])
+    }
+
+    /// How many characters, of which the first waits, can be decoded at once: whole groups of digits in front of one more digit,
+    /// or none.
+    pub fn run_in(&self, chars: &[u8]) -> usize
+        ensures within { result ≤ length chars.now - 1 }
+        ensures most { result ≤ 512 }
+        ensures run { 0 < result → IsRun self.now (take result chars.now) (slice_index chars.now result) }
+    {
+        if !self.begins_group(chars) {
+            return 0;
+        }
+        let width = width(self.form);
+        digits_in(self.form, chars).saturating_sub(1) / width * width
+    }
+
+    /// Takes digits, the first of which waits, in front of the next one, which waits from now on. Gives how many bytes they stand
+    /// for, which are put into the front of `bytes`; or takes none.
+    pub fn push_run(&mut self, digits: &[u8], next: u8, bytes: &mut [u8]) -> Option<usize>
+        requires run { IsRun self.old digits.now next }
+        requires room { length digits.now ≤ 4 * (length bytes.old / 3) }
+        requires offset { self.old.offset + length digits.now < 2 ^ 64 }
+        ensures some { IfSome result (λ n. (mark : ℕ) (s all : List ℕ) → Reading self.old mark s all
+            → Reading self.new mark (s ++ (drop 1 digits.now ++ next ∷ [])) (all ++ take n bytes.new)) }
+        ensures none { IfNone result (self.new ≡ self.old) }
+        ensures within { IfSome result (λ n. n ≤ length bytes.new) }
+        ensures offset { self.new.offset ≤ self.old.offset + length digits.now }
+        ensures count { IfSome result (λ n. characters self.new ≡ characters self.old + length digits.now) }
+        ensures form { self.new.form ≡ self.old.form }
+        ensures len { length bytes.new ≡ length bytes.old }
+    {
+        let count = decode_form(self.form, digits, bytes)?;
+        let width = width(self.form);
+        if count != digits.len() / width * (width - 1) {
+            return None;
+        }
+        self.waiting = Some(next);
+        self.offset += digits.len();
+        Some(count)
     }
 
     /// Takes the character that waits, at the text's end.

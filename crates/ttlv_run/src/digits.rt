@@ -1,9 +1,9 @@
 //! Prints the messages of a text of digits as they come.
 
-ghost use Rattle.std.specs.Prelude.{◌≡◌, ◌<◌, ◌≤◌, ◌+◌, ◌-◌, ◌^◌, ◌++◌, true, false, ℕ, List, [], Some, None, Ok, Option, OnOk, length};
+ghost use Rattle.std.specs.Prelude.{◌≡◌, ◌<◌, ◌≤◌, ◌+◌, ◌-◌, ◌^◌, ◌++◌, true, false, ℕ, List, [], Some, None, Ok, Option, OnOk, IfOk, length};
 ghost use Rattle.std.specs.Io.KnownBytes.{Consumes, IsAtEnd};
 ghost use Rattle.kmip_ttlv_types.specs.Held.{held};
-ghost use Rattle.ttlv_run.specs.Decoding.{characters, Reading, Grows, Puts, DecodesPiece, DecodesMore, is_last};
+ghost use Rattle.ttlv_run.specs.Decoding.{characters, Reading, Grows, Puts, DecodesRun, DecodesPiece, DecodesMore, is_last};
 ghost use Rattle.ttlv_run.specs.Fronts.{front_size};
 ghost use Rattle.ttlv_run.specs.Inputs.{form_of, encoding_of};
 ghost use Rattle.ttlv_run.specs.Runs.{Places};
@@ -11,7 +11,7 @@ ghost use Rattle.ttlv_run.specs.Streaming.{buffered};
 ghost use Rattle.ttlv_run.specs.Texts.{names_of};
 
 use crate::coding::{Undecoded, misread, taken_as};
-use crate::decoder::{Decoder, Made};
+use crate::decoder::{Decoder, Made, RUN};
 use crate::form::Form;
 use crate::guess::mark_length;
 use crate::job::{Job, Names};
@@ -37,6 +37,38 @@ fn put<A: Allocator>(made: Made, bytes: &mut Window<A>) -> Result<Option<Undecod
     }
 }
 
+// Puts the bytes of a run of digits behind bytes, by way of some room. The first of these characters waits; gives how many came
+// behind it.
+fn decode_run<A: Allocator>(
+    decoder: &mut Decoder,
+    chars: &[u8],
+    room: &mut [u8],
+    bytes: &mut Window<A>,
+) -> Result<usize, RunError>
+    requires room { length room.old ≡ 384 }
+    requires offset { decoder.old.offset + length chars.now < 2 ^ 64 }
+    ensures made { Grows (buffered bytes.old) (buffered bytes.new) (λ came. (mark : ℕ) (s all : List ℕ) → Reading decoder.old mark s all
+        → DecodesRun decoder.new mark s chars.now (all ++ came) result) }
+    ensures within { IfOk result (λ n. n ≤ length chars.now - 1) }
+    ensures offset { decoder.new.offset ≤ decoder.old.offset + (length chars.now - 1) }
+    ensures moved { IfOk result (λ n. decoder.new.offset ≤ decoder.old.offset + n) }
+    ensures count { IfOk result (λ n. characters decoder.new ≡ characters decoder.old + n) }
+    ensures form { decoder.new.form ≡ decoder.old.form }
+    ensures room { length room.new ≡ 384 }
+{
+    let count = decoder.run_in(chars);
+    if count == 0 {
+        return Ok(0);
+    }
+    match decoder.push_run(&chars[..count], chars[count], room) {
+        Some(few) => {
+            bytes.add(&room[..few])?;
+            Ok(count)
+        }
+        None => Ok(0),
+    }
+}
+
 // Puts the bytes of a text's next characters behind bytes, up to the first error, and gives that.
 fn decode_piece<A: Allocator>(
     decoder: &mut Decoder,
@@ -50,10 +82,14 @@ fn decode_piece<A: Allocator>(
     ensures count { result ≡ Ok None → characters decoder.new ≡ characters decoder.old + length piece.now }
     ensures form { decoder.new.form ≡ decoder.old.form }
 {
-    'characters: for b in piece {
-        if let Some(why) = put(decoder.push(*b), bytes)? {
+    let mut room = [0; RUN / 4 * 3];
+    let mut at = 0;
+    'characters: while at < piece.len() {
+        if let Some(why) = put(decoder.push(piece[at]), bytes)? {
             return Ok(Some(why));
         }
+        let run = decode_run(decoder, &piece[at..], &mut room, bytes)?;
+        at += run + 1;
     }
     Ok(None)
 }

@@ -1,7 +1,7 @@
 //! Which bytes of a text are digits of the messages: what may stand around them, and where in a line of a dump they are.
 
 ghost use Rattle.std.specs.Prelude.{◌≡◌};
-ghost use Rattle.ttlv_run.specs.Columns.{is_blank, is_between, is_hex_digit, is_alphanumeric, is_base64_digit, is_url_digit, is_mark, is_edge};
+ghost use Rattle.ttlv_run.specs.Columns.{is_blank, is_between, is_hex_digit, is_alphanumeric, is_base64_digit, is_url_digit, is_plain, is_mark, is_edge};
 ghost use Rattle.ttlv_run.specs.Columns.{is_in_mark, is_at_begin, is_in_indent, is_in_aside};
 ghost use Rattle.ttlv_run.specs.Columns.{first_part, freely, in_hex, in_armour, at_begin, in_offset, in_group, between, in_byte, aside, at_indent, in_dump, in_packet, step};
 
@@ -94,6 +94,18 @@ fn is_url_digit(b: u8) -> bool
     ensures { result ≡ is_url_digit b }
 {
     is_alphanumeric(b) || b == 45 || b == 95 || b == 61
+}
+
+/// Whether it is a digit and no padding, in a text whose digits stand freely.
+pub fn is_plain(form: Form, b: u8) -> bool
+    ensures { result ≡ is_plain form b }
+{
+    match form {
+        Form::HexadecimalText => is_hex_digit(b),
+        Form::Base64Text | Form::ArmouredText => is_base64_digit(b) && b != 61,
+        Form::Base64UrlText => is_url_digit(b) && b != 61,
+        Form::DumpText | Form::PacketText => false,
+    }
 }
 
 // Whether the text column of a dump's line begins with it, behind an offset without a colon.

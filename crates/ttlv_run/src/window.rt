@@ -92,7 +92,7 @@ impl<A: Allocator> Window<A> {
 
     // For how many bytes room is made: a piece, or as many as are there, but no more than the first message needs.
     fn room_to_ask(&self) -> usize
-        ensures { 3 ≤ result }
+        ensures { 0 < result }
     {
         let due = match size_stated(self.buffered()) {
             Some(stated) => stated.saturating_sub(self.count),
@@ -169,13 +169,12 @@ impl<A: Allocator> Window<A> {
         }
     }
 
-    /// Adds a few bytes behind those that are there.
+    /// Adds bytes behind those that are there.
     pub fn add(&mut self, bytes: &[u8]) -> Result<(), AllocError>
-        requires { length bytes.now ≤ 3 }
         ensures ok { OnOk result (buffered self.new ≡ buffered self.old ++ bytes.now) }
         ensures err { OnErr result (buffered self.new ≡ buffered self.old) }
     {
-        let room = self.room_to_ask();
+        let room = self.room_to_ask().max(bytes.len());
         self.make_room(bytes.len(), room)?;
         put(self.bytes.as_mut_slice(), self.count, bytes);
         self.count += bytes.len();

@@ -12,12 +12,14 @@ range_from-requires c =
 
 pub returns-in-Some-clause-entry : goal.returns-in-Some-clause-entry
 returns-in-Some-clause-entry c =
-    let at = found c.args.list.now c.in-Some.place (subst (λ (l : List ℕ). IsFirstByte (is_byte 59) l (Some c.in-Some.place)) c.as_bytes.ensures.value c.in-Some.ensures) in
+    let at = found c.args.list.now c.in-Some.place
+    (subst (λ (l : List ℕ). IsFirstByte (is_byte 59) l (Some c.in-Some.place)) c.as_bytes.ensures.value c.in-Some.ensures) in
     rw at (search rules)
 
 pub returns-in-Some-clause-others : goal.returns-in-Some-clause-others
 returns-in-Some-clause-others c =
-    let at = found c.args.list.now c.in-Some.place (subst (λ (l : List ℕ). IsFirstByte (is_byte 59) l (Some c.in-Some.place)) c.as_bytes.ensures.value c.in-Some.ensures) in
+    let at = found c.args.list.now c.in-Some.place
+    (subst (λ (l : List ℕ). IsFirstByte (is_byte 59) l (Some c.in-Some.place)) c.as_bytes.ensures.value c.in-Some.ensures) in
     rw at (search rules)
 
 pub returns-in-None-clause-entry : goal.returns-in-None-clause-entry
