@@ -18,6 +18,7 @@ pub mod Inputs
 pub mod Naming
 pub mod Packets
 pub mod Parts
+pub mod Plain
 pub mod Prefixes
 pub mod Printing
 pub mod Redacting

@@ -1,5 +1,5 @@
 -- Texts as they stand in a line.
-use Rattle.std.specs.Prelude.{ℕ, ◌/◌, ◌%◌, ◌==◌, Bool, false, ◌||◌, List, [], ◌∷◌, ◌++◌, nat_lt, if◌then◌else◌, codes, encode_utf8}
+use Rattle.std.specs.Prelude.{ℕ, ◌/◌, ◌%◌, ◌==◌, Bool, false, not, ◌||◌, ◌&&◌, List, [], ◌∷◌, ◌++◌, nat_lt, if◌then◌else◌, codes, encode_utf8}
 use Rattle.std.specs.List.{flat_map}
 use Rattle.std.specs.Char.{is_control}
 use Rattle.std.specs.Fmt.{digit_glyph}
@@ -43,6 +43,10 @@ is_unseen c = is_unseen_low c || is_unseen_middle c || is_unseen_high c
 -- a character that a line doesn't show as itself: a control character (U+0000 to U+001F, U+007F to U+009F), or one that can't be seen
 abbrev pub is_hidden : ℕ → Bool
 is_hidden c = is_control c || is_unseen c
+
+-- an ASCII character that is neither a control character nor a backslash
+abbrev pub is_shown : ℕ → Bool
+is_shown c = nat_lt 31 c && nat_lt c 127 && not (c == 92)
 
 -- a character in a line: control characters, those that can't be seen and the backslash as Rust escapes them, any other as it is
 unfoldable pub escaped_char : ℕ → List ℕ

@@ -1,13 +1,14 @@
 //! Texts as they stand in a line: control characters, those that can't be seen, and backslashes are escaped.
 
-ghost use Rattle.std.specs.Prelude.{◌≡◌, ◌<◌, ◌/◌, ◌%◌, ◌^◌, ◌++◌, ◌∷◌, ℕ, List, [], true, false, OnOk, OnErr, codes, encode_utf8};
+ghost use Rattle.std.specs.Prelude.{◌≡◌, ◌<◌, ◌≤◌, ◌/◌, ◌%◌, ◌^◌, ◌++◌, ◌∷◌, ℕ, List, [], length, take, true, false, OnOk, OnErr, codes, encode_utf8};
+ghost use Rattle.std.specs.List.{list_all};
 ghost use Rattle.std.specs.Fmt.{digit_glyph};
 ghost use Rattle.kmip_ttlv_types.specs.declared.typ.TtlvType.TheVariants.{TextString};
 ghost use Rattle.kmip_ttlv_types.specs.Leaves.{is_valid};
 ghost use Rattle.kmip_ttlv_util.specs.Pieces.{Moves, Stops, buffered};
 ghost use Rattle.kmip_ttlv_util.specs.Sinks.{moves_none, moves_both, stops_first, stops_second};
 ghost use Rattle.ttlv_run.specs.Columns.{in_range};
-ghost use Rattle.ttlv_run.specs.Escapes.{byte_hex, short_hex, word_hex, number_hex, is_unseen_low, is_unseen_middle, is_unseen_high, is_unseen, is_hidden, escaped_char, escaped};
+ghost use Rattle.ttlv_run.specs.Escapes.{byte_hex, short_hex, word_hex, number_hex, is_unseen_low, is_unseen_middle, is_unseen_high, is_unseen, is_hidden, is_shown, escaped_char, escaped};
 
 use kmip_ttlv_types::stream::Sink;
 use kmip_ttlv_util::{Pieces, TextSink};
@@ -264,10 +265,8 @@ fn push_char<S: PlainSink>(out: &mut S, c: char) -> Result<(), S::Error>
     }
 }
 
-/// Adds a text with its control characters, those that can't be seen, and its backslashes escaped.
-///
-/// It fails where the sink fails.
-pub fn push_text<S: PlainSink>(out: &mut S, text: &str) -> Result<(), S::Error>
+// Adds the characters of a text, one by one.
+fn push_chars<S: PlainSink>(out: &mut S, text: &str) -> Result<(), S::Error>
     ensures ok { OnOk result (S.adds out.old (escaped text.now) out.new) }
     ensures err { OnErr result (S.breaks out.old (escaped text.now) out.new) }
 {
@@ -275,6 +274,37 @@ pub fn push_text<S: PlainSink>(out: &mut S, text: &str) -> Result<(), S::Error>
         push_char(out, c)?;
     }
     Ok(())
+}
+
+// Whether a byte is a character that stands in a line as it is: ASCII that is neither a control character nor a backslash.
+fn is_shown(b: u8) -> bool
+    ensures { result ≡ is_shown b }
+{
+    31 < b && b < 127 && b != 92
+}
+
+// How many bytes in front of some stand in a line as they are.
+fn shown_front(bytes: &[u8]) -> usize
+    ensures within { result ≤ length bytes.now }
+    ensures all { list_all is_shown (take result bytes.now) ≡ true }
+{
+    let mut count = 0;
+    'bytes: while count < bytes.len() && is_shown(bytes[count]) {
+        count += 1;
+    }
+    count
+}
+
+/// Adds a text with its control characters, those that can't be seen, and its backslashes escaped.
+///
+/// It fails where the sink fails.
+pub fn push_text<S: PlainSink>(out: &mut S, text: &str) -> Result<(), S::Error>
+    ensures ok { OnOk result (S.adds out.old (escaped text.now) out.new) }
+    ensures err { OnErr result (S.breaks out.old (escaped text.now) out.new) }
+{
+    let (front, rest) = text.split_at(shown_front(text.as_bytes()));
+    out.append(front)?;
+    push_chars(out, rest)
 }
 
 /// The same, of the bytes of a text.
