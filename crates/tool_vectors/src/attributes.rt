@@ -7,14 +7,14 @@ use ttlv_run::run::run;
 use ttlv_run::{Encoding, Job, Look, Task, Values};
 
 // How lines are printed, a message, and its lines.
-type Row = (Look, &'static str, &'static str);
+type Row = (Look<'static>, &'static str, &'static str);
 
-const HIDDEN: Look = Look {
+const HIDDEN: Look<'static> = Look {
     values: Values::Hidden,
     ..Look::PLAIN
 };
 
-const SECRETS: Look = Look {
+const SECRETS: Look<'static> = Look {
     secrets_hidden: true,
     ..Look::PLAIN
 };

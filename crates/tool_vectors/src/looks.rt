@@ -1,4 +1,4 @@
-//! Readable lines as options change them: offsets, dates, masks, parts of byte strings, one tag, colours and secrets.
+//! Readable lines as options change them: offsets, dates, masks, parts of byte strings, some tags, colours and secrets.
 
 use crate::runs::{VERSION, run_with};
 use std::alloc::{AllocError, Global};
@@ -9,31 +9,43 @@ pub const KEY_BLOCK: &str =
     "4200400100000088420042050000000400000001000000004200450100000038420043010000002042003F0800000008090909090909090942007505000000040000000400000000420009020000000400000007000000004200250100000020420099070000000446726564000000004200A10700000002707700000000000042009407000000026964000000000000";
 
 // How lines are printed, a message, and its lines.
-type Row = (Look, &'static str, &'static str);
+type Row = (Look<'static>, &'static str, &'static str);
 
-const OFFSETS: Look = Look {
+const OFFSETS: Look<'static> = Look {
     offsets: true,
     ..Look::PLAIN
 };
 
-const COLORS: Look = Look {
+const COLORS: Look<'static> = Look {
     colored: true,
     ..Look::PLAIN
 };
 
-const WIDTH: Look = Look {
+const WIDTH: Look<'static> = Look {
     width: Some(4),
     ..Look::PLAIN
 };
 
-const SECRETS: Look = Look {
+const SECRETS: Look<'static> = Look {
     secrets_hidden: true,
     ..Look::PLAIN
 };
 
 // The items with the tag Key Material, with everything in them.
-const KEY_MATERIAL: Look = Look {
-    only: Some(0x420043),
+const KEY_MATERIAL: Look<'static> = Look {
+    only: Some(&[0x420043]),
+    ..Look::PLAIN
+};
+
+// Key, and Key Material, which has such an item in it.
+const KEYS: Look<'static> = Look {
+    only: Some(&[0x42003F, 0x420043]),
+    ..Look::PLAIN
+};
+
+// Password, Key Material and Attribute Index, and a tag that isn't there.
+const SEVERAL: Look<'static> = Look {
+    only: Some(&[0x4200A1, 0x420043, 0x42000D, 0x420009]),
     ..Look::PLAIN
 };
 
@@ -106,10 +118,18 @@ fn looks(rt: HostRuntime) {
     }
 }
 
+const SEVERAL_LINES: &str =
+    "    Tag: Key Material (0x420043), Type: Structure (0x01), Data:\n      Tag: Key (0x42003F), Type: ByteString (0x08), Data: 0909090909090909\n      Tag: Recommended Curve (0x420075), Type: Enumeration (0x05), Data: 0x000004 (4) P-224\n    Tag: Attribute Index (0x420009), Type: Integer (0x02), Data: 0x000007 (7)\n    Tag: Password (0x4200A1), Type: TextString (0x07), Data: pw\n";
+
 #[test]
-fn one_tag(rt: HostRuntime) {
-    let row = (KEY_MATERIAL, KEY_BLOCK, KEY_MATERIAL_LINES);
-    assert!(rt; prints(rt.alloc(), row));
+fn some_tags(rt: HostRuntime) {
+    for row in [
+        (KEY_MATERIAL, KEY_BLOCK, KEY_MATERIAL_LINES),
+        (KEYS, KEY_BLOCK, KEY_MATERIAL_LINES),
+        (SEVERAL, KEY_BLOCK, SEVERAL_LINES),
+    ] {
+        assert!(rt; prints(rt.alloc(), row), "{row:?}");
+    }
 }
 
 // Every bit of a mask is set: the names of those that have one, in their order.

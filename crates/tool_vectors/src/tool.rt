@@ -1,7 +1,7 @@
 //! The tool from its words to what it prints: each option, on messages that hold keys.
 
 use crate::runs::Outcome;
-use kmip_ttlv_memory::Wiping;
+use kmip_ttlv_memory::{BoundedAllocator, Wiping};
 use std::alloc::{AllocError, Global};
 use std::io;
 use std::io::Read;
@@ -92,13 +92,19 @@ const NARROW_OWN: &str =
 
 const ONE: &str = "  Tag: 0x540002, Type: ByteString (0x08), Data: 0A0B0C\n";
 
+const TWO: &str =
+    "  Tag: 0x540002, Type: ByteString (0x08), Data: 0A0B0C\n  Tag: Cryptographic Usage Mask (0x42002C), Type: Integer (0x02), Data: 0x000004 (4) Encrypt\n";
+
+const OWN_LINES: &str =
+    "Tag: 0x540003, Type: Structure (0x01), Data:\n  Tag: 0x540002, Type: ByteString (0x08), Data: 0A0B0C\n  Tag: Cryptographic Usage Mask (0x42002C), Type: Integer (0x02), Data: 0x000004 (4) Encrypt\n  Tag: 0x540004, Type: ByteString (0x08), Data: 0001020304050607\n";
+
 const COLORED_ONE: &str =
     "\u{1b}[36m  Tag: 0x540002\u{1b}[0m, Type: ByteString (0x08), Data: \u{1b}[32m0A0B0C\u{1b}[0m\n";
 
 const LEAK_LINES: &str =
     "Tag: Key Block (0x420040), Type: Structure (0x01), Data:\n  Tag: Key Material (0x420043), Type: Structure (0x01), Data:\n";
 
-const ROWS: [Row; 30] = [
+const ROWS: [Row; 34] = [
     ("show --redact=keys key", PLAIN, 0, SHOWN_KEY, ""),
     ("show --raw --redact=keys key", PLAIN, 0, SHOWN_KEY, ""),
     ("show --redact key", PLAIN, 0, REDACTED_KEY, ""),
@@ -257,6 +263,23 @@ const ROWS: [Row; 30] = [
         "",
     ),
     ("show --strict --tag 540002 own", PLAIN, 0, ONE, ""),
+    // Several tags: their order is that of the items. The first that is none is reported.
+    ("show --tag 42002C --tag 540002 own", PLAIN, 0, TWO, ""),
+    (
+        "show --tag 540002 --tag 540003 own",
+        PLAIN,
+        0,
+        OWN_LINES,
+        "",
+    ),
+    (
+        "show --tag 540002 --tag nothing --tag none own",
+        PLAIN,
+        2,
+        "",
+        "nothing: no tag has this name\n",
+    ),
+    ("show --tag 420069 --tag 42006A own", PLAIN, 0, "", ""),
 ];
 
 fn words_of(alloc: Global, line: &str) -> Result<Vec<String>, AllocError> {
@@ -307,6 +330,49 @@ fn words_to_lines(rt: HostRuntime) {
         let (line, _, _, _, _) = row;
         assert!(rt; prints(rt.alloc(), row), "{line}");
     }
+}
+
+// The status of a request where an allocation fails, and whether it did.
+fn failing_after(alloc: Global, request: &Request<'_>, before: u64) -> (u8, bool) {
+    let heap = BoundedAllocator::failing_after(alloc, before);
+    let mut stdin = b"".as_slice();
+    let mut output = Vec::new(alloc);
+    let mut errors = Vec::new(alloc);
+    let status = run_request(
+        &heap,
+        request,
+        PLAIN,
+        &mut Folder,
+        &mut Folder,
+        &mut stdin,
+        &mut output,
+        &mut errors,
+    );
+    (status, heap.has_failed())
+}
+
+// Whether each allocation that fails gives status 3, and the request is done where none does.
+fn ends_without_memory(alloc: Global, request: &Request<'_>) -> bool {
+    for before in 0..1_000u64 {
+        let (status, failed) = failing_after(alloc, request, before);
+        if !failed {
+            return status == 0;
+        }
+        if status != 3 {
+            return false;
+        }
+    }
+    false
+}
+
+#[test]
+fn each_growth_for_tags_may_fail(rt: HostRuntime) -> Result<(), AllocError> {
+    let words = words_of(rt.alloc(), "show --tag 42002C --tag 540002 own")?;
+    let Ok(request) = request_of(rt.alloc(), words.as_slice()) else {
+        return Err(AllocError);
+    };
+    assert!(rt; ends_without_memory(rt.alloc(), &request));
+    Ok(())
 }
 
 // A message of so many structures, one in the other.

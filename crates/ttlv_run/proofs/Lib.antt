@@ -23,6 +23,7 @@ pub mod Prefixes
 pub mod Printing
 pub mod Redacting
 pub mod Sequences
+pub mod Showing
 pub mod Wholes
 pub mod TextStreams
 pub mod Decided

@@ -1,8 +1,9 @@
 -- What is printed of one message.
+use Rattle.std.specs.Borrow.{Bor}
 use Rattle.std.specs.Prelude.{◌≡◌, ℕ, ◌+◌, ◌==◌, Bool, false, ◌&&◌, List, [], ◌∷◌, ◌++◌}
 use Rattle.std.specs.Prelude.{length, take, nat_lt, nat_le}
 use Rattle.std.specs.Prelude.{Option, Some, None, if◌then◌else◌, codes}
-use Rattle.std.specs.List.{flat_map}
+use Rattle.std.specs.List.{flat_map, list_any}
 use Rattle.std.specs.Fmt.{decimal}
 use Rattle.std.specs.Str.{trim_end}
 use Rattle.std.specs.Int.{w32, w64, from_be_bytes}
@@ -110,10 +111,10 @@ painted_value colored typ text = painted colored (27 ∷ codes "[32m") text
 abbrev pub reached : Bool → ℕ → FoundItem → ℕ
 reached is_one end i = if is_one && nat_lt end (i.offset + 8 + i.length) then i.offset + 8 + i.length else end
 
--- the tag is the one that is asked for
-abbrev pub is_asked : Option ℕ → ℕ → Bool
+-- the tag is one of those that are asked for
+abbrev pub is_asked : Option (Bor (List ℕ)) → ℕ → Bool
 is_asked None tag = false
-is_asked (Some only) tag = only == tag
+is_asked (Some tags) tag = list_any (λ asked. asked == tag) tags.now
 
 -- what is said of a value: nothing of one in a secret item, if those are hidden, where they reach so far
 abbrev pub values_shown : Look → ℕ → FoundItem → Values
@@ -151,10 +152,15 @@ item_line names look r at bytes i =
     ++ (tag_part names look.colored i
     ++ (data_part i.typ ++ (value_part names look r bytes i ++ 10 ∷ [])))
 
--- an item is passed over: one tag is asked for, and it is in no item of that tag
-abbrev pub is_passed : Option ℕ → Reach → FoundItem → Bool
+-- an item is passed over: tags are asked for, and neither it nor one around it has one of them, so that no item of these tags reaches
+-- behind its first byte
+abbrev pub is_passed : Option (Bor (List ℕ)) → Reach → FoundItem → Bool
 is_passed None r i = false
-is_passed (Some only) r i = nat_le r.asked i.offset
+is_passed (Some tags) r i = nat_le r.asked i.offset
+
+-- an item has one of some tags, and ends behind a place
+abbrev pub covers : List ℕ → ℕ → FoundItem → Bool
+covers tags place i = list_any (λ tag. tag == i.tag) tags && nat_lt place (i.offset + 8 + i.length)
 
 -- the line of an item, if it is asked for
 unfoldable pub item_text : Names → Look → Reach → ℕ → List ℕ → FoundItem → List ℕ

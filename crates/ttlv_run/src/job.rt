@@ -24,7 +24,7 @@ pub enum Values {
 
 /// How readable lines are printed.
 #[derive(Clone, Copy, Debug, PartialEq, Eq)]
-pub struct Look {
+pub struct Look<'w> {
     /// What is said of values.
     pub values: Values,
     /// Whether values are hidden of items whose tags are secret, and of what is in them.
@@ -35,13 +35,13 @@ pub struct Look {
     pub width: Option<usize>,
     /// Whether tags and values are coloured.
     pub colored: bool,
-    /// The tag, as a number, of the items that are printed, with what is in them; all items where there is none.
-    pub only: Option<u32>,
+    /// The tags, as numbers, of the items that are printed, with what is in them; all items where none are named.
+    pub only: Option<&'w [u32]>,
 }
 
-impl Look {
+impl Look<'_> {
     /// All lines without offsets or colours, with values and whole Byte Strings, where texts are escaped.
-    pub const PLAIN: Look = Look {
+    pub const PLAIN: Look<'static> = Look {
         values: Values::Escaped,
         secrets_hidden: false,
         offsets: false,
@@ -55,7 +55,7 @@ impl Look {
 #[derive(Clone, Copy, Debug, PartialEq, Eq)]
 pub enum Strict<'w> {
     /// A readable line of each item.
-    Show { look: Look },
+    Show { look: Look<'w> },
     /// Its diagnostic and a line feed, as [`Task::Diagnose`] does.
     Diagnose { closed: bool, prefix: &'w str },
     /// A line of JSON.
@@ -66,7 +66,7 @@ pub enum Strict<'w> {
 #[derive(Clone, Copy, Debug, PartialEq, Eq)]
 pub enum Task<'w> {
     /// A readable line of each item.
-    Show { look: Look },
+    Show { look: Look<'w> },
     /// Its diagnostic and a line feed: whether empty structures are closed, and the hexadecimal digits
     /// that are left out where a tag begins with them.
     Diagnose { closed: bool, prefix: &'w str },

@@ -1,6 +1,8 @@
 //! Laws of the definitions that the run's contract cites, each on a function without a body.
 
-ghost use Rattle.std.specs.Prelude.{◌≡◌, ◌<◌, ◌≤◌, ◌++◌, ℕ, Bool, List, [], Option, Some, None, length};
+ghost use Rattle.std.specs.Borrow.{Bor};
+ghost use Rattle.std.specs.Prelude.{◌≡◌, ◌<◌, ◌≤◌, ◌++◌, ℕ, Bool, not, List, [], Option, Some, None, length};
+ghost use Rattle.std.specs.List.{list_any};
 ghost use Rattle.kmip_ttlv_items.specs.declared.found.Fault.{Fault as AFault};
 ghost use Rattle.kmip_ttlv_items.specs.declared.found.FoundItem.{FoundItem as AnItem};
 ghost use Rattle.kmip_ttlv_items.specs.ItemWalks.{AreBytes, Meets};
@@ -22,7 +24,7 @@ ghost use Rattle.ttlv_run.specs.Inputs.{Stands};
 ghost use Rattle.ttlv_run.specs.Messages.{Whole, message_at, Continues, told};
 ghost use Rattle.ttlv_run.specs.Redactions.{redacted, outline};
 ghost use Rattle.ttlv_run.specs.Runs.{Streams as TheStreams, HasText, Faults, Unwritten};
-ghost use Rattle.ttlv_run.specs.Texts.{Names as TheNames, lines_from, no_reach, reach_all, IsMessageText};
+ghost use Rattle.ttlv_run.specs.Texts.{Names as TheNames, lines_from, no_reach, reach_all, is_passed, covers, IsMessageText};
 
 /// What is printed of an input exists, whatever its bytes are; and it goes on behind what is printed of
 /// whole messages in front, and behind the lines of the items that were met of the next one.
@@ -68,6 +70,14 @@ pub fn a_redacted_text_has_one_outline()
         → IsMessageText names (OfWhole strict) at bytes t (Some fault) → t ≡ [] }
     ensures fault { (strict other : AStrict) (p q : APlace) → p.offset ≡ q.offset → p.wrong ≡ q.wrong
         → told (OfWhole strict) p ≡ told (OfWhole other) q }
+{}
+
+/// Where tags are asked for, an item's line is passed over unless one of the items that were met by then, itself among them, has one
+/// of these tags and ends behind the item's first byte: it is the item, or a structure around it.
+pub fn an_item_is_shown_by_a_tag_of_its_own_or_around_it()
+    ensures { (names : TheNames) (look : TheLook) (bytes : List ℕ) (met : List AnItem) (i : AnItem) (tags : Bor (List ℕ))
+        → look.only ≡ Some tags
+        → is_passed look.only (reach_all names look bytes no_reach met) i ≡ not (list_any (covers tags.now i.offset) met) }
 {}
 
 /// Where some items of a message were met, the attribute by which values are named is that which the last Attribute Name

@@ -48,18 +48,18 @@ fn is_secret<A: Allocator>(names: &Names<'_, A>, tag: TtlvTag) -> bool
     }
 }
 
-// Whether a tag is the one that is asked for.
-fn is_asked(only: Option<u32>, tag: TtlvTag) -> bool
-    ensures { result ≡ is_asked only tag }
+// Whether a tag is one of those that are asked for.
+fn is_asked(only: Option<&[u32]>, tag: TtlvTag) -> bool
+    ensures { result ≡ is_asked only.entry tag }
 {
     match only {
-        Some(only) => only == *tag,
+        Some(tags) => tags.contains(&*tag),
         None => false,
     }
 }
 
 // What is said of an item's value, where secret items reach so far.
-fn values_shown(look: &Look, secret: u128, item: &FoundItem) -> Values
+fn values_shown(look: &Look<'_>, secret: u128, item: &FoundItem) -> Values
     ensures { result ≡ values_shown look.now secret item.now }
 {
     if look.secrets_hidden && (item.offset as u128) < secret {
@@ -72,7 +72,7 @@ fn values_shown(look: &Look, secret: u128, item: &FoundItem) -> Values
 // How far the items of both kinds reach, and the attribute, where one more item was met.
 fn reach_after<A: Allocator>(
     names: &Names<'_, A>,
-    look: &Look,
+    look: &Look<'_>,
     bytes: &[u8],
     reach: Reach,
     item: &FoundItem,
@@ -130,7 +130,7 @@ fn push_head<S: TextSink, A: Allocator>(
 fn push_content<S: TextSink, A: Allocator>(
     out: &mut S,
     names: &Names<'_, A>,
-    look: &Look,
+    look: &Look<'_>,
     reach: &Reach,
     bytes: &[u8],
     item: &FoundItem,
@@ -154,7 +154,7 @@ fn push_content<S: TextSink, A: Allocator>(
 fn push_line<S: TextSink, A: Allocator>(
     out: &mut S,
     names: &Names<'_, A>,
-    look: &Look,
+    look: &Look<'_>,
     reach: &Reach,
     at: usize,
     bytes: &[u8],
@@ -172,8 +172,8 @@ fn push_line<S: TextSink, A: Allocator>(
     out.push_str("\n")
 }
 
-// Whether an item is passed over, where one tag is asked for and its items reach so far.
-fn is_passed(look: &Look, reach: &Reach, item: &FoundItem) -> bool
+// Whether an item is passed over, where tags are asked for and their items reach so far.
+fn is_passed(look: &Look<'_>, reach: &Reach, item: &FoundItem) -> bool
     ensures { result ≡ is_passed look.now.only reach.now item.now }
 {
     match look.only {
@@ -187,7 +187,7 @@ fn is_passed(look: &Look, reach: &Reach, item: &FoundItem) -> bool
 fn push_item<S: TextSink, A: Allocator>(
     out: &mut S,
     names: &Names<'_, A>,
-    look: &Look,
+    look: &Look<'_>,
     reach: &Reach,
     at: usize,
     bytes: &[u8],
@@ -213,16 +213,16 @@ pub fn push_lines<S: TextSink, A: Allocator + Copy>(
     alloc: A,
     out: &mut S,
     names: &Names<'_, A>,
-    look: Look,
+    look: Look<'_>,
     at: usize,
     message: &[u8],
 ) -> Result<Option<Fault>, S::Error>
     requires { at + length message.now < 2 ^ 64 }
     ensures ok { IfOk result (λ fault. SomeText
-        (λ t. IsMessageText (names_of names.now) (ToShow look) at message.now t fault)
+        (λ t. IsMessageText (names_of names.now) (ToShow look.entry) at message.now t fault)
         (λ t. S.adds out.old t out.new)) }
     ensures err { OnErr result (SomeText
-        (λ t. (fault : Option AFault) × IsMessageText (names_of names.now) (ToShow look) at message.now t fault)
+        (λ t. (fault : Option AFault) × IsMessageText (names_of names.now) (ToShow look.entry) at message.now t fault)
         (λ t. S.breaks out.old t out.new)) }
 {
     let mut walk = ItemWalk::new(alloc, message);

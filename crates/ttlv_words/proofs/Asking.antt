@@ -6,7 +6,8 @@ use Rattle.ttlv_run.specs.declared.job.Asked.{Asked}
 use Rattle.ttlv_run.specs.Files.{At, Opening}
 use Rattle.ttlv_run.specs.Masks.{value_named, mask_names}
 use Rattle.ttlv_run.specs.Texts.{Names}
-use Rattle.ttlv_words.specs.Tools.{InputsDone}
+use Rattle.ttlv_words.specs.Tags.{AreTags}
+use Rattle.ttlv_words.specs.Tools.{InputsDone, LacksTag}
 
 -- names by what tables give: of tags, and the tags of names, of a user's values, and of those of lists and of masks; and the secrets
 abbrev pub Given : Type 0
@@ -35,3 +36,16 @@ inputs_as how n m a b f g old was new can_fail l r status p q o s h =
     (subst (λ (x : List (Bor (List ℕ))). InputsDone how m b x old new can_fail l r status) o
     (subst (λ (x : Asked). InputsDone how m x f old new can_fail l r status) q
     (subst (λ (x : Names). InputsDone how x a f old new can_fail l r status) p h)))
+
+-- the tags of words in a table that is known in other words, or why there are none
+pub tags_as : {t u : List ℕ} {v w : List (Bor (List ℕ))} {x y : List ℕ} → t ≡ u → v ≡ w → x ≡ y → AreTags t v x → AreTags u w y
+tags_as {u = u} {v = v} {w = w} {x = x} p q r h =
+    subst (λ (z : List ℕ). AreTags u w z) r
+    (subst (λ (z : List (Bor (List ℕ))). AreTags u z x) q
+    (subst (λ (z : List ℕ). AreTags z v x) p h))
+
+pub lacks_as : {t u : List ℕ} {v w : List (Bor (List ℕ))} {status : ℕ} {line : List ℕ}
+    → t ≡ u → v ≡ w → LacksTag t v status line → LacksTag u w status line
+lacks_as {u = u} {v = v} {status = status} {line = line} p q h =
+    subst (λ (z : List (Bor (List ℕ))). LacksTag u z status line) q
+    (subst (λ (z : List ℕ). LacksTag z v status line) p h)

@@ -77,7 +77,7 @@ IsWidth None width = width ≡ None
 IsWidth (Some text) None = IsNumber text → ⊥
 IsWidth (Some text) (Some width) = IsNumber text × (width ≡ digits_value 10 (without_leading_plus text))
 
--- the readable lines that are asked for; the colours and the tag are decided later
+-- the readable lines that are asked for; the colours and the tags are decided later
 pub record IsLook (f : Found) (look : Look) : Type 0 where
   pub values : look.values ≡ values_in f
   pub secrets : look.secrets_hidden ≡ is_given f (codes "redact") (codes "keys")
@@ -126,18 +126,18 @@ IsAsked command f (Print task encoding) = IsTask command f task × (encoding ≡
 IsAsked command f (ReadBack prefix) = (command ≡ codes "undiag") × (prefix.now ≡ prefix_in f)
 IsAsked command f (FromJson raw) = (command ≡ codes "from-json") × (raw ≡ is_set f (codes "raw"))
 
--- the files that are named
-abbrev pub files_in : Found → List (List ℕ)
-files_in f = unwrap_or (option_map raw_values (matched_of f (codes "files"))) []
+-- the words of an option that may be given several times
+abbrev pub texts_in : Found → List ℕ → List (List ℕ)
+texts_in f option = unwrap_or (option_map raw_values (matched_of f option)) []
 
 -- a request is what a command asks for
 pub record IsRequest (command : List ℕ) (f : Found) (r : Request) : Type 0 where
   pub asked : IsAsked command f r.asked
   pub names : option_map (λ s. s.now) r.names ≡ first_value f (codes "names")
   pub secrets : option_map (λ s. s.now) r.secrets ≡ first_value f (codes "secrets")
-  pub tag : option_map (λ s. s.now) r.tag ≡ first_value f (codes "tag")
+  pub tags : map (λ s. s.now) r.tags.items ≡ texts_in f (codes "tag")
   pub color : r.color ≡ color_in f
-  pub files : map (λ s. s.now) r.files.items ≡ files_in f
+  pub files : map (λ s. s.now) r.files.items ≡ texts_in f (codes "files")
 
 -- a table of secrets is named where they are not hidden
 abbrev pub is_useless : Found → Bool

@@ -1,10 +1,8 @@
--- What a request comes to: its tables, the tag and the colours of lines, and what is done with its inputs.
+-- What a request comes to: its tables, the tags and the colours of lines, and what is done with its inputs.
 use Rattle.std.specs.Borrow.{Bor}
-use Rattle.std.specs.Prelude.{◌≡◌, ◌⊎◌, ℕ, Bool, true, false, ◌&&◌, List, [], ◌∷◌, ◌++◌, length, ◌==◌, codes, Option, Some, None, option_map}
-use Rattle.std.specs.Option.{option_or}
+use Rattle.std.specs.Prelude.{◌≡◌, ◌⊎◌, ℕ, Bool, true, false, ◌&&◌, List, [], ◌∷◌, ◌++◌, length, ◌==◌, codes, Option, Some, None, option_map, if◌then◌else◌}
 use Rattle.clap.specs.declared.error.kind.ErrorKind.{ErrorKind}
 use Rattle.clap.specs.declared.error.kind.ErrorKind.TheVariants.{DisplayHelp, DisplayVersion, OutOfMemory}
-use Rattle.kmip_ttlv_types.specs.Names.{tag_of}
 use Rattle.kmip_ttlv_names.specs.NameTables.{names_of as tags_in, bad_line, tag_named}
 use Rattle.kmip_ttlv_names.specs.OwnNames.{value_names_of, bad_own_line}
 use Rattle.kmip_ttlv_types.specs.Held.{Rests, Says}
@@ -29,6 +27,7 @@ use Rattle.ttlv_words.specs.declared.request.Color.{Color}
 use Rattle.ttlv_words.specs.declared.request.Color.TheVariants.{Always, Never, Auto}
 use Rattle.ttlv_words.specs.declared.request.Request.{Request}
 use Rattle.ttlv_words.specs.declared.tool.Terminal.{Terminal}
+use Rattle.ttlv_words.specs.Tags.{AreTags, IsNoTag}
 
 -- lines are coloured: always, never, or on a terminal without a value of NO_COLOR
 abbrev pub is_colored : Color → Bool → Option (List ℕ) → Bool
@@ -84,18 +83,17 @@ pub data LacksOne
       (between : T) (tags : List ℕ) → IsTable how STANDARD_TAGS.now old between names tags → LacksFile how between new secrets status line
       → LacksOne how names secrets old new status line
 
--- the tag that is asked for, if any: that of a name in a table, or of its digits; none where it is no tag
-abbrev pub tag_asked : List ℕ → Option (List ℕ) → Option (Option ℕ)
-tag_asked table None = Some None
-tag_asked table (Some name) = option_map (λ tag. Some tag) (option_or (tag_named name table) (tag_of name))
+-- the tags whose items alone are shown; where none is asked for all items are
+abbrev pub only_of : Bor (List ℕ) → Option (Bor (List ℕ))
+only_of tags = if length tags.now == 0 then None else Some tags
 
--- what is asked, with the colours and the tag of readable lines
-abbrev pub with_look : Asked → Bool → Option ℕ → Asked
-with_look (Print (Show look) encoding) colored only =
-    Print (Show (record look { colored = colored; only = only })) encoding
-with_look (Print (Whole (ShowWhole look)) encoding) colored only =
-    Print (Whole (ShowWhole (record look { colored = colored; only = only }))) encoding
-with_look asked colored only = asked
+-- what is asked, with the colours and the tags of readable lines
+abbrev pub with_look : Asked → Bool → Bor (List ℕ) → Asked
+with_look (Print (Show look) encoding) colored tags =
+    Print (Show (record look { colored = colored; only = only_of tags })) encoding
+with_look (Print (Whole (ShowWhole look)) encoding) colored tags =
+    Print (Whole (ShowWhole (record look { colored = colored; only = only_of tags }))) encoding
+with_look asked colored tags = asked
 
 -- the line of a table that names nothing: of that of tags, or of that of secrets, where a line that names a value does not either
 pub data HasBadLine (tags secret : List ℕ) (n : ℕ) : Type 0 where
@@ -111,14 +109,21 @@ word_of (Some word) = word.now
 abbrev pub line_of : List ℕ → List ℕ → List ℕ
 line_of word words = escaped word ++ codes ": " ++ words ++ codes "\n"
 
+-- why there are no tags of the words that ask for them, with the status and the line that says so
+pub data LacksTag (table : List ℕ) (words : List (Bor (List ℕ))) (status : ℕ) (line : List ℕ) : Type 0 where
+  no_tag :
+      (word : Bor (List ℕ)) → IsNoTag table words word
+      → status ≡ 2 → line ≡ line_of word.now (codes "no tag has this name")
+      → LacksTag table words status line
+  no_room : status ≡ 3 → line ≡ no_memory_line → LacksTag table words status line
+
 -- why a request is refused, with the status and the line that says so
 pub data IsRefused
     {T I : Type 0} (tables : Opening T I) (r : Request) (old new : T) (status : ℕ) (line : List ℕ) : Type 0 where
   lacks_table : LacksOne tables r.names r.secrets old new status line → IsRefused tables r old new status line
-  no_tag :
+  lacks_tag :
       (tags secret : List ℕ) → AreRead tables r.names r.secrets old new tags secret
-      → tag_asked tags (option_map (λ s. s.now) r.tag) ≡ None
-      → status ≡ 2 → line ≡ line_of (word_of r.tag) (codes "no tag has this name")
+      → LacksTag tags r.tags.items status line
       → IsRefused tables r old new status line
   bad_names :
       (tags secret : List ℕ) (path : Bor (List ℕ)) (n : ℕ) → AreRead tables r.names r.secrets old new tags secret
@@ -148,16 +153,16 @@ InputsDone how names asked [] old new can_fail input input_left status =
     old.errors new.errors status
 InputsDone how names asked (f ∷ fs) old new can_fail input input_left status = FilesDone how names asked (f ∷ fs) old new status
 
--- a request is done: by the tables that it names, with its tag and colours, and nothing is reported before that; or it is refused: a
+-- a request is done: by the tables that it names, with its tags and colours, and nothing is reported before that; or it is refused: a
 -- beginning of the line that says why is reported, and nothing is printed
 pub data RequestDone
     {T J O I : Type 0} (tables : Opening T J) (files : Opening O I) (r : Request) (terminal : Terminal) (old_tables new_tables : T)
     (old new : At O) (can_fail : Bool) (input input_left : Option (List ℕ)) (status : ℕ) : Type 0 where
   done :
-      (tags secret : List ℕ) (only : Option ℕ)
+      (tags secret : List ℕ) (only : Bor (List ℕ))
       → AreRead tables r.names r.secrets old_tables new_tables tags secret
       → bad_line secret ≡ None
-      → tag_asked tags (option_map (λ s. s.now) r.tag) ≡ Some only
+      → AreTags tags r.tags.items only.now
       → InputsDone files (names_for tags secret)
       (with_look r.asked (is_colored r.color terminal.is_one (option_map (λ s. s.now) terminal.no_color)) only)
       r.files.items old new can_fail input input_left status

@@ -170,9 +170,13 @@ fn width<'w>(alloc: Global) -> Arg<'w> {
 }
 
 fn tag<'w>(alloc: Global) -> Arg<'w> {
-    Arg::new(alloc, "tag").long("tag").value_name("NAME").help(
-        "Prints only the items of this tag, with what is in them: its name, or six hexadecimal digits",
-    )
+    Arg::new(alloc, "tag")
+        .long("tag")
+        .value_name("NAME")
+        .action(ArgAction::Append)
+        .help(
+            "Prints only the items of this tag, with what is in them: its name, or six hexadecimal digits; given again, of that one too",
+        )
 }
 
 fn color<'w>(alloc: Global) -> Arg<'w> {

@@ -3,7 +3,7 @@
 ghost use Rattle.std.specs.Prelude.{◌≡◌, ℕ, List, false, map, bytes_eq, codes, IfOk};
 ghost use Rattle.clap.specs.Matches.{found_of, one_text};
 ghost use Rattle.clap.specs.declared.parser.matches.Found.{Found};
-ghost use Rattle.ttlv_words.specs.Requests.{is_given, is_set, encoding_in, prefix_in, values_in, IsWidth, IsLook, hiding_in, color_in, is_closed, is_strict, IsTask, files_in, IsAsked, IsRequest, is_useless};
+ghost use Rattle.ttlv_words.specs.Requests.{is_given, is_set, encoding_in, prefix_in, values_in, IsWidth, IsLook, hiding_in, color_in, is_closed, is_strict, IsTask, texts_in, IsAsked, IsRequest, is_useless};
 
 use crate::command::program;
 use clap::error::ErrorKind;
@@ -34,8 +34,8 @@ pub struct Request<'w> {
     pub names: Option<&'w str>,
     /// The file with further tags of secrets, if any.
     pub secrets: Option<&'w str>,
-    /// The tag whose items alone are shown, by its name or its hexadecimal digits.
-    pub tag: Option<&'w str>,
+    /// The tags whose items alone are shown, each by its name or its hexadecimal digits; none for all items.
+    pub tags: Vec<&'w str>,
     /// When lines are coloured.
     pub color: Color,
     /// The files to be read; none for standard input.
@@ -117,8 +117,8 @@ fn width_of(matches: &ArgMatches<'_>) -> Option<usize>
     matches.get_one("width")
 }
 
-// Colours and the tag are not known before the names and the terminal are.
-fn look_of(matches: &ArgMatches<'_>) -> Look
+// Colours and the tags are not known before the names and the terminal are.
+fn look_of<'w>(matches: &ArgMatches<'w>) -> Look<'w>
     ensures { IsLook (found_of matches.now) result }
 {
     Look {
@@ -228,11 +228,16 @@ fn task_of<'w>(command: &str, matches: &ArgMatches<'w>) -> Task<'w>
     }
 }
 
-fn files_of<'w>(alloc: Global, matches: &ArgMatches<'w>) -> Result<Vec<&'w str>, AllocError>
-    ensures { IfOk result (λ files. map (λ s. s.now) files.items ≡ files_in (found_of matches.now)) }
+// The words of an option that may be given several times.
+fn texts_of<'w>(
+    alloc: Global,
+    matches: &ArgMatches<'w>,
+    option: &str,
+) -> Result<Vec<&'w str>, AllocError>
+    ensures { IfOk result (λ texts. map (λ s. s.now) texts.items ≡ texts_in (found_of matches.now) option.now) }
 {
-    match matches.get_strs("files") {
-        Some(names) => Vec::from_slice(alloc, names),
+    match matches.get_strs(option) {
+        Some(texts) => Vec::from_slice(alloc, texts),
         None => Ok(Vec::new(alloc)),
     }
 }
@@ -270,9 +275,9 @@ pub fn request_in<'w>(
         asked: asked_of(command, matches),
         names: matches.get_str("names"),
         secrets: matches.get_str("secrets"),
-        tag: matches.get_str("tag"),
+        tags: texts_of(alloc, matches, "tag")?,
         color: color_of(matches),
-        files: files_of(alloc, matches)?,
+        files: texts_of(alloc, matches, "files")?,
     })
 }
 

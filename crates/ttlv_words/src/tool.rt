@@ -6,16 +6,17 @@ ghost use Rattle.kmip_ttlv_types.specs.Held.{held, Says};
 ghost use Rattle.kmip_ttlv_names.specs.NameTables.{bad_line};
 ghost use Rattle.kmip_ttlv_names.specs.declared.table.TableError.TheVariants.{BadLine as ABadLine};
 ghost use Rattle.ttlv_run.specs.Texts.{names_of};
-ghost use Rattle.ttlv_words.specs.Tools.{is_colored, IsUsage, no_memory_line, IsTable, LacksFile, AreRead, LacksOne, HasBadLine, word_of, tag_asked, with_look, names_for, InputsDone, RequestDone};
+ghost use Rattle.ttlv_words.specs.Tags.{AreTags};
+ghost use Rattle.ttlv_words.specs.Tools.{is_colored, IsUsage, no_memory_line, IsTable, LacksFile, AreRead, LacksOne, HasBadLine, word_of, LacksTag, only_of, with_look, names_for, InputsDone, RequestDone};
 
 use crate::request::{Color, Request};
+use crate::tags::{TagError, tags_asked};
 use clap::Error;
 use clap::error::ErrorKind;
 use kmip_ttlv_names::{
     STANDARD_SECRETS, STANDARD_TAGS, TableError, own_names, standard_masks, standard_values,
-    tag_named, tag_names, tags_by_name,
+    tag_names, tags_by_name,
 };
-use kmip_ttlv_types::TtlvTag;
 use kmip_ttlv_types::stream::{Sink, Source};
 use std::alloc::{AllocError, Allocator};
 use std::io::{Eprint, Print};
@@ -117,23 +118,40 @@ fn word_of<'w>(word: Option<&'w str>) -> &'w str
     }
 }
 
-// The tag that is asked for, if any: that of a name in a table, or of its digits; none where it is no tag.
-fn tag_asked(table: &str, name: Option<&str>) -> Option<Option<u32>>
-    ensures { result ≡ tag_asked table.now (option_map (λ s. s.now) name.entry) }
+// The tags that are asked for; or the status where a word is no tag.
+fn tags_of<B: Allocator, E: Sink>(
+    alloc: B,
+    table: &str,
+    words: &[&str],
+    errors: &mut E,
+) -> Result<Vec<u32, B>, u8>
+    ensures ok { IfOk result (λ tags. AreTags table.now words.now tags.items) }
+    ensures quiet { OnOk result (errors.new ≡ errors.old) }
+    ensures err { IfErr result (λ status. (line : List ℕ) × LacksTag table.now words.now status line
+        × Says (held E.emitted E.room errors.old) (held E.emitted E.room errors.new) line) }
 {
-    let Some(name) = name else {
-        return Some(None);
-    };
-    match tag_named(table, name).or(TtlvTag::from_name(name)) {
-        Some(tag) => Some(Some(*tag)),
-        None => None,
+    match tags_asked(alloc, table, words) {
+        Ok(tags) => Ok(tags),
+        Err(TagError::NoTag(word)) => {
+            report_words(errors, word, "no tag has this name");
+            Err(USAGE)
+        }
+        Err(TagError::OutOfMemory) => Err(no_memory(errors)),
     }
 }
 
-// What is asked, with the colours and the tag of readable lines.
-fn with_look(asked: Asked<'_>, colored: bool, only: Option<u32>) -> Asked<'_>
-    ensures { result ≡ with_look asked.entry colored only }
+// The tags whose items alone are shown, where some are asked for.
+fn only_of(tags: &[u32]) -> Option<&[u32]>
+    ensures { result ≡ only_of tags.entry }
 {
+    if tags.is_empty() { None } else { Some(tags) }
+}
+
+// What is asked, with the colours and the tags of readable lines.
+fn with_look<'w>(asked: Asked<'w>, colored: bool, tags: &'w [u32]) -> Asked<'w>
+    ensures { result ≡ with_look asked.entry colored tags.entry }
+{
+    let only = only_of(tags);
     match asked {
         Asked::Print {
             task: Task::Show { look },
@@ -242,7 +260,7 @@ fn tables_of<B: Allocator + Copy, T: Opener, E: Sink>(
 }
 
 /// Does what a request asks for, and returns the exit status: those of [`run_asked`] and [`run_files`]; 2 for a table that can't
-/// be read, a table of secrets that names values, and a tag that is none; and 3 when out of memory. Tables are opened by
+/// be read, a table of secrets that names values, and a word for a tag that is none; and 3 when out of memory. Tables are opened by
 /// `tables`, files by `opener`; where none is named, `stdin` is the input. Memory is taken
 /// from `alloc`: also for the bytes of the input.
 pub fn run_request<B: Allocator + Copy, T: Opener, O: Opener, R: Source, W: Sink, E: Sink>(
@@ -266,9 +284,9 @@ pub fn run_request<B: Allocator + Copy, T: Opener, O: Opener, R: Source, W: Sink
         Ok(read) => read,
         Err(status) => return status,
     };
-    let Some(only) = tag_asked(tags.as_str(), request.tag) else {
-        report_words(errors, word_of(request.tag), "no tag has this name");
-        return USAGE;
+    let only = match tags_of(alloc, tags.as_str(), request.tags.as_slice(), errors) {
+        Ok(only) => only,
+        Err(status) => return status,
     };
     let names = match names_in(alloc, tags.as_str(), secret.as_str()) {
         Ok(names) => names,
@@ -282,7 +300,8 @@ pub fn run_request<B: Allocator + Copy, T: Opener, O: Opener, R: Source, W: Sink
         }
         Err(TableError::OutOfMemory) => return no_memory(errors),
     };
-    let asked = with_look(request.asked, is_colored(request.color, terminal), only);
+    let colored = is_colored(request.color, terminal);
+    let asked = with_look(request.asked, colored, only.as_slice());
     let memory = Memory {
         input: alloc,
         rest: alloc,
