@@ -11,7 +11,7 @@ _ttlv() {
     [ "$COMP_CWORD" -gt 1 ] && command=${COMP_WORDS[1]}
     case $command in
     '') options='show diag undiag check hex json from-json --help --version' ;;
-    show) options='--redact --secrets --strict --raw --offsets --width --tag --color --names --input --help' ;;
+    show) options='--redact --secrets --strict --raw --offsets --lengths --width --tag --color --names --input --help' ;;
     diag) options='--prefix --closed --unclosed --strict --input --help' ;;
     undiag) options='--prefix --names --help' ;;
     check) options='--kmip --allow-empty --input --help' ;;

@@ -13,6 +13,7 @@ complete -c ttlv -n '__fish_seen_subcommand_from show json' -l secrets -r -d 'A 
 complete -c ttlv -n '__fish_seen_subcommand_from show diag json' -l strict -d 'Prints nothing of a malformed message, and no tag at its error; so does --redact'
 complete -c ttlv -n '__fish_seen_subcommand_from show' -l raw -d 'Prints texts as they are, with their control characters and backslashes'
 complete -c ttlv -n '__fish_seen_subcommand_from show' -l offsets -d 'Prints the offset of each item, in bytes, in front of its line'
+complete -c ttlv -n '__fish_seen_subcommand_from show' -l lengths -d 'Prints how many bytes the value of each item has, in front of its line; not with --redact'
 complete -c ttlv -n '__fish_seen_subcommand_from show' -l width -x -d 'The most bytes that are printed of a byte string'
 complete -c ttlv -n '__fish_seen_subcommand_from show' -l tag -x -d 'Prints only the items of this tag, with what is in them: its name, or six hexadecimal digits; given again, of that one too'
 complete -c ttlv -n '__fish_seen_subcommand_from show' -l color -x -a 'always never auto' -d 'Whether lines are coloured; auto: on a terminal, unless NO_COLOR is set'

@@ -1,4 +1,4 @@
-//! Readable lines as options change them: offsets, dates, masks, parts of byte strings, some tags, colours and secrets.
+//! Readable lines as options change them: offsets, lengths, dates, masks, parts of byte strings, some tags, colours and secrets.
 
 use crate::runs::{VERSION, run_with};
 use std::alloc::{AllocError, Global};
@@ -13,6 +13,18 @@ type Row = (Look<'static>, &'static str, &'static str);
 
 const OFFSETS: Look<'static> = Look {
     offsets: true,
+    ..Look::PLAIN
+};
+
+const LENGTHS: Look<'static> = Look {
+    lengths: true,
+    width: Some(4),
+    ..Look::PLAIN
+};
+
+const BOTH: Look<'static> = Look {
+    offsets: true,
+    lengths: true,
     ..Look::PLAIN
 };
 
@@ -49,7 +61,7 @@ const SEVERAL: Look<'static> = Look {
     ..Look::PLAIN
 };
 
-const ROWS: [Row; 8] = [
+const ROWS: [Row; 10] = [
     (
         OFFSETS,
         VERSION,
@@ -60,6 +72,18 @@ const ROWS: [Row; 8] = [
         OFFSETS,
         "420069010000000042006A0100000000",
         "0\tTag: Protocol Version (0x420069), Type: Structure (0x01), Data:\n8\tTag: Protocol Version Major (0x42006A), Type: Structure (0x01), Data:\n",
+    ),
+    // Lengths are those of values, without their padding; a part that is printed doesn't change them.
+    (
+        LENGTHS,
+        "42009101000000284200430800000004010203AB000000004200430800000005010203AB050000004200430800000000",
+        "40\tTag: Template-Attribute (0x420091), Type: Structure (0x01), Data:\n4\t  Tag: Key Material (0x420043), Type: ByteString (0x08), Data: 010203AB\n5\t  Tag: Key Material (0x420043), Type: ByteString (0x08), Data: 010203AB.. (5 bytes)\n0\t  Tag: Key Material (0x420043), Type: ByteString (0x08), Data: \n",
+    ),
+    // Offsets come first.
+    (
+        BOTH,
+        VERSION,
+        "0\t32\tTag: Protocol Version (0x420069), Type: Structure (0x01), Data:\n8\t4\t  Tag: Protocol Version Major (0x42006A), Type: Integer (0x02), Data: 0x000001 (1)\n24\t4\t  Tag: Protocol Version Minor (0x42006B), Type: Integer (0x02), Data: 0x000000 (0)\n",
     ),
     (
         COLORS,

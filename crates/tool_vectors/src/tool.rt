@@ -98,13 +98,16 @@ const TWO: &str =
 const OWN_LINES: &str =
     "Tag: 0x540003, Type: Structure (0x01), Data:\n  Tag: 0x540002, Type: ByteString (0x08), Data: 0A0B0C\n  Tag: Cryptographic Usage Mask (0x42002C), Type: Integer (0x02), Data: 0x000004 (4) Encrypt\n  Tag: 0x540004, Type: ByteString (0x08), Data: 0001020304050607\n";
 
+const LENGTHS: &str =
+    "48\tTag: 0x540003, Type: Structure (0x01), Data:\n3\t  Tag: 0x540002, Type: ByteString (0x08), Data: 0A0B0C\n4\t  Tag: Cryptographic Usage Mask (0x42002C), Type: Integer (0x02), Data: 0x000004 (4) Encrypt\n8\t  Tag: 0x540004, Type: ByteString (0x08), Data: 0001020304050607\n";
+
 const COLORED_ONE: &str =
     "\u{1b}[36m  Tag: 0x540002\u{1b}[0m, Type: ByteString (0x08), Data: \u{1b}[32m0A0B0C\u{1b}[0m\n";
 
 const LEAK_LINES: &str =
     "Tag: Key Block (0x420040), Type: Structure (0x01), Data:\n  Tag: Key Material (0x420043), Type: Structure (0x01), Data:\n";
 
-const ROWS: [Row; 34] = [
+const ROWS: [Row; 36] = [
     ("show --redact=keys key", PLAIN, 0, SHOWN_KEY, ""),
     ("show --raw --redact=keys key", PLAIN, 0, SHOWN_KEY, ""),
     ("show --redact key", PLAIN, 0, REDACTED_KEY, ""),
@@ -280,6 +283,14 @@ const ROWS: [Row; 34] = [
         "nothing: no tag has this name\n",
     ),
     ("show --tag 420069 --tag 42006A own", PLAIN, 0, "", ""),
+    ("show --lengths own", PLAIN, 0, LENGTHS, ""),
+    (
+        "show --lengths --tag 540002 -o own",
+        PLAIN,
+        0,
+        "8\t3\t  Tag: 0x540002, Type: ByteString (0x08), Data: 0A0B0C\n",
+        "",
+    ),
 ];
 
 fn words_of(alloc: Global, line: &str) -> Result<Vec<String>, AllocError> {

@@ -7,7 +7,7 @@ use ttlv_words::request_of;
 // Arguments, what they ask for, the file of names, and how many files are read.
 type Row = (&'static str, Asked<'static>, Option<&'static str>, usize);
 
-const ASKED: [Row; 25] = [
+const ASKED: [Row; 26] = [
     ("ttlv from-json", Asked::FromJson { raw: false }, None, 0),
     (
         "ttlv from-json --raw a b",
@@ -83,6 +83,21 @@ const ASKED: [Row; 25] = [
             task: Task::Show {
                 look: Look {
                     values: Values::Raw,
+                    ..Look::PLAIN
+                },
+            },
+            encoding: Encoding::Detected,
+        },
+        None,
+        1,
+    ),
+    (
+        "ttlv show --lengths a -o",
+        Asked::Print {
+            task: Task::Show {
+                look: Look {
+                    offsets: true,
+                    lengths: true,
                     ..Look::PLAIN
                 },
             },
@@ -281,7 +296,7 @@ const ASKED: [Row; 25] = [
 ];
 
 // Arguments that ask for no run, and the exit status: help, the version, and mistakes.
-const OTHERS: [(&str, i32); 11] = [
+const OTHERS: [(&str, i32); 15] = [
     ("ttlv from-json --input raw", 2),
     ("ttlv --help", 0),
     ("ttlv show --help", 0),
@@ -289,6 +304,11 @@ const OTHERS: [(&str, i32); 11] = [
     ("ttlv", 2),
     ("ttlv shout", 2),
     ("ttlv show --closed", 2),
+    // Lengths tell something of values that are hidden.
+    ("ttlv show --lengths --redact", 2),
+    ("ttlv show --redact=all --lengths", 2),
+    ("ttlv show --lengths --redact=keys", 2),
+    ("ttlv json --lengths", 2),
     ("ttlv diag --redact", 2),
     ("ttlv diag --raw", 2),
     ("ttlv check --input ebcdic", 2),

@@ -7,12 +7,13 @@ use Rattle.kmip_ttlv_items.specs.ItemWalks.{content_at}
 use Rattle.ttlv_run.specs.declared.job.Look.{Look}
 use Rattle.ttlv_run.specs.declared.job.Values.TheVariants.{Hidden}
 
--- how redacted lines of all items are printed, without offsets
+-- how redacted lines of all items are printed, without offsets and lengths
 abbrev pub redacted : Option ℕ → Bool → Look
 redacted width colored = record {
   values = Hidden;
   secrets_hidden = false;
   offsets = false;
+  lengths = false;
   width = width;
   colored = colored;
   only = None;

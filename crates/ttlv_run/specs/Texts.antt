@@ -94,9 +94,9 @@ color_part colored color = if colored then color else []
 abbrev pub painted : Bool → List ℕ → List ℕ → List ℕ
 painted colored color text = color_part colored color ++ (text ++ color_part colored (27 ∷ codes "[0m"))
 
--- an offset and a tab, where offsets are printed
-abbrev pub offset_part : Bool → ℕ → List ℕ
-offset_part offsets offset = if offsets then decimal offset ++ codes "\t" else []
+-- a number and a tab, where such numbers are printed
+abbrev pub column_part : Bool → ℕ → List ℕ
+column_part printed number = if printed then decimal number ++ codes "\t" else []
 
 -- the beginning of an item's line, up to its tag
 unfoldable pub tag_part : Names → Bool → FoundItem → List ℕ
@@ -145,12 +145,14 @@ value_part names look r bytes i =
     painted_value look.colored i.typ
     (shown names (values_shown look r.secret i) look.width (naming_tag r.attribute i) i.typ (content_at bytes i.offset))
 
--- the line of an item of a message that begins at an offset: the offset, if asked for, the depth, tag, type and value
+-- the line of an item of a message that begins at an offset: the item's offset and the length of its value, if asked for, the depth,
+-- tag, type and value
 unfoldable pub item_line : Names → Look → Reach → ℕ → List ℕ → FoundItem → List ℕ
 item_line names look r at bytes i =
-    offset_part look.offsets (at + i.offset)
+    column_part look.offsets (at + i.offset)
+    ++ (column_part look.lengths i.length
     ++ (tag_part names look.colored i
-    ++ (data_part i.typ ++ (value_part names look r bytes i ++ 10 ∷ [])))
+    ++ (data_part i.typ ++ (value_part names look r bytes i ++ 10 ∷ []))))
 
 -- an item is passed over: tags are asked for, and neither it nor one around it has one of them, so that no item of these tags reaches
 -- behind its first byte

@@ -31,6 +31,8 @@ pub struct Look<'w> {
     pub secrets_hidden: bool,
     /// Whether the offset of an item, in bytes from the first message's first, and a tab stand in front of its line.
     pub offsets: bool,
+    /// Whether the length of an item's value, in bytes and without padding, and a tab stand in front of its line, behind the offset.
+    pub lengths: bool,
     /// The most bytes of a Byte String that are printed; all where there is no limit.
     pub width: Option<usize>,
     /// Whether tags and values are coloured.
@@ -40,11 +42,12 @@ pub struct Look<'w> {
 }
 
 impl Look<'_> {
-    /// All lines without offsets or colours, with values and whole Byte Strings, where texts are escaped.
+    /// All lines without offsets, lengths or colours, with values and whole Byte Strings, where texts are escaped.
     pub const PLAIN: Look<'static> = Look {
         values: Values::Escaped,
         secrets_hidden: false,
         offsets: false,
+        lengths: false,
         width: None,
         colored: false,
         only: None,

@@ -6,7 +6,7 @@ ghost use Rattle.ttlv_run.specs.declared.job.Task.TheVariants.{Show as ToShow};
 ghost use Rattle.kmip_ttlv_items.specs.declared.found.Fault.{Fault as AFault};
 ghost use Rattle.kmip_ttlv_util.specs.Pieces.{SomeText};
 ghost use Rattle.ttlv_run.specs.Items.{IsGood};
-ghost use Rattle.ttlv_run.specs.Texts.{names_of, offset_part, tag_part, value_part, item_line, values_shown, is_passed, item_text, is_asked, reached, reach_after, IsMessageText};
+ghost use Rattle.ttlv_run.specs.Texts.{names_of, column_part, tag_part, value_part, item_line, values_shown, is_passed, item_text, is_asked, reached, reach_after, IsMessageText};
 
 use crate::attributes::{Attribute, attribute_after, naming_tag};
 use crate::colors::{NONE, TAG, VALUE, push_color};
@@ -100,13 +100,13 @@ fn push_number<S: TextSink>(out: &mut S, number: usize) -> Result<(), S::Error>
     out.push_str("\t")
 }
 
-// Adds an offset and a tab, where offsets are printed.
-fn push_offset<S: TextSink>(out: &mut S, offsets: bool, offset: usize) -> Result<(), S::Error>
-    ensures ok { OnOk result (S.adds out.old (offset_part offsets offset) out.new) }
-    ensures err { OnErr result (S.breaks out.old (offset_part offsets offset) out.new) }
+// Adds a number and a tab, where such numbers are printed.
+fn push_column<S: TextSink>(out: &mut S, printed: bool, number: usize) -> Result<(), S::Error>
+    ensures ok { OnOk result (S.adds out.old (column_part printed number) out.new) }
+    ensures err { OnErr result (S.breaks out.old (column_part printed number) out.new) }
 {
-    if offsets {
-        return push_number(out, offset);
+    if printed {
+        return push_number(out, number);
     }
     Ok(())
 }
@@ -165,7 +165,8 @@ fn push_line<S: TextSink, A: Allocator>(
     ensures ok { OnOk result (S.adds out.old (item_line (names_of names.now) look.now reach.now at bytes.now item.now) out.new) }
     ensures err { OnErr result (S.breaks out.old (item_line (names_of names.now) look.now reach.now at bytes.now item.now) out.new) }
 {
-    push_offset(out, look.offsets, at + item.offset)?;
+    push_column(out, look.offsets, at + item.offset)?;
+    push_column(out, look.lengths, item.length as usize)?;
     push_head(out, names, look.colored, item)?;
     push_data_part(out, item.typ)?;
     push_content(out, names, look, reach, bytes, item)?;

@@ -82,6 +82,7 @@ pub record IsLook (f : Found) (look : Look) : Type 0 where
   pub values : look.values ≡ values_in f
   pub secrets : look.secrets_hidden ≡ is_given f (codes "redact") (codes "keys")
   pub offsets : look.offsets ≡ is_set f (codes "offsets")
+  pub lengths : look.lengths ≡ is_set f (codes "lengths")
   pub width : IsWidth (one_text f (codes "width")) look.width
   pub colored : look.colored ≡ false
   pub only : look.only ≡ None
@@ -142,3 +143,8 @@ pub record IsRequest (command : List ℕ) (f : Found) (r : Request) : Type 0 whe
 -- a table of secrets is named where they are not hidden
 abbrev pub is_useless : Found → Bool
 is_useless f = is_some (matched_of f (codes "secrets")) && not (is_given f (codes "redact") (codes "keys"))
+
+-- lengths are asked for where values are hidden
+abbrev pub is_telling : Found → Bool
+is_telling f =
+    is_set f (codes "lengths") && (is_given f (codes "redact") (codes "all") || is_given f (codes "redact") (codes "keys"))

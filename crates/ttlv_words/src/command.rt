@@ -42,6 +42,7 @@ enum Part {
     Prefix,
     Names,
     Offsets,
+    Lengths,
     Width,
     Tag,
     Color,
@@ -67,6 +68,7 @@ const COMMANDS: [(&str, &str, &[Part]); 7] = [
             Part::Strict,
             Part::Raw,
             Part::Offsets,
+            Part::Lengths,
             Part::Width,
             Part::Tag,
             Part::Color,
@@ -159,6 +161,15 @@ fn offsets<'w>(alloc: Global) -> Arg<'w> {
         .long("offsets")
         .action(ArgAction::SetTrue)
         .help("Prints the offset of each item, in bytes, in front of its line")
+}
+
+fn lengths<'w>(alloc: Global) -> Arg<'w> {
+    Arg::new(alloc, "lengths")
+        .long("lengths")
+        .action(ArgAction::SetTrue)
+        .help(
+            "Prints how many bytes the value of each item has, in front of its line; not with --redact",
+        )
 }
 
 fn width<'w>(alloc: Global) -> Arg<'w> {
@@ -266,6 +277,7 @@ fn arg<'w>(alloc: Global, part: Part) -> Arg<'w> {
         Part::Prefix => prefix(alloc),
         Part::Names => names(alloc),
         Part::Offsets => offsets(alloc),
+        Part::Lengths => lengths(alloc),
         Part::Width => width(alloc),
         Part::Tag => tag(alloc),
         Part::Color => color(alloc),

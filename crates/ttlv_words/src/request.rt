@@ -3,7 +3,7 @@
 ghost use Rattle.std.specs.Prelude.{◌≡◌, ℕ, List, false, map, bytes_eq, codes, IfOk};
 ghost use Rattle.clap.specs.Matches.{found_of, one_text};
 ghost use Rattle.clap.specs.declared.parser.matches.Found.{Found};
-ghost use Rattle.ttlv_words.specs.Requests.{is_given, is_set, encoding_in, prefix_in, values_in, IsWidth, IsLook, hiding_in, color_in, is_closed, is_strict, IsTask, texts_in, IsAsked, IsRequest, is_useless};
+ghost use Rattle.ttlv_words.specs.Requests.{is_given, is_set, encoding_in, prefix_in, values_in, IsWidth, IsLook, hiding_in, color_in, is_closed, is_strict, IsTask, texts_in, IsAsked, IsRequest, is_useless, is_telling};
 
 use crate::command::program;
 use clap::error::ErrorKind;
@@ -13,6 +13,9 @@ use ttlv_run::{Asked, Encoding, Hiding, Look, Strict, Task, Values};
 
 /// Why a table of secrets is refused.
 const NO_USE: &str = "--secrets hides nothing without --redact=keys";
+
+/// Why lengths are refused.
+const TELLS: &str = "--lengths tells how long the values are that --redact hides";
 
 /// When lines are coloured.
 #[derive(Clone, Copy, Debug, PartialEq, Eq)]
@@ -125,6 +128,7 @@ fn look_of<'w>(matches: &ArgMatches<'w>) -> Look<'w>
         values: values_of(matches),
         secrets_hidden: is_given(matches, "redact", "keys"),
         offsets: is_set(matches, "offsets"),
+        lengths: is_set(matches, "lengths"),
         width: width_of(matches),
         colored: false,
         only: None,
@@ -288,10 +292,19 @@ fn is_useless(matches: &ArgMatches<'_>) -> bool
     matches.contains_id("secrets") && !is_given(matches, "redact", "keys")
 }
 
-/// What words ask for, the first of which is the program's name. `--secrets` without `--redact=keys` is wrong usage. The error is
-/// to be printed, on standard output for help and the version, and has the exit status.
+// Whether lengths are asked for where values are hidden.
+fn is_telling(matches: &ArgMatches<'_>) -> bool
+    ensures { result ≡ is_telling (found_of matches.now) }
+{
+    is_set(matches, "lengths")
+        && (is_given(matches, "redact", "all") || is_given(matches, "redact", "keys"))
+}
+
+/// What words ask for, the first of which is the program's name. `--secrets` without `--redact=keys` is wrong usage, and so is
+/// `--lengths` with any `--redact`. The error is to be printed, on standard output for help and the version, and has the exit status.
 pub fn request_of<'w>(alloc: Global, words: &'w [String]) -> Result<Request<'w>, Error>
-    ensures { IfOk result (λ r. (command : List ℕ) × (f : Found) × IsRequest command f r × (is_useless f ≡ false)) }
+    ensures { IfOk result (λ r. (command : List ℕ) × (f : Found) × IsRequest command f r
+        × (is_useless f ≡ false) × (is_telling f ≡ false)) }
 {
     let mut program = program(alloc)?;
     let matches = program.try_get_matches_from_mut(words)?;
@@ -300,6 +313,9 @@ pub fn request_of<'w>(alloc: Global, words: &'w [String]) -> Result<Request<'w>,
     };
     if is_useless(found) {
         return Err(program.error(ErrorKind::MissingRequiredArgument, NO_USE)?);
+    }
+    if is_telling(found) {
+        return Err(program.error(ErrorKind::ArgumentConflict, TELLS)?);
     }
     Ok(request_in(alloc, command, found)?)
 }

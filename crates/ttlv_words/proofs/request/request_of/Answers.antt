@@ -1,9 +1,10 @@
 use Rattle.std.proofs.Common.{rules, ◌≡◌, false}
 use Rattle.clap.specs.Matches.{found_of}
-use Rattle.ttlv_words.specs.Requests.{is_useless}
+use Rattle.ttlv_words.specs.Requests.{is_useless, is_telling}
 use Rattle.ttlv_words.proofs.request.request_of.Goals as goal
 
 pub returns : goal.returns
 returns c =
     let has_use : is_useless (found_of c.in-Some.found.now) ≡ false = search rules in
-    (c.in-Some.command.now, found_of c.in-Some.found.now, c.in_ok-request_in.ensures, has_use)
+    let no_lengths : is_telling (found_of c.in-Some.found.now) ≡ false = search rules in
+    (c.in-Some.command.now, found_of c.in-Some.found.now, c.in_ok-request_in.ensures, has_use, no_lengths)
