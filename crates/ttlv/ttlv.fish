@@ -15,7 +15,7 @@ complete -c ttlv -n '__fish_seen_subcommand_from show' -l raw -d 'Prints texts a
 complete -c ttlv -n '__fish_seen_subcommand_from show' -l offsets -d 'Prints the offset of each item, in bytes, in front of its line'
 complete -c ttlv -n '__fish_seen_subcommand_from show' -l lengths -d 'Prints how many bytes the value of each item has, in front of its line; not with --redact'
 complete -c ttlv -n '__fish_seen_subcommand_from show' -l width -x -d 'The most bytes that are printed of a byte string'
-complete -c ttlv -n '__fish_seen_subcommand_from show' -l tag -x -d 'Prints only the items of this tag, with what is in them: its name, or six hexadecimal digits; given again, of that one too'
+complete -c ttlv -n '__fish_seen_subcommand_from show' -l tag -x -d 'Prints only the items of this tag, with what is in them: its name in any spelling, or six hexadecimal digits; given again, of that one too'
 complete -c ttlv -n '__fish_seen_subcommand_from show' -l color -x -a 'always never auto' -d 'Whether lines are coloured; auto: on a terminal, unless NO_COLOR is set'
 complete -c ttlv -n '__fish_seen_subcommand_from show undiag' -l names -r -d 'A file with further names, a line each: `540001 Own Tag`, `540001:00000002 Own Value`'
 complete -c ttlv -n '__fish_seen_subcommand_from show diag check hex json' -l input -x -a 'raw hex base64 base64url pem xxd hexdump od tcpdump' -d 'What the input is, in place of what it looks like'

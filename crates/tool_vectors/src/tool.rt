@@ -49,6 +49,7 @@ impl Opener for Folder {
             "own" => OWN.as_bytes(),
             "leak" => LEAK.as_bytes(),
             "own.txt" => b"# Ours.\n540002 Own Secret\n".as_slice(),
+            "same.txt" => b"540009 own secret\n540002 Own Secret\n".as_slice(),
             "values.txt" => b"540002 Own Secret\n540002:00000001 A Value\n".as_slice(),
             _ => return None,
         };
@@ -101,13 +102,18 @@ const OWN_LINES: &str =
 const LENGTHS: &str =
     "48\tTag: 0x540003, Type: Structure (0x01), Data:\n3\t  Tag: 0x540002, Type: ByteString (0x08), Data: 0A0B0C\n4\t  Tag: Cryptographic Usage Mask (0x42002C), Type: Integer (0x02), Data: 0x000004 (4) Encrypt\n8\t  Tag: 0x540004, Type: ByteString (0x08), Data: 0001020304050607\n";
 
+const NAMED_ONE: &str = "  Tag: Own Secret (0x540002), Type: ByteString (0x08), Data: 0A0B0C\n";
+
+const MATERIAL: &str =
+    "    Tag: Key Material (0x420043), Type: Structure (0x01), Data:\n      Tag: Key (0x42003F), Type: ByteString (0x08), Data: 0909090909090909\n      Tag: Recommended Curve (0x420075), Type: Enumeration (0x05), Data: 0x000004 (4) P-224\n";
+
 const COLORED_ONE: &str =
     "\u{1b}[36m  Tag: 0x540002\u{1b}[0m, Type: ByteString (0x08), Data: \u{1b}[32m0A0B0C\u{1b}[0m\n";
 
 const LEAK_LINES: &str =
     "Tag: Key Block (0x420040), Type: Structure (0x01), Data:\n  Tag: Key Material (0x420043), Type: Structure (0x01), Data:\n";
 
-const ROWS: [Row; 36] = [
+const ROWS: [Row; 44] = [
     ("show --redact=keys key", PLAIN, 0, SHOWN_KEY, ""),
     ("show --raw --redact=keys key", PLAIN, 0, SHOWN_KEY, ""),
     ("show --redact key", PLAIN, 0, REDACTED_KEY, ""),
@@ -291,6 +297,50 @@ const ROWS: [Row; 36] = [
         "8\t3\t  Tag: 0x540002, Type: ByteString (0x08), Data: 0A0B0C\n",
         "",
     ),
+    // Names in other spellings.
+    ("show --tag KeyMaterial key", PLAIN, 0, MATERIAL, ""),
+    ("show --tag key-material key", PLAIN, 0, MATERIAL, ""),
+    ("show --tag KEY_MATERIAL key", PLAIN, 0, MATERIAL, ""),
+    ("show --tag=-keymaterial_ key", PLAIN, 0, MATERIAL, ""),
+    (
+        "show --names own.txt --tag OWN-secret own",
+        PLAIN,
+        0,
+        NAMED_ONE,
+        "",
+    ),
+    // Neither a beginning of a name nor one that goes on is the name. (There is a tag Key, but none Key Mat.)
+    (
+        "show --tag key-mat key",
+        PLAIN,
+        2,
+        "",
+        "key-mat: no tag has this name\n",
+    ),
+    (
+        "show --tag key-materials key",
+        PLAIN,
+        2,
+        "",
+        "key-materials: no tag has this name\n",
+    ),
+    // Of two tags with such names it is that of the first line.
+    (
+        "show --names same.txt --tag own-secret own",
+        PLAIN,
+        0,
+        "",
+        "",
+    ),
+];
+
+// A tag as it is named, the table of names, a file, and what is printed of it.
+const SPELLED: [(&str, &str, &str, &str); 4] = [
+    ("Key Material", "own.txt", "key", MATERIAL),
+    (" key  material", "own.txt", "key", MATERIAL),
+    // The exact name comes first, wherever its line is.
+    ("Own Secret", "same.txt", "own", NAMED_ONE),
+    ("own secret", "same.txt", "own", ""),
 ];
 
 fn words_of(alloc: Global, line: &str) -> Result<Vec<String>, AllocError> {
@@ -335,11 +385,32 @@ fn prints(alloc: Global, row: Row) -> bool {
     }
 }
 
+// Whether a tag that is named so is found.
+fn finds(alloc: Global, row: (&str, &str, &str, &str)) -> bool {
+    let (tag, names, file, output) = row;
+    let mut words = Vec::new(alloc);
+    for word in ["ttlv", "show", "--tag", tag, "--names", names, file] {
+        let Ok(word) = String::from_str(alloc, word) else {
+            return false;
+        };
+        if words.push(word).is_err() {
+            return false;
+        }
+    }
+    match request_of(alloc, words.as_slice()) {
+        Ok(request) => ran(alloc, &request, PLAIN, b"").is(0, output, ""),
+        Err(_) => false,
+    }
+}
+
 #[test]
 fn words_to_lines(rt: HostRuntime) {
     for row in ROWS {
         let (line, _, _, _, _) = row;
         assert!(rt; prints(rt.alloc(), row), "{line}");
+    }
+    for row in SPELLED {
+        assert!(rt; finds(rt.alloc(), row), "{row:?}");
     }
 }
 

@@ -1,3 +1,4 @@
 pub mod Asking
 pub mod OwnTables
+pub mod Written
 pub mod Tagging

@@ -1,3 +1,4 @@
 pub mod Requests
+pub mod Spellings
 pub mod Tags
 pub mod Tools

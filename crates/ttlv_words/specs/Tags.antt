@@ -6,10 +6,11 @@ use Rattle.kmip_ttlv_types.specs.Names.{tag_of}
 use Rattle.kmip_ttlv_names.specs.NameTables.{tag_named}
 use Rattle.ttlv_words.specs.declared.tags.TagError.{TagError}
 use Rattle.ttlv_words.specs.declared.tags.TagError.TheVariants.{NoTag, OutOfMemory}
+use Rattle.ttlv_words.specs.Spellings.{tag_written}
 
--- the tag that a word asks for: that of a name in a table, or of its digits; none where it is no tag
+-- the tag that a word asks for: that of a name in a table, or of its digits, or of a name in another spelling; none where it is no tag
 abbrev pub tag_asked : List ℕ → List ℕ → Option ℕ
-tag_asked table word = option_or (tag_named word table) (tag_of word)
+tag_asked table word = option_or (option_or (tag_named word table) (tag_of word)) (tag_written word table)
 
 -- each word asks for a tag, and these are the tags
 abbrev pub AreTags : List ℕ → List (Bor (List ℕ)) → List ℕ → Type 0

@@ -186,7 +186,7 @@ fn tag<'w>(alloc: Global) -> Arg<'w> {
         .value_name("NAME")
         .action(ArgAction::Append)
         .help(
-            "Prints only the items of this tag, with what is in them: its name, or six hexadecimal digits; given again, of that one too",
+            "Prints only the items of this tag, with what is in them: its name in any spelling, or six hexadecimal digits; given again, of that one too",
         )
 }
 

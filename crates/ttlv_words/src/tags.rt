@@ -3,6 +3,7 @@
 ghost use Rattle.std.specs.Prelude.{◌≡◌, IfOk, IfErr};
 ghost use Rattle.ttlv_words.specs.Tags.{tag_asked, AreTags, IsWhyNot};
 
+use crate::spelling::tag_written;
 use kmip_ttlv_names::tag_named;
 use kmip_ttlv_types::TtlvTag;
 use std::alloc::Allocator;
@@ -16,11 +17,14 @@ pub enum TagError<'w> {
     OutOfMemory,
 }
 
-// The tag that a word asks for: that of a name in a table, or of its digits; none where it is no tag.
+// The tag that a word asks for: that of a name in a table, or of its digits, or of a name in another spelling; none where it is no
+// tag.
 fn tag_asked(table: &str, word: &str) -> Option<TtlvTag>
     ensures { result ≡ tag_asked table.now word.now }
 {
-    tag_named(table, word).or(TtlvTag::from_name(word))
+    tag_named(table, word)
+        .or(TtlvTag::from_name(word))
+        .or(tag_written(table, word))
 }
 
 /// The tags that words ask for, each as a number.
