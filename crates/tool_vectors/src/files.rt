@@ -1,4 +1,4 @@
-//! Runs over several inputs: their order, the greatest status, and one error line for each bad file.
+//! Runs over several inputs: their order, the greatest status, one error line for each bad file, and the lines with their names.
 
 use crate::runs::{Outcome, VERSION, of};
 use kmip_ttlv_memory::BoundedAllocator;
@@ -145,6 +145,32 @@ const ROWS: [Row; 13] = [
     ),
 ];
 
+// The same where readable lines are asked for: of several files each that can be opened has a line with its name.
+const SHOWN_ROWS: [Row; 4] = [
+    (&["two"], 0, TWO, ""),
+    (&[], 0, "", ""),
+    (
+        &["none", "two"],
+        2,
+        "==> two <==\nTag: Protocol Version (0x420069), Type: Structure (0x01), Data:\nTag: Protocol Version Major (0x42006A), Type: Structure (0x01), Data:\n",
+        "none: it can't be opened\n",
+    ),
+    (
+        &["two", "empty", "none", "cut\n\u{1b}[31m\u{202e}", "failing"],
+        2,
+        "==> two <==\nTag: Protocol Version (0x420069), Type: Structure (0x01), Data:\nTag: Protocol Version Major (0x42006A), Type: Structure (0x01), Data:\n==> empty <==\n==> cut\\n\\u{1b}[31m\\u{202e} <==\nTag: Protocol Version (0x420069), Type: Structure (0x01), Data:\n==> failing <==\n",
+        "none: it can't be opened\ncut\\n\\u{1b}[31m\\u{202e}: byte 8: Protocol Version (0x420069): the input ends within the message\nfailing: it can't be read\n",
+    ),
+];
+
+const TWO: &str =
+    "Tag: Protocol Version (0x420069), Type: Structure (0x01), Data:\nTag: Protocol Version Major (0x42006A), Type: Structure (0x01), Data:\n";
+
+const SHOWN: Asked<'static> = Asked::Print {
+    task: Task::Show { look: Look::PLAIN },
+    encoding: Encoding::Detected,
+};
+
 const HEXADECIMAL: Asked<'static> = Asked::Print {
     task: Task::Hexadecimal,
     encoding: Encoding::Detected,
@@ -194,9 +220,9 @@ fn outcome_of(
     })
 }
 
-fn runs_so(alloc: Global, row: Row) -> bool {
+fn runs_so(alloc: Global, asked: Asked<'_>, row: Row) -> bool {
     let (files, status, text, lines) = row;
-    match outcome_of(alloc, HEXADECIMAL, STANDARD_TAGS, files) {
+    match outcome_of(alloc, asked, STANDARD_TAGS, files) {
         Ok(outcome) => outcome.is(status, text, lines),
         Err(_) => false,
     }
@@ -205,7 +231,10 @@ fn runs_so(alloc: Global, row: Row) -> bool {
 #[test]
 fn several_files(rt: HostRuntime) {
     for row in ROWS {
-        assert!(rt; runs_so(rt.alloc(), row), "{row:?}");
+        assert!(rt; runs_so(rt.alloc(), HEXADECIMAL, row), "{row:?}");
+    }
+    for row in SHOWN_ROWS {
+        assert!(rt; runs_so(rt.alloc(), SHOWN, row), "{row:?}");
     }
 }
 
@@ -224,7 +253,7 @@ impl io::Write for Full {
 }
 
 // Behind an output that fails no other file is read.
-fn stops_at_three(alloc: Global) -> Result<bool, TableError> {
+fn stops_at_three(alloc: Global, asked: Asked<'_>) -> Result<bool, TableError> {
     let own = own_names(alloc, STANDARD_TAGS)?;
     let values = standard_values(alloc)?;
     let masks = standard_masks(alloc)?;
@@ -241,7 +270,7 @@ fn stops_at_three(alloc: Global) -> Result<bool, TableError> {
     let mut errors = Vec::new(alloc);
     let status = run_files(
         of(alloc),
-        HEXADECIMAL,
+        asked,
         &names,
         &files,
         &mut Folder,
@@ -254,7 +283,12 @@ fn stops_at_three(alloc: Global) -> Result<bool, TableError> {
 
 #[test]
 fn an_output_that_fails_ends_it(rt: HostRuntime) {
-    assert!(rt; matches!(stops_at_three(rt.alloc()), Ok(true)));
+    for asked in [HEXADECIMAL, SHOWN] {
+        assert!(rt;
+            matches!(stops_at_three(rt.alloc(), asked), Ok(true)),
+            "{asked:?}"
+        );
+    }
 }
 
 // A file that is nested too deep for the memory there is has its line, and those behind it are read.

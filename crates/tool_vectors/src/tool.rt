@@ -113,7 +113,7 @@ const COLORED_ONE: &str =
 const LEAK_LINES: &str =
     "Tag: Key Block (0x420040), Type: Structure (0x01), Data:\n  Tag: Key Material (0x420043), Type: Structure (0x01), Data:\n";
 
-const ROWS: [Row; 44] = [
+const ROWS: [Row; 48] = [
     ("show --redact=keys key", PLAIN, 0, SHOWN_KEY, ""),
     ("show --raw --redact=keys key", PLAIN, 0, SHOWN_KEY, ""),
     ("show --redact key", PLAIN, 0, REDACTED_KEY, ""),
@@ -332,6 +332,29 @@ const ROWS: [Row; 44] = [
         "",
         "",
     ),
+    // The name of each of several files, where lines are shown.
+    (
+        "show --tag 540002 own own",
+        PLAIN,
+        0,
+        "==> own <==\n  Tag: 0x540002, Type: ByteString (0x08), Data: 0A0B0C\n==> own <==\n  Tag: 0x540002, Type: ByteString (0x08), Data: 0A0B0C\n",
+        "",
+    ),
+    (
+        "show --strict --tag 540002 leak own",
+        PLAIN,
+        1,
+        "==> leak <==\n==> own <==\n  Tag: 0x540002, Type: ByteString (0x08), Data: 0A0B0C\n",
+        "leak: byte 16: no tag: unknown type\n",
+    ),
+    (
+        "diag own own",
+        PLAIN,
+        0,
+        "540003[540002o42002Ci540004o]\n540003[540002o42002Ci540004o]\n",
+        "",
+    ),
+    ("check own key", PLAIN, 0, "", ""),
 ];
 
 // A tag as it is named, the table of names, a file, and what is printed of it.

@@ -9,6 +9,7 @@ pub mod Escapes
 pub mod Files
 pub mod Fronts
 pub mod Guesses
+pub mod Headings
 pub mod Inputs
 pub mod Items
 pub mod JsonLines

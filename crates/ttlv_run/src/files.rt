@@ -6,6 +6,7 @@ ghost use Rattle.ttlv_run.specs.Files.{IsDone, IsEnded, FileDone, greater, stops
 ghost use Rattle.ttlv_run.specs.Texts.{names_of};
 
 use crate::from_json::{read_json, read_json_to_end};
+use crate::headings::{is_headed, print_head};
 use crate::job::{Asked, BackJob, Job, JsonJob, Names};
 use crate::memory::Memory;
 use crate::run::{read_back, read_back_to_end, report_error, run, run_to_end};
@@ -106,10 +107,11 @@ fn end_asked<A: Allocator + Copy, B: Allocator + Copy, R: Source, W: Sink, E: Si
     }
 }
 
-// Does it with a file.
+// Does it with a file, behind the line of its name if one is due.
 fn run_file<A: Allocator + Copy, B: Allocator + Copy, O: Opener, W: Sink, E: Sink>(
     memory: Memory<A, B>,
     asked: Asked<'_>,
+    headed: bool,
     name: &str,
     names: &Names<'_, B>,
     opener: &mut O,
@@ -117,12 +119,18 @@ fn run_file<A: Allocator + Copy, B: Allocator + Copy, O: Opener, W: Sink, E: Sin
     errors: &mut E,
 ) -> Result<bool, RunError>
     ensures { FileDone (record { opens = O.opens; left = O.Input.left; can_fail = O.Input.can_fail })
-        (names_of names.now) asked.entry name.entry
+        (names_of names.now) asked.entry headed name.entry
         (record { opener = opener.old; output = held W.emitted W.room output.old; errors = held E.emitted E.room errors.old })
         (record { opener = opener.new; output = held W.emitted W.room output.new; errors = held E.emitted E.room errors.new }) result }
 {
     match opener.open(name) {
-        Some(mut input) => end_asked(memory, asked, name, names, &mut input, output, errors),
+        Some(mut input) => {
+            if let Err(why) = print_head(output, headed, name) {
+                report_error(errors, name, why);
+                return Err(why);
+            }
+            end_asked(memory, asked, name, names, &mut input, output, errors)
+        }
         None => {
             report_error(errors, name, RunError::UnopenedInput);
             Err(RunError::UnopenedInput)
@@ -150,7 +158,8 @@ fn stops(outcome: Result<bool, RunError>) -> bool
 
 /// Does with each file what is asked, one after the other, and returns the greatest of their exit statuses:
 /// those of [`run`], [`read_back`] and [`read_json`], and 2 for a file that can't be opened. If the output can't be
-/// written, no other file is read; behind a file for which memory doesn't suffice the others are.
+/// written, no other file is read; behind a file for which memory doesn't suffice the others are. Where readable lines of several
+/// files are asked for, those of each that can be opened come behind a line `==> NAME <==`, in which the name is escaped.
 pub fn run_files<A: Allocator + Copy, B: Allocator + Copy, O: Opener, W: Sink, E: Sink>(
     memory: Memory<A, B>,
     asked: Asked<'_>,
@@ -165,9 +174,10 @@ pub fn run_files<A: Allocator + Copy, B: Allocator + Copy, O: Opener, W: Sink, E
         (record { opener = opener.old; output = held W.emitted W.room output.old; errors = held E.emitted E.room errors.old })
         (record { opener = opener.new; output = held W.emitted W.room output.new; errors = held E.emitted E.room errors.new }) result }
 {
+    let headed = is_headed(asked, files.len());
     let mut status = 0;
     'files: for name in files {
-        let outcome = run_file(memory, asked, name, names, opener, output, errors);
+        let outcome = run_file(memory, asked, headed, name, names, opener, output, errors);
         status = greater(status, status_in(outcome));
         if stops(outcome) {
             return status;

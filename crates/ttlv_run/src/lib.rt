@@ -2,7 +2,7 @@
 //! one after the other, as raw bytes, hexadecimal, base64 or a dump, and prints them as readable lines, as
 //! diagnostics, as JSON or in hexadecimal, or checks them; or it reads diagnostics or JSON back.
 //!
-//! `files` is the entry, for several inputs, and `run` for one. `job` says what is to be done, `window` holds what was
+//! `files` is the entry, for several inputs, whose names `headings` prints, and `run` for one. `job` says what is to be done, `window` holds what was
 //! read and not printed yet, `guess` finds the encoding, `digits` prints a text as it comes, which `decoder` decodes group by group,
 //! `coding` says what the digits of a group stand for, `form` which bytes of a text are digits, and `misread` why it stands for no
 //! bytes. `messages` goes from message to message, `texts`, `lines`, `values`, `attributes`, `dates`, `masks`, `colors` and `escape` print
@@ -23,6 +23,7 @@ pub mod files;
 mod form;
 pub mod from_json;
 mod guess;
+mod headings;
 mod job;
 pub mod laws;
 mod lines;

@@ -5,7 +5,7 @@ use Rattle.ttlv_run.proofs.files.run_files.Given as goal
 
 abbrev pub invariant-files : goal.invariant-files
 invariant-files g l =
-    AllDone (record { opens = g.O.Opener.opens; left = g.O.Input.Source.left; can_fail = g.O.Input.Source.can_fail }) (names_of l.names) l.asked
+    AllDone (record { opens = g.O.Opener.opens; left = g.O.Input.Source.left; can_fail = g.O.Input.Source.can_fail }) (names_of l.names) l.asked l.headed
     (record {
       opener = l.initial.opener;
       output = held g.W.Sink.emitted g.W.Sink.room l.initial.output;
