@@ -68,6 +68,7 @@ pub use Rattle.kmip_ttlv_laws.specs.Agreements
 pub use Rattle.kmip_ttlv_laws.specs.ReadingLaws
 pub use Rattle.kmip_ttlv_laws.specs.Equal
 pub use Rattle.kmip_ttlv_laws.specs.Rereads
+pub use Rattle.kmip_ttlv_laws.specs.Boxes
 pub use Rattle.kmip_ttlv_laws.specs.WorkedAgreements
 pub use Rattle.kmip_ttlv_items.specs.Enclosing
 pub use Rattle.kmip_ttlv_items.specs.FoundItems

@@ -4,7 +4,7 @@
 //! `error`, the traits of a user's type in `shape`, `visit` and `parts`; encoding in `ser`, decoding in `de`
 //! and, for types that read themselves, in `reader`; printing in `util` and `names`; flat items in `items` and
 //! `writing`; the parts of message types in `messages`; an allocator with limits in `memory`; and in `laws` what
-//! is true of encoding and decoding together.
+//! is true of encoding and decoding together. A large part of a message is `Boxed`.
 //!
 //! The lemmas for the proofs of a user's `from_data`, `shape` and `visit` are in proofs/Views, proofs/Shapes
 //! and proofs/Visiting of `kmip_ttlv_base`.
@@ -17,6 +17,7 @@ pub use kmip_ttlv_base::{error, parts, types, visit};
 pub use kmip_ttlv_de::{ByShape, Decode, Deserialize, from_slice, from_slice_by_shape};
 pub use kmip_ttlv_items as items;
 pub use kmip_ttlv_laws as laws;
+pub use kmip_ttlv_laws::Boxed;
 pub use kmip_ttlv_memory as memory;
 pub use kmip_ttlv_messages as messages;
 pub use kmip_ttlv_names as names;

@@ -17,3 +17,4 @@ pub mod Equal
 pub mod Rereads
 pub mod WorkedAgreements
 pub mod Receiving
+pub mod Boxes

@@ -7,3 +7,4 @@ pub mod WorkedAgreements
 pub mod ReadingLaws
 pub mod Equal
 pub mod Rereads
+pub mod Boxes

@@ -17,9 +17,11 @@ ghost use Rattle.kmip_ttlv_laws.specs.ReadingLaws.{WrittenIsWellFormed, WrittenI
 ghost use Rattle.kmip_ttlv_laws.specs.ReadingLaws.{LeavesComeBack, UnitsComeBack, AgreeingIsWritten, AgreeingIsRead};
 ghost use Rattle.kmip_ttlv_laws.specs.WorkedAgreements.{AttributesAgree, OptionsAgree, SequencesAgree};
 
+mod boxed;
 mod message;
 mod sound;
 
+pub use crate::boxed::Boxed;
 pub use crate::message::{Message, reread};
 pub use crate::sound::{Sound, is_absent_or_whole, is_none_of, is_whole};
 use std::alloc::Allocator;
