@@ -1,11 +1,13 @@
 -- Written by codegen from types.table: change that, and run codegen/codegen.
 -- The types agree with their forms: one line for each part.
 use Rattle.kmip_ttlv.specs.Agreements.{MessageAgrees, first_variant, is_run, later_variant, variant_wraps}
+use Rattle.kmip_ttlv.specs.Boxes.{boxed}
 use Rattle.kmip_ttlv.specs.Names.{number, override_name, tag_of, transparent_name}
 use Rattle.kmip_ttlv.specs.Returns.{as_boolean, as_date_time, as_int32, as_int64, as_interval, as_number, as_octets, as_text}
 use Rattle.kmip_ttlv.specs.Rules.{at_least, equal, in_brackets, member, rule, sides}
 use Rattle.kmip_ttlv.specs.Values.{big_integer_value, boolean_value, bytes_value, interval_value, newtype_value, text_value}
 use Rattle.kmip_ttlv.specs.WrittenItems.{is_wrapper, pending_after, take_tag}
+use Rattle.kmip_ttlv_laws.proofs.Boxes.{in_any_box, in_box}
 use Rattle.kmip_ttlv_laws.proofs.MessageParts.{IsUnit, PartAgrees, a_big_integer, a_boolean, a_byte_string, a_structure, a_text_string, all_agree}
 use Rattle.kmip_ttlv_laws.proofs.MessageParts.{an_enumeration, an_integer, an_interval, any_then, as_whole, enumeration_part, every_agrees, first_of}
 use Rattle.kmip_ttlv_laws.proofs.MessageParts.{if_present, leaf_part, leaf_then, message, nothing_behind, nothing_left, option_behind, optional_same_then}
@@ -21,7 +23,7 @@ use Rattle.kmip_ttlv.specs.declared.types.TtlvType.TheVariants as types
 use Rattle.ttlv_vectors.specs.Leaves.{numbers_form, numbers_value, moments_form, moments_value, contents_form, contents_value, optional_contents_form}
 use Rattle.ttlv_vectors.specs.Leaves.{written_optional_contents, read_optional_contents, kind_form, kind_value, kind_number, kind_variants}
 use Rattle.ttlv_vectors.specs.Soundness.{IsNumbers, IsMoments, IsContents, IsOptionalContents, IsCount, IsSaid, IsNamed, IsChosen, IsMaximumItems}
-use Rattle.ttlv_vectors.specs.Soundness.{IsLocateRequestPayload, IsOperation, IsQueryResponsePayload, IsResultReason, IsFailedItem}
+use Rattle.ttlv_vectors.specs.Soundness.{IsLocateRequestPayload, IsOperation, IsQueryResponsePayload, IsResultReason, IsFailedItem, IsParcel}
 use Rattle.ttlv_vectors.specs.declared.leaves.{Numbers.Numbers, Moments.Moments, Contents.Contents, OptionalContents.OptionalContents, Kind.Kind}
 use Rattle.ttlv_vectors.specs.declared.leaves.Kind.TheVariants as kind
 use Rattle.ttlv_vectors.specs.Chosens.{word_form, word_value, line_form, line_value, count_form, count_value, said_form, written_said, read_said, said_content}
@@ -44,6 +46,8 @@ use Rattle.ttlv_vectors.specs.declared.query.{QueryResponsePayload.QueryResponse
 use Rattle.ttlv_vectors.specs.declared.query.{FailedItem.FailedItem}
 use Rattle.ttlv_vectors.specs.declared.query.ObjectType.TheVariants as object_type
 use Rattle.ttlv_vectors.specs.declared.query.ResultStatus.TheVariants as result_status
+use Rattle.ttlv_vectors.specs.Parcels.{note_form, note_value, parcel_form, written_parcel, read_parcel}
+use Rattle.ttlv_vectors.specs.declared.parcel.{Note.Note, Parcel.Parcel}
 
 pub numbers_agrees : (x : Numbers) → IsNumbers x → PartAgrees numbers_form (numbers_value x) (a_structure 0x540001) (numbers_value x)
 unfolding take_tag tag_of number transparent_name rule numbers_value
@@ -262,3 +266,17 @@ failed_item_agrees x is =
     (if_present result_reason_agrees (λ y. refl) x.reason is.1) (
     optional_same_then (λ y. newtype_value (codes "Transparent:0x42007D") (text_value (string_bytes y))) (a_text_string 0x42007D) x.message refl refl
     (present (λ y. leaf_part refl refl (as_text (text_is_utf8 y))) (λ y. refl) x.message) nothing_left)))))
+
+pub note_agrees : {A : Type 0} (x : Note A) → PartAgrees note_form (note_value x) (a_structure 0x540081) (note_value x)
+unfolding take_tag tag_of number transparent_name rule note_value
+note_agrees x =
+    structure refl refl (leaf_then refl refl refl refl (as_text (text_is_utf8 x.text)) nothing_left)
+
+pub parcel_agrees : {A : Type 0} (x : Parcel A) → IsParcel x → MessageAgrees parcel_form (written_parcel x) (read_parcel x)
+unfolding take_tag tag_of number transparent_name rule written_parcel read_parcel moments_value contents_value note_value
+parcel_agrees x is =
+    let b1 = option_behind x.note (a_structure 0x540081) nothing_behind in
+    message (structure refl refl (part_then refl refl (moments_agrees x.moments.inner.value is.0) (
+    optional_same_then (boxed contents_value) (a_structure 0x540020) x.contents refl (b1.other (codes "0x540020") refl)
+    (if_present (in_box contents_agrees) (λ y. refl) x.contents is.1) (
+    optional_same_then (boxed note_value) (a_structure 0x540081) x.note refl refl (present (in_any_box note_agrees) (λ y. refl) x.note) nothing_left))))

@@ -7,5 +7,6 @@ pub mod Leaves
 pub mod Messages
 pub mod Numbers
 pub mod Queries
+pub mod Parcels
 pub mod Soundness
 pub mod Laws

@@ -1,5 +1,6 @@
 -- Written by codegen from types.table: change that, and run codegen/codegen.
 -- Which values of each type are sound: what was encoded of them is decoded again.
+use Rattle.kmip_ttlv.specs.Boxes.{IsBoxed}
 use Rattle.std.specs.Int.{w32, w64}
 use Rattle.std.specs.Prelude.{All, FitsSigned, IfSome, length, string_bytes, ◌%◌, ◌<◌, ◌^◌, ◌≡◌}
 use Rattle.ttlv_vectors.specs.declared.leaves.{Numbers.Numbers, Moments.Moments, Contents.Contents, OptionalContents.OptionalContents}
@@ -8,6 +9,7 @@ use Rattle.ttlv_vectors.specs.declared.chosen.Said.TheVariants as said
 use Rattle.ttlv_vectors.specs.declared.chosen.Named.TheVariants as named
 use Rattle.ttlv_vectors.specs.declared.query.{MaximumItems.MaximumItems, LocateRequestPayload.LocateRequestPayload, Operation.Operation}
 use Rattle.ttlv_vectors.specs.declared.query.{QueryResponsePayload.QueryResponsePayload, ResultReason.ResultReason, FailedItem.FailedItem}
+use Rattle.ttlv_vectors.specs.declared.parcel.Parcel.{Parcel}
 use Rattle.ttlv_vectors.specs.Chosens.{ChoosesNamed, ChoosesPlace}
 use Rattle.ttlv_vectors.specs.Queries.{operation_number, result_reason_number}
 
@@ -88,3 +90,9 @@ abbrev pub IsFailedItem : {A : Type 0} → FailedItem A → Type 0
 IsFailedItem x =
     IsOperation x.operation
     × IfSome x.reason IsResultReason
+
+-- which values of `Parcel` are sound
+abbrev pub IsParcel : {A : Type 0} → Parcel A → Type 0
+IsParcel x =
+    IsMoments x.moments.inner.value
+    × IfSome x.contents (IsBoxed IsContents)

@@ -7,11 +7,13 @@ ghost use Rattle.kmip_ttlv.specs.Equal.{AreEqual, ReturnsEqual};
 ghost use Rattle.ttlv_vectors.specs.Leaves.{numbers_value, moments_value, contents_value, read_optional_contents, kind_value};
 ghost use Rattle.ttlv_vectors.specs.Chosens.{word_value, line_value, count_value, read_said, read_named, label_value, address_value, read_place, read_chosen};
 ghost use Rattle.ttlv_vectors.specs.Queries.{maximum_items_value, text_attribute_value, read_locate_request_payload, written_operation, read_operation, object_type_value, application_namespace_value, returned_query_response_payload, read_query_response_payload, written_result_reason, read_result_reason, result_status_value, returned_failed_item, read_failed_item};
-ghost use Rattle.ttlv_vectors.specs.Soundness.{IsNumbers, IsMoments, IsContents, IsOptionalContents, IsCount, IsSaid, IsNamed, IsChosen, IsMaximumItems, IsLocateRequestPayload, IsOperation, IsQueryResponsePayload, IsResultReason, IsFailedItem};
-ghost use Rattle.ttlv_vectors.specs.Laws.{ChosensComeBack, FailedItemsComeBack};
+ghost use Rattle.ttlv_vectors.specs.Parcels.{note_value, read_parcel};
+ghost use Rattle.ttlv_vectors.specs.Soundness.{IsNumbers, IsMoments, IsContents, IsOptionalContents, IsCount, IsSaid, IsNamed, IsChosen, IsMaximumItems, IsLocateRequestPayload, IsOperation, IsQueryResponsePayload, IsResultReason, IsFailedItem, IsParcel};
+ghost use Rattle.ttlv_vectors.specs.Laws.{ChosensComeBack, FailedItemsComeBack, ParcelsComeBack};
 
 use crate::chosen::{Address, Chosen, Count, Label, Line, Named, Place, Said, Word};
 use crate::leaves::{Contents, Kind, Moments, Numbers, OptionalContents};
+use crate::parcel::{Note, Parcel};
 use crate::query::{
     ApplicationNamespace, FailedItem, LocateRequestPayload, MaximumItems, ObjectType, Operation,
     QueryResponsePayload, ResultReason, ResultStatus, TextAttribute,
@@ -31,6 +33,14 @@ pub fn chosens_come_back<A: Allocator>()
 /// whatever stands behind them.
 pub fn failed_items_come_back<A: Allocator>()
     ensures { FailedItemsComeBack A }
+{
+    agreeing_values_come_back();
+}
+
+/// The bytes of a `Parcel` begin with the value that it is read from and with no other,
+/// whatever stands behind them.
+pub fn parcels_come_back<A: Allocator>()
+    ensures { ParcelsComeBack A }
 {
     agreeing_values_come_back();
 }
@@ -61,6 +71,8 @@ pub fn equal_values<A: Allocator>()
     ensures result_reason { ReturnsEqual written_result_reason read_result_reason ⟦<ResultReason as PartialEq>⟧.eq }
     ensures result_status { AreEqual result_status_value ⟦<ResultStatus as PartialEq>⟧.eq }
     ensures failed_item { ReturnsEqual returned_failed_item read_failed_item ⟦<FailedItem<A> as PartialEq>⟧.eq }
+    ensures note { AreEqual note_value ⟦<Note<A> as PartialEq>⟧.eq }
+    ensures parcel { AreEqual read_parcel ⟦<Parcel<A> as PartialEq>⟧.eq }
 {}
 
 impl Sound for Numbers {
@@ -205,6 +217,14 @@ impl<A: Allocator> Sound for FailedItem<A> {
     }
 }
 
+impl<A: Allocator> Sound for Parcel<A> {
+    ghost IsSound = { IsParcel };
+
+    fn is_sound(&self) -> bool {
+        self.moments.is_sound() && self.contents.is_sound()
+    }
+}
+
 impl<A: Allocator + Copy> Message<A> for Chosen<A> {
     fn comes_back() {
         equal_values::<A>();
@@ -212,6 +232,12 @@ impl<A: Allocator + Copy> Message<A> for Chosen<A> {
 }
 
 impl<A: Allocator + Copy> Message<A> for FailedItem<A> {
+    fn comes_back() {
+        equal_values::<A>();
+    }
+}
+
+impl<A: Allocator + Copy> Message<A> for Parcel<A> {
     fn comes_back() {
         equal_values::<A>();
     }

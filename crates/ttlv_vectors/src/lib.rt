@@ -3,8 +3,8 @@
 //! proves their laws. Reading by other shapes is tested in reading_vectors, printing in
 //! printing_vectors, and the low-level calls in types_vectors.
 //!
-//! `message` has a part of every kind, `leaves` the leaves, `chosen` choices, and `query` sequences that may be empty and open
-//! Enumerations: these are what `codegen/codegen` writes of `types.table`.
+//! `message` has a part of every kind, `leaves` the leaves, `chosen` choices, `query` sequences that may be empty and open
+//! Enumerations, and `parcel` structures on the heap: these are what `codegen/codegen` writes of `types.table`.
 //! `numbers` has the parts that are written by hand, `choice` and `samples` types with a shape. `key_gets`, `key_messages`,
 //! `object_rereads` and `registering` are tests of the crates create_destroy and kmip_messages.
 #![tactic(auto)]
@@ -32,6 +32,9 @@ mod nesting;
 pub mod numbers;
 #[cfg(test)]
 mod object_rereads;
+pub mod parcel;
+#[cfg(test)]
+mod parcels;
 #[cfg(test)]
 mod parts;
 #[cfg(test)]

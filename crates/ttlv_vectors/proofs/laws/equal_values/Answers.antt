@@ -1,6 +1,8 @@
 -- Written by codegen from types.table: change that, and run codegen/codegen.
 -- Values of a type are equal if they stand for the same: each part is, and numbers tell apart the variants of an Enumeration.
+use Rattle.kmip_ttlv.specs.Boxes.{boxed}
 use Rattle.kmip_ttlv.specs.Values.{big_integer_value, boolean_value, bytes_value, interval_value, newtype_value, text_value}
+use Rattle.kmip_ttlv_laws.proofs.Boxes.{boxes_equal}
 use Rattle.kmip_ttlv_laws.proofs.Equal.{any_equal, apart, big_integers_equal, booleans_equal, bytes_equal, date_times_equal, found_same, in_unit, in_variant}
 use Rattle.kmip_ttlv_laws.proofs.Equal.{integers_equal, intervals_equal, last_equal, long_integers_equal, newtypes_equal, numbers_equal, options_equal}
 use Rattle.kmip_ttlv_laws.proofs.Equal.{options_same, others_equal, part_equal, row_of, structures_equal, texts_equal}
@@ -14,6 +16,7 @@ use Rattle.ttlv_vectors.specs.Queries.{written_operation, read_operation, object
 use Rattle.ttlv_vectors.specs.Queries.{returned_query_response_payload, read_query_response_payload, result_reason_number, result_reason_numbers}
 use Rattle.ttlv_vectors.specs.Queries.{written_result_reason, read_result_reason, result_status_number, result_status_value, returned_failed_item}
 use Rattle.ttlv_vectors.specs.Queries.{read_failed_item}
+use Rattle.ttlv_vectors.specs.Parcels.{note_value, read_parcel}
 use Rattle.ttlv_vectors.specs.declared.leaves.Kind.{Kind}
 use Rattle.ttlv_vectors.specs.declared.leaves.Kind.TheVariants as kind
 use Rattle.ttlv_vectors.specs.contracts.leaves.Kind as kind_contract
@@ -190,3 +193,15 @@ returns-clause-failed_item g c x y e =
     part_equal (options_equal written_result_reason read_result_reason _ (returns-clause-result_reason g c) x.reason y.reason) (
     last_equal (options_same (λ y. newtype_value (codes "Transparent:0x42007D") (text_value (string_bytes y))) _ (λ a b. newtypes_equal (texts_equal a b))
     x.message y.message))))) e
+
+pub returns-clause-note : goal.returns-clause-note
+unfolding note_value
+returns-clause-note g c x y e =
+    structures_equal (last_equal (newtypes_equal (texts_equal x.text y.text))) e
+
+pub returns-clause-parcel : goal.returns-clause-parcel
+unfolding read_parcel
+returns-clause-parcel g c x y e =
+    structures_equal (part_equal (returns-clause-moments g c x.moments.inner.value y.moments.inner.value) (
+    part_equal (options_same (boxed contents_value) _ (boxes_equal contents_value contents_value _ (returns-clause-contents g c)) x.contents y.contents) (
+    last_equal (options_same (boxed note_value) _ (boxes_equal note_value note_value _ (returns-clause-note g c)) x.note y.note)))) e
