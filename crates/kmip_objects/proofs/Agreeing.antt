@@ -1,11 +1,13 @@
 -- Written by codegen from types.table: change that, and run codegen/codegen.
 -- The types agree with their forms: one line for each part.
 use Rattle.kmip_ttlv.specs.Agreements.{first_variant, is_run, later_variant, variant_wraps}
+use Rattle.kmip_ttlv.specs.Boxes.{boxed}
 use Rattle.kmip_ttlv.specs.Names.{number, override_name, tag_of, transparent_name}
 use Rattle.kmip_ttlv.specs.Returns.{as_int32, as_number, as_octets, as_text}
 use Rattle.kmip_ttlv.specs.Rules.{at_least, equal, in_brackets, member, rule, sides}
 use Rattle.kmip_ttlv.specs.Values.{big_integer_value, bytes_value, newtype_value}
 use Rattle.kmip_ttlv.specs.WrittenItems.{is_wrapper, pending_after, take_tag}
+use Rattle.kmip_ttlv_laws.proofs.Boxes.{in_box}
 use Rattle.kmip_ttlv_laws.proofs.MessageParts.{PartAgrees, a_big_integer, a_byte_string, a_structure, a_text_string, an_enumeration, an_integer, any_then}
 use Rattle.kmip_ttlv_laws.proofs.MessageParts.{as_whole, every_agrees, first_of, if_present, leaf_part, leaf_then, nothing_behind, nothing_left, option_behind}
 use Rattle.kmip_ttlv_laws.proofs.MessageParts.{optional_same_then, optional_then, part_then, present, several_then, structure, text_is_utf8}
@@ -221,8 +223,8 @@ key_block_agrees x is =
     (if_present cryptographic_algorithm_agrees (λ y. refl) x.cryptographic_algorithm is.3) (
     optional_same_then cryptographic_length_value (an_integer 0x42002A) x.cryptographic_length refl (b1.other (codes "0x42002A") refl)
     (if_present cryptographic_length_agrees (λ y. refl) x.cryptographic_length is.4) (
-    optional_then written_key_wrapping_data returned_key_wrapping_data (a_structure 0x420046) x.key_wrapping_data refl refl
-    (if_present key_wrapping_data_agrees (λ y. refl) x.key_wrapping_data is.5) nothing_left))))))
+    optional_then (boxed written_key_wrapping_data) (boxed returned_key_wrapping_data) (a_structure 0x420046) x.key_wrapping_data refl refl
+    (if_present (in_box key_wrapping_data_agrees) (λ y. refl) x.key_wrapping_data is.5) nothing_left))))))
 
 pub certificate_agrees : {A : Type 0} (x : Certificate A) → IsCertificate x
     → PartAgrees certificate_form (written_certificate x) (a_structure 0x420013) (returned_certificate x)

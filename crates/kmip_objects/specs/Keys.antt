@@ -1,5 +1,6 @@
 -- Written by codegen from types.table: change that, and run codegen/codegen.
 -- Forms and values of the types in `key`.
+use Rattle.kmip_ttlv.specs.Boxes.{boxed}
 use Rattle.kmip_ttlv.specs.Forms.{Form, any_number, enum, field, int32, newtype, no_fields, no_variants, octets, option, seq, struct, text, variant, wrapped}
 use Rattle.kmip_ttlv.specs.MessageParts.{numbered_value, optional, optional_sequence, other_number, sequence}
 use Rattle.kmip_ttlv.specs.Values.{Value, bytes_value, i32_value, newtype_value, newtype_variant_value, no_values, struct_value, text_value, u32_value, value}
@@ -432,7 +433,7 @@ written_key_block x =
     value (written_key_value x.key_value) (
     joined (visits.optional_field (option_map written_cryptographic_algorithm x.cryptographic_algorithm)) (
     joined (visits.optional_field (option_map cryptographic_length_value x.cryptographic_length)) (
-    joined (visits.optional_field (option_map written_key_wrapping_data x.key_wrapping_data)) no_values))))))
+    joined (visits.optional_field (option_map (boxed written_key_wrapping_data) x.key_wrapping_data)) no_values))))))
 
 -- what is read of a `KeyBlock`
 unfoldable pub read_key_block : {A : Type 0} → KeyBlock A → Value
@@ -443,7 +444,7 @@ read_key_block x =
     value (read_key_value x.key_value) (
     value (optional read_cryptographic_algorithm x.cryptographic_algorithm) (
     value (optional cryptographic_length_value x.cryptographic_length) (
-    value (optional read_key_wrapping_data x.key_wrapping_data) no_values))))))
+    value (optional (boxed read_key_wrapping_data) x.key_wrapping_data) no_values))))))
 
 -- what is read of the bytes of a `KeyBlock`
 unfoldable pub returned_key_block : {A : Type 0} → KeyBlock A → Value
@@ -454,4 +455,4 @@ returned_key_block x =
     value (returned_key_value x.key_value) (
     value (optional written_cryptographic_algorithm x.cryptographic_algorithm) (
     value (optional cryptographic_length_value x.cryptographic_length) (
-    value (optional returned_key_wrapping_data x.key_wrapping_data) no_values))))))
+    value (optional (boxed returned_key_wrapping_data) x.key_wrapping_data) no_values))))))

@@ -1,5 +1,6 @@
 -- Written by codegen from types.table: change that, and run codegen/codegen.
 -- Which values of each type are sound: what was encoded of them is decoded again.
+use Rattle.kmip_ttlv.specs.Boxes.{IsBoxed}
 use Rattle.std.specs.Int.{w32}
 use Rattle.std.specs.Prelude.{All, FitsSigned, IfSome, length, ◌%◌, ◌<◌, ◌^◌, ◌≡◌}
 use Rattle.kmip_objects.specs.declared.key.{KeyCompressionType.KeyCompressionType, WrappingMethod.WrappingMethod, EncodingOption.EncodingOption}
@@ -83,7 +84,7 @@ IsKeyBlock x =
     × IsKeyValue x.key_value
     × IfSome x.cryptographic_algorithm IsCryptographicAlgorithm
     × IfSome x.cryptographic_length IsCryptographicLength
-    × IfSome x.key_wrapping_data IsKeyWrappingData
+    × IfSome x.key_wrapping_data (IsBoxed IsKeyWrappingData)
 
 -- which values of `Certificate` are sound
 abbrev pub IsCertificate : {A : Type 0} → Certificate A → Type 0

@@ -14,10 +14,10 @@ use kmip_attributes::values::{
     PaddingMethod,
 };
 use kmip_ttlv::messages::writing;
-use kmip_ttlv::reader;
 use kmip_ttlv::shape::Serialize;
 use kmip_ttlv::types::TtlvType;
 use kmip_ttlv::visit::Visitor;
+use kmip_ttlv::{Boxed, reader};
 use std::alloc::{AllocError, Allocator, Global};
 
 /// What names an object.
@@ -1139,7 +1139,7 @@ pub struct KeyBlock<A: Allocator = Global> {
     /// How long it is.
     pub cryptographic_length: Option<CryptographicLength>,
     /// How it is wrapped, if it is.
-    pub key_wrapping_data: Option<KeyWrappingData<A>>,
+    pub key_wrapping_data: Option<Boxed<KeyWrappingData<A>, A>>,
 }
 
 impl<B: Allocator> Serialize for KeyBlock<B> {
@@ -1174,7 +1174,7 @@ impl<A: Allocator + Copy> reader::ReadStructure<A> for KeyBlock<A> {
         reader::OptionalItem<CryptographicAlgorithm, 0x420028>,
         (
             reader::OptionalItem<CryptographicLength, 0x42002A>,
-            reader::OptionalNested<KeyWrappingData<A>>,
+            reader::OptionalNested<Boxed<KeyWrappingData<A>, A>>,
         ),
     >;
 
@@ -1192,7 +1192,10 @@ impl<A: Allocator + Copy> reader::ReadStructure<A> for KeyBlock<A> {
             Option<KeyCompressionType>,
             KeyValue<A>,
             Option<CryptographicAlgorithm>,
-            (Option<CryptographicLength>, Option<KeyWrappingData<A>>),
+            (
+                Option<CryptographicLength>,
+                Option<Boxed<KeyWrappingData<A>, A>>,
+            ),
         ),
     ) -> Self {
         let (

@@ -1,11 +1,13 @@
 -- Written by codegen from types.table: change that, and run codegen/codegen.
 -- The types agree with their forms: one line for each part.
 use Rattle.kmip_ttlv.specs.Agreements.{first_variant, is_run, later_variant}
+use Rattle.kmip_ttlv.specs.Boxes.{boxed}
 use Rattle.kmip_ttlv.specs.Names.{number, override_name, tag_of, transparent_name}
 use Rattle.kmip_ttlv.specs.Returns.{as_date_time, as_int32, as_number, as_text, text_of_number}
 use Rattle.kmip_ttlv.specs.Rules.{at_least, equal, in_brackets, member, rule, sides}
 use Rattle.kmip_ttlv.specs.Values.{newtype_value, text_value}
 use Rattle.kmip_ttlv.specs.WrittenItems.{is_wrapper, pending_after, take_tag}
+use Rattle.kmip_ttlv_laws.proofs.Boxes.{in_box}
 use Rattle.kmip_ttlv_laws.proofs.MessageParts.{PartAgrees, a_date_time, a_structure, a_text_string, all_agree, an_enumeration, an_integer, any_then}
 use Rattle.kmip_ttlv_laws.proofs.MessageParts.{every_agrees, first_of, if_present, leaf_part, leaf_then, nothing_behind, nothing_left, option_behind}
 use Rattle.kmip_ttlv_laws.proofs.MessageParts.{optional_same_then, optional_then, part_then, present, several_then, structure, text_is_utf8}
@@ -102,18 +104,18 @@ register_request_agrees x is =
     part_then refl refl (template_attribute_agrees x.template_attribute is.1) (
     optional_then written_certificate returned_certificate (a_structure 0x420013) x.certificate refl (b7.other (codes "0x420013") refl)
     (if_present certificate_agrees (λ y. refl) x.certificate is.2) (
-    optional_then written_symmetric_key returned_symmetric_key (a_structure 0x42008F) x.symmetric_key refl (b6.other (codes "0x42008F") refl)
-    (if_present symmetric_key_agrees (λ y. refl) x.symmetric_key is.3) (
-    optional_then written_public_key returned_public_key (a_structure 0x42006D) x.public_key refl (b5.other (codes "0x42006D") refl)
-    (if_present public_key_agrees (λ y. refl) x.public_key is.4) (
-    optional_then written_private_key returned_private_key (a_structure 0x420064) x.private_key refl (b4.other (codes "0x420064") refl)
-    (if_present private_key_agrees (λ y. refl) x.private_key is.5) (
-    optional_then written_split_key returned_split_key (a_structure 0x420089) x.split_key refl (b3.other (codes "0x420089") refl)
-    (if_present split_key_agrees (λ y. refl) x.split_key is.6) (
+    optional_then (boxed written_symmetric_key) (boxed returned_symmetric_key) (a_structure 0x42008F) x.symmetric_key refl (b6.other (codes "0x42008F") refl)
+    (if_present (in_box symmetric_key_agrees) (λ y. refl) x.symmetric_key is.3) (
+    optional_then (boxed written_public_key) (boxed returned_public_key) (a_structure 0x42006D) x.public_key refl (b5.other (codes "0x42006D") refl)
+    (if_present (in_box public_key_agrees) (λ y. refl) x.public_key is.4) (
+    optional_then (boxed written_private_key) (boxed returned_private_key) (a_structure 0x420064) x.private_key refl (b4.other (codes "0x420064") refl)
+    (if_present (in_box private_key_agrees) (λ y. refl) x.private_key is.5) (
+    optional_then (boxed written_split_key) (boxed returned_split_key) (a_structure 0x420089) x.split_key refl (b3.other (codes "0x420089") refl)
+    (if_present (in_box split_key_agrees) (λ y. refl) x.split_key is.6) (
     optional_then written_template returned_template (a_structure 0x420090) x.template refl (b2.other (codes "0x420090") refl)
     (if_present template_agrees (λ y. refl) x.template is.7) (
-    optional_then written_secret_data returned_secret_data (a_structure 0x420085) x.secret_data refl (b1.other (codes "0x420085") refl)
-    (if_present secret_data_agrees (λ y. refl) x.secret_data is.8) (
+    optional_then (boxed written_secret_data) (boxed returned_secret_data) (a_structure 0x420085) x.secret_data refl (b1.other (codes "0x420085") refl)
+    (if_present (in_box secret_data_agrees) (λ y. refl) x.secret_data is.8) (
     optional_then written_opaque_object returned_opaque_object (a_structure 0x42005B) x.opaque_object refl refl
     (if_present opaque_object_agrees (λ y. refl) x.opaque_object is.9) nothing_left))))))))))
 
@@ -174,8 +176,8 @@ get_request_agrees x is =
     (if_present key_format_type_agrees (λ y. refl) x.key_format_type is.0) (
     optional_same_then written_key_compression_type (an_enumeration 0x420041) x.key_compression_type refl (b1.other (codes "0x420041") refl)
     (if_present key_compression_type_agrees (λ y. refl) x.key_compression_type is.1) (
-    optional_then written_key_wrapping_specification returned_key_wrapping_specification (a_structure 0x420047) x.key_wrapping_specification refl refl
-    (if_present key_wrapping_specification_agrees (λ y. refl) x.key_wrapping_specification is.2) nothing_left))))
+    optional_then (boxed written_key_wrapping_specification) (boxed returned_key_wrapping_specification) (a_structure 0x420047) x.key_wrapping_specification
+    refl refl (if_present (in_box key_wrapping_specification_agrees) (λ y. refl) x.key_wrapping_specification is.2) nothing_left))))
 
 pub get_attributes_request_agrees : {A : Type 0} (x : GetAttributesRequest A)
     → PartAgrees get_attributes_request_form (written_get_attributes_request x) (a_structure 0x420079) (read_get_attributes_request x)

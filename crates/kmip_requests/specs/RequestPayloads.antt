@@ -1,11 +1,13 @@
 -- Written by codegen from types.table: change that, and run codegen/codegen.
 -- Forms and values of the types in `request_payload`.
+use Rattle.kmip_ttlv.specs.Boxes.{boxed}
 use Rattle.kmip_ttlv.specs.Forms.{Form, Variants, any_number, date_time, enum, field, int32, newtype, no_fields, no_variants, option, seq, struct, text}
 use Rattle.kmip_ttlv.specs.Forms.{variant, wrapped}
 use Rattle.kmip_ttlv.specs.MessageParts.{numbered_value, optional, optional_sequence, other_number, sequence, there}
 use Rattle.kmip_ttlv.specs.Values.{Value, date_time_value, i32_value, newtype_value, newtype_variant_value, no_values, struct_value, text_value, u32_value}
 use Rattle.kmip_ttlv.specs.Values.{value}
 use Rattle.kmip_ttlv.specs.Visits.{joined}
+use Rattle.std.specs.Option.{IsSomeAnd}
 use Rattle.std.specs.Prelude.{List, None, Option, Some, [], codes, option_map, string_bytes, true, ℕ, ◌+◌, ◌∷◌, ◌≡◌}
 use Rattle.kmip_ttlv.specs.Visits as visits
 use Rattle.kmip_requests.specs.declared.request_payload.{CreateRequest.CreateRequest, CreateKeyPairRequest.CreateKeyPairRequest}
@@ -125,18 +127,22 @@ IsRegisterRequestObject x None =
     (there x.public_key + (there x.private_key + (there x.split_key + (there x.template + (there x.secret_data + there x.opaque_object)))))) ≡ 1) → ⊥
 IsRegisterRequestObject x (Some (managed_object.Certificate inner)) = (x.certificate ≡ Some inner.now) × (x.symmetric_key ≡ None) × (x.public_key ≡ None)
     × (x.private_key ≡ None) × (x.split_key ≡ None) × (x.template ≡ None) × (x.secret_data ≡ None) × (x.opaque_object ≡ None)
-IsRegisterRequestObject x (Some (managed_object.SymmetricKey inner)) = (x.certificate ≡ None) × (x.symmetric_key ≡ Some inner.now) × (x.public_key ≡ None)
-    × (x.private_key ≡ None) × (x.split_key ≡ None) × (x.template ≡ None) × (x.secret_data ≡ None) × (x.opaque_object ≡ None)
-IsRegisterRequestObject x (Some (managed_object.PublicKey inner)) = (x.certificate ≡ None) × (x.symmetric_key ≡ None) × (x.public_key ≡ Some inner.now)
-    × (x.private_key ≡ None) × (x.split_key ≡ None) × (x.template ≡ None) × (x.secret_data ≡ None) × (x.opaque_object ≡ None)
+IsRegisterRequestObject x (Some (managed_object.SymmetricKey inner)) = (x.certificate ≡ None) × (IsSomeAnd x.symmetric_key (λ y. y.inner.value ≡ inner.now))
+    × (x.public_key ≡ None) × (x.private_key ≡ None) × (x.split_key ≡ None) × (x.template ≡ None) × (x.secret_data ≡ None) × (x.opaque_object ≡ None)
+IsRegisterRequestObject x (Some (managed_object.PublicKey inner)) = (x.certificate ≡ None) × (x.symmetric_key ≡ None)
+    × (IsSomeAnd x.public_key (λ y. y.inner.value ≡ inner.now)) × (x.private_key ≡ None) × (x.split_key ≡ None) × (x.template ≡ None) × (x.secret_data ≡ None)
+    × (x.opaque_object ≡ None)
 IsRegisterRequestObject x (Some (managed_object.PrivateKey inner)) = (x.certificate ≡ None) × (x.symmetric_key ≡ None) × (x.public_key ≡ None)
-    × (x.private_key ≡ Some inner.now) × (x.split_key ≡ None) × (x.template ≡ None) × (x.secret_data ≡ None) × (x.opaque_object ≡ None)
+    × (IsSomeAnd x.private_key (λ y. y.inner.value ≡ inner.now)) × (x.split_key ≡ None) × (x.template ≡ None) × (x.secret_data ≡ None)
+    × (x.opaque_object ≡ None)
 IsRegisterRequestObject x (Some (managed_object.SplitKey inner)) = (x.certificate ≡ None) × (x.symmetric_key ≡ None) × (x.public_key ≡ None)
-    × (x.private_key ≡ None) × (x.split_key ≡ Some inner.now) × (x.template ≡ None) × (x.secret_data ≡ None) × (x.opaque_object ≡ None)
+    × (x.private_key ≡ None) × (IsSomeAnd x.split_key (λ y. y.inner.value ≡ inner.now)) × (x.template ≡ None) × (x.secret_data ≡ None)
+    × (x.opaque_object ≡ None)
 IsRegisterRequestObject x (Some (managed_object.Template inner)) = (x.certificate ≡ None) × (x.symmetric_key ≡ None) × (x.public_key ≡ None)
     × (x.private_key ≡ None) × (x.split_key ≡ None) × (x.template ≡ Some inner.now) × (x.secret_data ≡ None) × (x.opaque_object ≡ None)
 IsRegisterRequestObject x (Some (managed_object.SecretData inner)) = (x.certificate ≡ None) × (x.symmetric_key ≡ None) × (x.public_key ≡ None)
-    × (x.private_key ≡ None) × (x.split_key ≡ None) × (x.template ≡ None) × (x.secret_data ≡ Some inner.now) × (x.opaque_object ≡ None)
+    × (x.private_key ≡ None) × (x.split_key ≡ None) × (x.template ≡ None) × (IsSomeAnd x.secret_data (λ y. y.inner.value ≡ inner.now))
+    × (x.opaque_object ≡ None)
 IsRegisterRequestObject x (Some (managed_object.OpaqueObject inner)) = (x.certificate ≡ None) × (x.symmetric_key ≡ None) × (x.public_key ≡ None)
     × (x.private_key ≡ None) × (x.split_key ≡ None) × (x.template ≡ None) × (x.secret_data ≡ None) × (x.opaque_object ≡ Some inner.now)
 
@@ -147,12 +153,12 @@ written_register_request x =
     value (written_object_type x.object_type) (
     value (written_template_attribute x.template_attribute) (
     joined (visits.optional_field (option_map written_certificate x.certificate)) (
-    joined (visits.optional_field (option_map written_symmetric_key x.symmetric_key)) (
-    joined (visits.optional_field (option_map written_public_key x.public_key)) (
-    joined (visits.optional_field (option_map written_private_key x.private_key)) (
-    joined (visits.optional_field (option_map written_split_key x.split_key)) (
+    joined (visits.optional_field (option_map (boxed written_symmetric_key) x.symmetric_key)) (
+    joined (visits.optional_field (option_map (boxed written_public_key) x.public_key)) (
+    joined (visits.optional_field (option_map (boxed written_private_key) x.private_key)) (
+    joined (visits.optional_field (option_map (boxed written_split_key) x.split_key)) (
     joined (visits.optional_field (option_map written_template x.template)) (
-    joined (visits.optional_field (option_map written_secret_data x.secret_data)) (
+    joined (visits.optional_field (option_map (boxed written_secret_data) x.secret_data)) (
     joined (visits.optional_field (option_map written_opaque_object x.opaque_object)) no_values))))))))))
 
 -- what is read of a `RegisterRequest`
@@ -162,12 +168,12 @@ read_register_request x =
     value (read_object_type x.object_type) (
     value (read_template_attribute x.template_attribute) (
     value (optional read_certificate x.certificate) (
-    value (optional read_symmetric_key x.symmetric_key) (
-    value (optional read_public_key x.public_key) (
-    value (optional read_private_key x.private_key) (
-    value (optional read_split_key x.split_key) (
+    value (optional (boxed read_symmetric_key) x.symmetric_key) (
+    value (optional (boxed read_public_key) x.public_key) (
+    value (optional (boxed read_private_key) x.private_key) (
+    value (optional (boxed read_split_key) x.split_key) (
     value (optional read_template x.template) (
-    value (optional read_secret_data x.secret_data) (
+    value (optional (boxed read_secret_data) x.secret_data) (
     value (optional read_opaque_object x.opaque_object) no_values))))))))))
 
 -- what is read of the bytes of a `RegisterRequest`
@@ -177,12 +183,12 @@ returned_register_request x =
     value (written_object_type x.object_type) (
     value (returned_template_attribute x.template_attribute) (
     value (optional returned_certificate x.certificate) (
-    value (optional returned_symmetric_key x.symmetric_key) (
-    value (optional returned_public_key x.public_key) (
-    value (optional returned_private_key x.private_key) (
-    value (optional returned_split_key x.split_key) (
+    value (optional (boxed returned_symmetric_key) x.symmetric_key) (
+    value (optional (boxed returned_public_key) x.public_key) (
+    value (optional (boxed returned_private_key) x.private_key) (
+    value (optional (boxed returned_split_key) x.split_key) (
     value (optional returned_template x.template) (
-    value (optional returned_secret_data x.secret_data) (
+    value (optional (boxed returned_secret_data) x.secret_data) (
     value (optional returned_opaque_object x.opaque_object) no_values))))))))))
 
 -- the form of a `MaximumItems`
@@ -290,7 +296,7 @@ written_get_request x =
     (λ y. newtype_value (codes "Transparent:0x420094") (text_value (string_bytes y))) x.unique_identifier)) (
     joined (visits.optional_field (option_map written_key_format_type x.key_format_type)) (
     joined (visits.optional_field (option_map written_key_compression_type x.key_compression_type)) (
-    joined (visits.optional_field (option_map written_key_wrapping_specification x.key_wrapping_specification)) no_values))))
+    joined (visits.optional_field (option_map (boxed written_key_wrapping_specification) x.key_wrapping_specification)) no_values))))
 
 -- what is read of a `GetRequest`
 unfoldable pub read_get_request : {A : Type 0} → GetRequest A → Value
@@ -300,7 +306,7 @@ read_get_request x =
     (λ y. newtype_value (codes "Transparent:0x420094") (text_value (string_bytes y))) x.unique_identifier) (
     value (optional read_key_format_type x.key_format_type) (
     value (optional read_key_compression_type x.key_compression_type) (
-    value (optional read_key_wrapping_specification x.key_wrapping_specification) no_values))))
+    value (optional (boxed read_key_wrapping_specification) x.key_wrapping_specification) no_values))))
 
 -- what is read of the bytes of a `GetRequest`
 unfoldable pub returned_get_request : {A : Type 0} → GetRequest A → Value
@@ -310,7 +316,7 @@ returned_get_request x =
     (λ y. newtype_value (codes "Transparent:0x420094") (text_value (string_bytes y))) x.unique_identifier) (
     value (optional written_key_format_type x.key_format_type) (
     value (optional written_key_compression_type x.key_compression_type) (
-    value (optional returned_key_wrapping_specification x.key_wrapping_specification) no_values))))
+    value (optional (boxed returned_key_wrapping_specification) x.key_wrapping_specification) no_values))))
 
 -- the form of a `GetAttributesRequest`
 abbrev pub get_attributes_request_form : Form

@@ -1,5 +1,6 @@
 -- Written by codegen from types.table: change that, and run codegen/codegen.
 -- Which values of each type are sound: what was encoded of them is decoded again.
+use Rattle.kmip_ttlv.specs.Boxes.{IsBoxed}
 use Rattle.kmip_ttlv.specs.MessageParts.{there}
 use Rattle.std.specs.Int.{w32, w64}
 use Rattle.std.specs.Prelude.{All, FitsSigned, IfSome, length, ◌+◌, ◌<◌, ◌^◌, ◌≡◌}
@@ -37,12 +38,12 @@ IsRegisterRequest x =
     IsObjectType x.object_type
     × IsTemplateAttribute x.template_attribute
     × IfSome x.certificate IsCertificate
-    × IfSome x.symmetric_key IsSymmetricKey
-    × IfSome x.public_key IsPublicKey
-    × IfSome x.private_key IsPrivateKey
-    × IfSome x.split_key IsSplitKey
+    × IfSome x.symmetric_key (IsBoxed IsSymmetricKey)
+    × IfSome x.public_key (IsBoxed IsPublicKey)
+    × IfSome x.private_key (IsBoxed IsPrivateKey)
+    × IfSome x.split_key (IsBoxed IsSplitKey)
     × IfSome x.template IsTemplate
-    × IfSome x.secret_data IsSecretData
+    × IfSome x.secret_data (IsBoxed IsSecretData)
     × IfSome x.opaque_object IsOpaqueObject
     × (there x.certificate + (there x.symmetric_key +
     (there x.public_key + (there x.private_key + (there x.split_key + (there x.template + (there x.secret_data + there x.opaque_object)))))) ≡ 1)
@@ -77,7 +78,7 @@ abbrev pub IsGetRequest : {A : Type 0} → GetRequest A → Type 0
 IsGetRequest x =
     IfSome x.key_format_type IsKeyFormatType
     × IfSome x.key_compression_type IsKeyCompressionType
-    × IfSome x.key_wrapping_specification IsKeyWrappingSpecification
+    × IfSome x.key_wrapping_specification (IsBoxed IsKeyWrappingSpecification)
 
 -- which values of `AttributeRequest` are sound
 abbrev pub IsAttributeRequest : {A : Type 0} → AttributeRequest A → Type 0

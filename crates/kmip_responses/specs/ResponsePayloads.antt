@@ -1,9 +1,11 @@
 -- Written by codegen from types.table: change that, and run codegen/codegen.
 -- Forms and values of the types in `response_payload`.
+use Rattle.kmip_ttlv.specs.Boxes.{boxed}
 use Rattle.kmip_ttlv.specs.Forms.{Form, Variants, enum, field, newtype, no_fields, no_variants, option, seq, struct, text, variant, wrapped}
 use Rattle.kmip_ttlv.specs.MessageParts.{optional, optional_sequence, sequence, there}
 use Rattle.kmip_ttlv.specs.Values.{Value, newtype_value, newtype_variant_value, no_values, struct_value, text_value, value}
 use Rattle.kmip_ttlv.specs.Visits.{joined}
+use Rattle.std.specs.Option.{IsSomeAnd}
 use Rattle.std.specs.Prelude.{List, None, Option, Some, codes, option_map, string_bytes, true, ℕ, ◌+◌, ◌≡◌}
 use Rattle.kmip_ttlv.specs.Visits as visits
 use Rattle.kmip_responses.specs.declared.response_payload.{CreateResponse.CreateResponse, CreateKeyPairResponse.CreateKeyPairResponse}
@@ -167,18 +169,22 @@ IsGetResponseObject x None =
     (there x.public_key + (there x.private_key + (there x.split_key + (there x.template + (there x.secret_data + there x.opaque_object)))))) ≡ 1) → ⊥
 IsGetResponseObject x (Some (managed_object.Certificate inner)) = (x.certificate ≡ Some inner.now) × (x.symmetric_key ≡ None) × (x.public_key ≡ None)
     × (x.private_key ≡ None) × (x.split_key ≡ None) × (x.template ≡ None) × (x.secret_data ≡ None) × (x.opaque_object ≡ None)
-IsGetResponseObject x (Some (managed_object.SymmetricKey inner)) = (x.certificate ≡ None) × (x.symmetric_key ≡ Some inner.now) × (x.public_key ≡ None)
-    × (x.private_key ≡ None) × (x.split_key ≡ None) × (x.template ≡ None) × (x.secret_data ≡ None) × (x.opaque_object ≡ None)
-IsGetResponseObject x (Some (managed_object.PublicKey inner)) = (x.certificate ≡ None) × (x.symmetric_key ≡ None) × (x.public_key ≡ Some inner.now)
-    × (x.private_key ≡ None) × (x.split_key ≡ None) × (x.template ≡ None) × (x.secret_data ≡ None) × (x.opaque_object ≡ None)
+IsGetResponseObject x (Some (managed_object.SymmetricKey inner)) = (x.certificate ≡ None) × (IsSomeAnd x.symmetric_key (λ y. y.inner.value ≡ inner.now))
+    × (x.public_key ≡ None) × (x.private_key ≡ None) × (x.split_key ≡ None) × (x.template ≡ None) × (x.secret_data ≡ None) × (x.opaque_object ≡ None)
+IsGetResponseObject x (Some (managed_object.PublicKey inner)) = (x.certificate ≡ None) × (x.symmetric_key ≡ None)
+    × (IsSomeAnd x.public_key (λ y. y.inner.value ≡ inner.now)) × (x.private_key ≡ None) × (x.split_key ≡ None) × (x.template ≡ None) × (x.secret_data ≡ None)
+    × (x.opaque_object ≡ None)
 IsGetResponseObject x (Some (managed_object.PrivateKey inner)) = (x.certificate ≡ None) × (x.symmetric_key ≡ None) × (x.public_key ≡ None)
-    × (x.private_key ≡ Some inner.now) × (x.split_key ≡ None) × (x.template ≡ None) × (x.secret_data ≡ None) × (x.opaque_object ≡ None)
+    × (IsSomeAnd x.private_key (λ y. y.inner.value ≡ inner.now)) × (x.split_key ≡ None) × (x.template ≡ None) × (x.secret_data ≡ None)
+    × (x.opaque_object ≡ None)
 IsGetResponseObject x (Some (managed_object.SplitKey inner)) = (x.certificate ≡ None) × (x.symmetric_key ≡ None) × (x.public_key ≡ None)
-    × (x.private_key ≡ None) × (x.split_key ≡ Some inner.now) × (x.template ≡ None) × (x.secret_data ≡ None) × (x.opaque_object ≡ None)
+    × (x.private_key ≡ None) × (IsSomeAnd x.split_key (λ y. y.inner.value ≡ inner.now)) × (x.template ≡ None) × (x.secret_data ≡ None)
+    × (x.opaque_object ≡ None)
 IsGetResponseObject x (Some (managed_object.Template inner)) = (x.certificate ≡ None) × (x.symmetric_key ≡ None) × (x.public_key ≡ None)
     × (x.private_key ≡ None) × (x.split_key ≡ None) × (x.template ≡ Some inner.now) × (x.secret_data ≡ None) × (x.opaque_object ≡ None)
 IsGetResponseObject x (Some (managed_object.SecretData inner)) = (x.certificate ≡ None) × (x.symmetric_key ≡ None) × (x.public_key ≡ None)
-    × (x.private_key ≡ None) × (x.split_key ≡ None) × (x.template ≡ None) × (x.secret_data ≡ Some inner.now) × (x.opaque_object ≡ None)
+    × (x.private_key ≡ None) × (x.split_key ≡ None) × (x.template ≡ None) × (IsSomeAnd x.secret_data (λ y. y.inner.value ≡ inner.now))
+    × (x.opaque_object ≡ None)
 IsGetResponseObject x (Some (managed_object.OpaqueObject inner)) = (x.certificate ≡ None) × (x.symmetric_key ≡ None) × (x.public_key ≡ None)
     × (x.private_key ≡ None) × (x.split_key ≡ None) × (x.template ≡ None) × (x.secret_data ≡ None) × (x.opaque_object ≡ Some inner.now)
 
@@ -189,12 +195,12 @@ written_get_response x =
     value (written_object_type x.object_type) (
     value (newtype_value (codes "Transparent:0x420094") (text_value (string_bytes x.unique_identifier))) (
     joined (visits.optional_field (option_map written_certificate x.certificate)) (
-    joined (visits.optional_field (option_map written_symmetric_key x.symmetric_key)) (
-    joined (visits.optional_field (option_map written_public_key x.public_key)) (
-    joined (visits.optional_field (option_map written_private_key x.private_key)) (
-    joined (visits.optional_field (option_map written_split_key x.split_key)) (
+    joined (visits.optional_field (option_map (boxed written_symmetric_key) x.symmetric_key)) (
+    joined (visits.optional_field (option_map (boxed written_public_key) x.public_key)) (
+    joined (visits.optional_field (option_map (boxed written_private_key) x.private_key)) (
+    joined (visits.optional_field (option_map (boxed written_split_key) x.split_key)) (
     joined (visits.optional_field (option_map written_template x.template)) (
-    joined (visits.optional_field (option_map written_secret_data x.secret_data)) (
+    joined (visits.optional_field (option_map (boxed written_secret_data) x.secret_data)) (
     joined (visits.optional_field (option_map written_opaque_object x.opaque_object)) no_values))))))))))
 
 -- what is read of a `GetResponse`
@@ -204,12 +210,12 @@ read_get_response x =
     value (read_object_type x.object_type) (
     value (newtype_value (codes "Transparent:0x420094") (text_value (string_bytes x.unique_identifier))) (
     value (optional read_certificate x.certificate) (
-    value (optional read_symmetric_key x.symmetric_key) (
-    value (optional read_public_key x.public_key) (
-    value (optional read_private_key x.private_key) (
-    value (optional read_split_key x.split_key) (
+    value (optional (boxed read_symmetric_key) x.symmetric_key) (
+    value (optional (boxed read_public_key) x.public_key) (
+    value (optional (boxed read_private_key) x.private_key) (
+    value (optional (boxed read_split_key) x.split_key) (
     value (optional read_template x.template) (
-    value (optional read_secret_data x.secret_data) (
+    value (optional (boxed read_secret_data) x.secret_data) (
     value (optional read_opaque_object x.opaque_object) no_values))))))))))
 
 -- what is read of the bytes of a `GetResponse`
@@ -219,12 +225,12 @@ returned_get_response x =
     value (written_object_type x.object_type) (
     value (newtype_value (codes "Transparent:0x420094") (text_value (string_bytes x.unique_identifier))) (
     value (optional returned_certificate x.certificate) (
-    value (optional returned_symmetric_key x.symmetric_key) (
-    value (optional returned_public_key x.public_key) (
-    value (optional returned_private_key x.private_key) (
-    value (optional returned_split_key x.split_key) (
+    value (optional (boxed returned_symmetric_key) x.symmetric_key) (
+    value (optional (boxed returned_public_key) x.public_key) (
+    value (optional (boxed returned_private_key) x.private_key) (
+    value (optional (boxed returned_split_key) x.split_key) (
     value (optional returned_template x.template) (
-    value (optional returned_secret_data x.secret_data) (
+    value (optional (boxed returned_secret_data) x.secret_data) (
     value (optional returned_opaque_object x.opaque_object) no_values))))))))))
 
 -- the form of a `GetAttributesResponse`

@@ -16,10 +16,10 @@ use kmip_objects::template::{
     PrivateKeyTemplateAttribute, PublicKeyTemplateAttribute, TemplateAttribute,
 };
 use kmip_ttlv::messages::writing;
-use kmip_ttlv::reader;
 use kmip_ttlv::shape::Serialize;
 use kmip_ttlv::types::TtlvType;
 use kmip_ttlv::visit::Visitor;
+use kmip_ttlv::{Boxed, reader};
 use std::alloc::{AllocError, Allocator, Global};
 
 /// A symmetric key was made (section 4.1).
@@ -344,17 +344,17 @@ pub struct GetResponse<A: Allocator = Global> {
     /// A certificate.
     pub certificate: Option<Certificate<A>>,
     /// A symmetric key.
-    pub symmetric_key: Option<SymmetricKey<A>>,
+    pub symmetric_key: Option<Boxed<SymmetricKey<A>, A>>,
     /// A public key.
-    pub public_key: Option<PublicKey<A>>,
+    pub public_key: Option<Boxed<PublicKey<A>, A>>,
     /// A private key.
-    pub private_key: Option<PrivateKey<A>>,
+    pub private_key: Option<Boxed<PrivateKey<A>, A>>,
     /// One of the parts that a key was split into.
-    pub split_key: Option<SplitKey<A>>,
+    pub split_key: Option<Boxed<SplitKey<A>, A>>,
     /// Attributes that other objects are made with.
     pub template: Option<Template<A>>,
     /// A secret that is no key.
-    pub secret_data: Option<SecretData<A>>,
+    pub secret_data: Option<Boxed<SecretData<A>, A>>,
     /// Bytes that the server doesn't interpret.
     pub opaque_object: Option<OpaqueObject<A>>,
 }
@@ -378,22 +378,22 @@ impl<A: Allocator> GetResponse<A> {
                 ManagedObject::Certificate(inner),
             ),
             (None, Some(inner), None, None, None, None, None, None) => Some(
-                ManagedObject::SymmetricKey(inner),
+                ManagedObject::SymmetricKey(inner.inner.as_ref()),
             ),
             (None, None, Some(inner), None, None, None, None, None) => Some(
-                ManagedObject::PublicKey(inner),
+                ManagedObject::PublicKey(inner.inner.as_ref()),
             ),
             (None, None, None, Some(inner), None, None, None, None) => Some(
-                ManagedObject::PrivateKey(inner),
+                ManagedObject::PrivateKey(inner.inner.as_ref()),
             ),
             (None, None, None, None, Some(inner), None, None, None) => Some(ManagedObject::SplitKey(
-                inner,
+                inner.inner.as_ref(),
             )),
             (None, None, None, None, None, Some(inner), None, None) => Some(ManagedObject::Template(
                 inner,
             )),
             (None, None, None, None, None, None, Some(inner), None) => Some(
-                ManagedObject::SecretData(inner),
+                ManagedObject::SecretData(inner.inner.as_ref()),
             ),
             (None, None, None, None, None, None, None, Some(inner)) => Some(
                 ManagedObject::OpaqueObject(inner),
@@ -436,14 +436,14 @@ impl<A: Allocator + Copy> reader::ReadStructure<A> for GetResponse<A> {
         reader::Item<ObjectType, 0x420057>,
         reader::Leaf<String<A>, 0x420094>,
         reader::OptionalNested<Certificate<A>>,
-        reader::OptionalNested<SymmetricKey<A>>,
+        reader::OptionalNested<Boxed<SymmetricKey<A>, A>>,
         reader::Four<
-            reader::OptionalNested<PublicKey<A>>,
-            reader::OptionalNested<PrivateKey<A>>,
-            reader::OptionalNested<SplitKey<A>>,
+            reader::OptionalNested<Boxed<PublicKey<A>, A>>,
+            reader::OptionalNested<Boxed<PrivateKey<A>, A>>,
+            reader::OptionalNested<Boxed<SplitKey<A>, A>>,
             reader::OptionalNested<Template<A>>,
             (
-                reader::OptionalNested<SecretData<A>>,
+                reader::OptionalNested<Boxed<SecretData<A>, A>>,
                 reader::OptionalNested<OpaqueObject<A>>,
             ),
         >,
@@ -462,13 +462,13 @@ impl<A: Allocator + Copy> reader::ReadStructure<A> for GetResponse<A> {
             ObjectType,
             String<A>,
             Option<Certificate<A>>,
-            Option<SymmetricKey<A>>,
+            Option<Boxed<SymmetricKey<A>, A>>,
             (
-                Option<PublicKey<A>>,
-                Option<PrivateKey<A>>,
-                Option<SplitKey<A>>,
+                Option<Boxed<PublicKey<A>, A>>,
+                Option<Boxed<PrivateKey<A>, A>>,
+                Option<Boxed<SplitKey<A>, A>>,
                 Option<Template<A>>,
-                (Option<SecretData<A>>, Option<OpaqueObject<A>>),
+                (Option<Boxed<SecretData<A>, A>>, Option<OpaqueObject<A>>),
             ),
         ),
     ) -> Self {

@@ -195,7 +195,7 @@ fn is_the_key(response: &Response, identifier: &str) -> bool {
 // What wraps that key.
 fn wrapping(response: &Response) -> Option<&KeyWrappingData> {
     match key_block(response) {
-        Some(block) => block.key_wrapping_data.as_ref(),
+        Some(block) => block.key_wrapping_data.as_deref(),
         None => None,
     }
 }

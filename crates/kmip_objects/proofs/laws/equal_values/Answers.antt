@@ -1,6 +1,8 @@
 -- Written by codegen from types.table: change that, and run codegen/codegen.
 -- Values of a type are equal if they stand for the same: each part is, and numbers tell apart the variants of an Enumeration.
+use Rattle.kmip_ttlv.specs.Boxes.{boxed}
 use Rattle.kmip_ttlv.specs.Values.{big_integer_value, bytes_value, newtype_value}
+use Rattle.kmip_ttlv_laws.proofs.Boxes.{boxes_equal}
 use Rattle.kmip_ttlv_laws.proofs.Equal.{any_equal, apart, big_integers_equal, bytes_equal, in_variant, integers_equal, last_equal, newtypes_equal}
 use Rattle.kmip_ttlv_laws.proofs.Equal.{numbers_equal, options_equal, options_same, others_equal, part_equal, several_equal, structures_equal, texts_equal}
 use Rattle.std.proofs.Common.{refl}
@@ -130,8 +132,9 @@ returns-clause-key_block g c x y e =
     part_equal (options_equal written_cryptographic_algorithm read_cryptographic_algorithm _ (c.equal_values.ensures.cryptographic_algorithm)
     x.cryptographic_algorithm y.cryptographic_algorithm) (
     part_equal (options_same cryptographic_length_value _ (returns-clause-cryptographic_length g c) x.cryptographic_length y.cryptographic_length) (
-    last_equal (options_equal returned_key_wrapping_data read_key_wrapping_data _ (returns-clause-key_wrapping_data g c) x.key_wrapping_data
-    y.key_wrapping_data))))))) e
+    last_equal (options_equal (boxed returned_key_wrapping_data) (boxed read_key_wrapping_data) _
+    (boxes_equal returned_key_wrapping_data read_key_wrapping_data _ (returns-clause-key_wrapping_data g c)) x.key_wrapping_data y.key_wrapping_data)))))))
+    e
 
 pub returns-clause-certificate : goal.returns-clause-certificate
 unfolding returned_certificate read_certificate

@@ -1,6 +1,8 @@
 -- Written by codegen from types.table: change that, and run codegen/codegen.
 -- Values of a type are equal if they stand for the same: each part is, and numbers tell apart the variants of an Enumeration.
+use Rattle.kmip_ttlv.specs.Boxes.{boxed}
 use Rattle.kmip_ttlv.specs.Values.{newtype_value, text_value}
+use Rattle.kmip_ttlv_laws.proofs.Boxes.{boxes_equal}
 use Rattle.kmip_ttlv_laws.proofs.Equal.{any_equal, apart, date_times_equal, in_variant, integers_equal, last_equal, newtypes_equal, numbers_equal}
 use Rattle.kmip_ttlv_laws.proofs.Equal.{options_equal, options_same, others_equal, part_equal, several_equal, structures_equal, texts_equal}
 use Rattle.std.proofs.Common.{refl}
@@ -52,12 +54,17 @@ returns-clause-register_request g c x y e =
     structures_equal (part_equal (c.equal_values.ensures.object_type x.object_type y.object_type) (
     part_equal (c.equal_values-2.ensures.template_attribute x.template_attribute y.template_attribute) (
     part_equal (options_equal returned_certificate read_certificate _ (c.equal_values-2.ensures.certificate) x.certificate y.certificate) (
-    part_equal (options_equal returned_symmetric_key read_symmetric_key _ (c.equal_values-2.ensures.symmetric_key) x.symmetric_key y.symmetric_key) (
-    part_equal (options_equal returned_public_key read_public_key _ (c.equal_values-2.ensures.public_key) x.public_key y.public_key) (
-    part_equal (options_equal returned_private_key read_private_key _ (c.equal_values-2.ensures.private_key) x.private_key y.private_key) (
-    part_equal (options_equal returned_split_key read_split_key _ (c.equal_values-2.ensures.split_key) x.split_key y.split_key) (
+    part_equal (options_equal (boxed returned_symmetric_key) (boxed read_symmetric_key) _
+    (boxes_equal returned_symmetric_key read_symmetric_key _ c.equal_values-2.ensures.symmetric_key) x.symmetric_key y.symmetric_key) (
+    part_equal (options_equal (boxed returned_public_key) (boxed read_public_key) _
+    (boxes_equal returned_public_key read_public_key _ c.equal_values-2.ensures.public_key) x.public_key y.public_key) (
+    part_equal (options_equal (boxed returned_private_key) (boxed read_private_key) _
+    (boxes_equal returned_private_key read_private_key _ c.equal_values-2.ensures.private_key) x.private_key y.private_key) (
+    part_equal (options_equal (boxed returned_split_key) (boxed read_split_key) _
+    (boxes_equal returned_split_key read_split_key _ c.equal_values-2.ensures.split_key) x.split_key y.split_key) (
     part_equal (options_equal returned_template read_template _ (c.equal_values-2.ensures.template) x.template y.template) (
-    part_equal (options_equal returned_secret_data read_secret_data _ (c.equal_values-2.ensures.secret_data) x.secret_data y.secret_data) (
+    part_equal (options_equal (boxed returned_secret_data) (boxed read_secret_data) _
+    (boxes_equal returned_secret_data read_secret_data _ c.equal_values-2.ensures.secret_data) x.secret_data y.secret_data) (
     last_equal (options_equal returned_opaque_object read_opaque_object _ (c.equal_values-2.ensures.opaque_object) x.opaque_object y.opaque_object))))))))))) e
 
 pub returns-clause-maximum_items : goal.returns-clause-maximum_items
@@ -94,7 +101,8 @@ returns-clause-get_request g c x y e =
     part_equal (options_equal written_key_format_type read_key_format_type _ (c.equal_values.ensures.key_format_type) x.key_format_type y.key_format_type) (
     part_equal (options_equal written_key_compression_type read_key_compression_type _ (c.equal_values-2.ensures.key_compression_type) x.key_compression_type
     y.key_compression_type) (
-    last_equal (options_equal returned_key_wrapping_specification read_key_wrapping_specification _ (returns-clause-key_wrapping_specification g c)
+    last_equal (options_equal (boxed returned_key_wrapping_specification) (boxed read_key_wrapping_specification) _
+    (boxes_equal returned_key_wrapping_specification read_key_wrapping_specification _ (returns-clause-key_wrapping_specification g c))
     x.key_wrapping_specification y.key_wrapping_specification))))) e
 
 pub returns-clause-get_attributes_request : goal.returns-clause-get_attributes_request

@@ -1,6 +1,8 @@
 -- Written by codegen from types.table: change that, and run codegen/codegen.
 -- Values of a type are equal if they stand for the same: each part is, and numbers tell apart the variants of an Enumeration.
+use Rattle.kmip_ttlv.specs.Boxes.{boxed}
 use Rattle.kmip_ttlv.specs.Values.{newtype_value, text_value}
+use Rattle.kmip_ttlv_laws.proofs.Boxes.{boxes_equal}
 use Rattle.kmip_ttlv_laws.proofs.Equal.{any_equal, apart, in_variant, last_equal, newtypes_equal, options_equal, options_same, part_equal, structures_equal}
 use Rattle.kmip_ttlv_laws.proofs.Equal.{texts_equal}
 use Rattle.std.proofs.Common.{refl}
@@ -61,12 +63,17 @@ returns-clause-get_response g c x y e =
     structures_equal (part_equal (c.equal_values.ensures.object_type x.object_type y.object_type) (
     part_equal (newtypes_equal (texts_equal x.unique_identifier y.unique_identifier)) (
     part_equal (options_equal returned_certificate read_certificate _ (c.equal_values-2.ensures.certificate) x.certificate y.certificate) (
-    part_equal (options_equal returned_symmetric_key read_symmetric_key _ (c.equal_values-2.ensures.symmetric_key) x.symmetric_key y.symmetric_key) (
-    part_equal (options_equal returned_public_key read_public_key _ (c.equal_values-2.ensures.public_key) x.public_key y.public_key) (
-    part_equal (options_equal returned_private_key read_private_key _ (c.equal_values-2.ensures.private_key) x.private_key y.private_key) (
-    part_equal (options_equal returned_split_key read_split_key _ (c.equal_values-2.ensures.split_key) x.split_key y.split_key) (
+    part_equal (options_equal (boxed returned_symmetric_key) (boxed read_symmetric_key) _
+    (boxes_equal returned_symmetric_key read_symmetric_key _ c.equal_values-2.ensures.symmetric_key) x.symmetric_key y.symmetric_key) (
+    part_equal (options_equal (boxed returned_public_key) (boxed read_public_key) _
+    (boxes_equal returned_public_key read_public_key _ c.equal_values-2.ensures.public_key) x.public_key y.public_key) (
+    part_equal (options_equal (boxed returned_private_key) (boxed read_private_key) _
+    (boxes_equal returned_private_key read_private_key _ c.equal_values-2.ensures.private_key) x.private_key y.private_key) (
+    part_equal (options_equal (boxed returned_split_key) (boxed read_split_key) _
+    (boxes_equal returned_split_key read_split_key _ c.equal_values-2.ensures.split_key) x.split_key y.split_key) (
     part_equal (options_equal returned_template read_template _ (c.equal_values-2.ensures.template) x.template y.template) (
-    part_equal (options_equal returned_secret_data read_secret_data _ (c.equal_values-2.ensures.secret_data) x.secret_data y.secret_data) (
+    part_equal (options_equal (boxed returned_secret_data) (boxed read_secret_data) _
+    (boxes_equal returned_secret_data read_secret_data _ c.equal_values-2.ensures.secret_data) x.secret_data y.secret_data) (
     last_equal (options_equal returned_opaque_object read_opaque_object _ (c.equal_values-2.ensures.opaque_object) x.opaque_object y.opaque_object))))))))))) e
 
 pub returns-clause-get_attributes_response : goal.returns-clause-get_attributes_response

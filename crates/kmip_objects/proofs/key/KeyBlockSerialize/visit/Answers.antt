@@ -1,5 +1,6 @@
 -- Written by codegen from types.table: change that, and run codegen/codegen.
 -- What a visitor receives: a line for each part, by what its call ensures.
+use Rattle.kmip_ttlv.specs.Boxes.{boxed}
 use Rattle.kmip_ttlv_laws.proofs.Receiving.{all_received, optional_received, part_received, structure_received}
 use Rattle.std.proofs.Common.{refl}
 use Rattle.kmip_objects.specs.Keys.{written_key_block, written_key_compression_type, cryptographic_length_value, written_key_wrapping_data}
@@ -16,5 +17,5 @@ returns-clause-received g c =
     part_received c.in_ok-visit-2.ensures.received (
     optional_received written_cryptographic_algorithm x.cryptographic_algorithm c.in_ok-option-2.ensures.received (
     optional_received cryptographic_length_value x.cryptographic_length c.in_ok-option-3.ensures.received (
-    optional_received written_key_wrapping_data x.key_wrapping_data c.in_ok-option-4.ensures.received (
+    optional_received (boxed written_key_wrapping_data) x.key_wrapping_data c.in_ok-option-4.ensures.received (
     all_received))))))) c.in_ok-end_struct.ensures.received

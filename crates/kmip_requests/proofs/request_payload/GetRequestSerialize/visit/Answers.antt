@@ -1,5 +1,6 @@
 -- Written by codegen from types.table: change that, and run codegen/codegen.
 -- What a visitor receives: a line for each part, by what its call ensures.
+use Rattle.kmip_ttlv.specs.Boxes.{boxed}
 use Rattle.kmip_ttlv.specs.Values.{newtype_value, text_value}
 use Rattle.kmip_ttlv_laws.proofs.Receiving.{all_received, optional_received, structure_received}
 use Rattle.std.proofs.Common.{refl}
@@ -18,5 +19,5 @@ returns-clause-received g c =
     c.in_ok-optional_text_string.ensures.received (
     optional_received written_key_format_type x.key_format_type c.in_ok-option.ensures.received (
     optional_received written_key_compression_type x.key_compression_type c.in_ok-option-2.ensures.received (
-    optional_received written_key_wrapping_specification x.key_wrapping_specification c.in_ok-option-3.ensures.received (
+    optional_received (boxed written_key_wrapping_specification) x.key_wrapping_specification c.in_ok-option-3.ensures.received (
     all_received))))) c.in_ok-end_struct.ensures.received

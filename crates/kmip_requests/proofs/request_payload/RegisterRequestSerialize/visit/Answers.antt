@@ -1,5 +1,6 @@
 -- Written by codegen from types.table: change that, and run codegen/codegen.
 -- What a visitor receives: a line for each part, by what its call ensures.
+use Rattle.kmip_ttlv.specs.Boxes.{boxed}
 use Rattle.kmip_ttlv_laws.proofs.Receiving.{all_received, optional_received, part_received, structure_received}
 use Rattle.std.proofs.Common.{refl}
 use Rattle.kmip_requests.specs.RequestPayloads.{written_register_request}
@@ -15,11 +16,11 @@ returns-clause-received g c =
     part_received c.in_ok-visit.ensures.received (
     part_received c.in_ok-visit-2.ensures.received (
     optional_received written_certificate x.certificate c.in_ok-option.ensures.received (
-    optional_received written_symmetric_key x.symmetric_key c.in_ok-option-2.ensures.received (
-    optional_received written_public_key x.public_key c.in_ok-option-3.ensures.received (
-    optional_received written_private_key x.private_key c.in_ok-option-4.ensures.received (
-    optional_received written_split_key x.split_key c.in_ok-option-5.ensures.received (
+    optional_received (boxed written_symmetric_key) x.symmetric_key c.in_ok-option-2.ensures.received (
+    optional_received (boxed written_public_key) x.public_key c.in_ok-option-3.ensures.received (
+    optional_received (boxed written_private_key) x.private_key c.in_ok-option-4.ensures.received (
+    optional_received (boxed written_split_key) x.split_key c.in_ok-option-5.ensures.received (
     optional_received written_template x.template c.in_ok-option-6.ensures.received (
-    optional_received written_secret_data x.secret_data c.in_ok-option-7.ensures.received (
+    optional_received (boxed written_secret_data) x.secret_data c.in_ok-option-7.ensures.received (
     optional_received written_opaque_object x.opaque_object c.in_ok-option-8.ensures.received (
     all_received))))))))))) c.in_ok-end_struct.ensures.received
