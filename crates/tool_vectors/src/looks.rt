@@ -159,8 +159,8 @@ fn some_tags(rt: HostRuntime) {
 // Every bit of a mask is set: the names of those that have one, in their order.
 const ALL_BITS: Row = (
     Look::PLAIN,
-    "42002C0200000004FFFFFFFF00000000",
-    "Tag: Cryptographic Usage Mask (0x42002C), Type: Integer (0x02), Data: 0xFFFFFFFF (-1) Sign | Verify | Encrypt | Decrypt | Wrap Key | Unwrap Key | Export | MAC Generate | MAC Verify | Derive Key | Content Commitment | Key Agreement | Certificate Sign | CRL Sign | Generate Cryptogram | Validate Cryptogram | Translate Encrypt | Translate Decrypt | Translate Wrap | Translate Unwrap | Authenticate | Unrestricted | FPE Encrypt | FPE Decrypt\n",
+    "420091010000001042002C0200000004FFFFFFFF00000000",
+    "Tag: Template-Attribute (0x420091), Type: Structure (0x01), Data:\n  Tag: Cryptographic Usage Mask (0x42002C), Type: Integer (0x02), Data: 0xFFFFFFFF (-1) Sign | Verify | Encrypt | Decrypt | Wrap Key | Unwrap Key | Export | MAC Generate | MAC Verify | Derive Key | Content Commitment | Key Agreement | Certificate Sign | CRL Sign | Generate Cryptogram | Validate Cryptogram | Translate Encrypt | Translate Decrypt | Translate Wrap | Translate Unwrap | Authenticate | Unrestricted | FPE Encrypt | FPE Decrypt\n",
 );
 
 #[test]
