@@ -15,12 +15,9 @@ use Rattle.ttlv_run.specs.Decoding.{Pushes, AllBytes, Finishes, Grows, Puts, Dec
 use Rattle.ttlv_run.specs.Fronts.{ReadsBytes}
 use Rattle.ttlv_run.specs.Inputs.{decode_form, width, Makes}
 use Rattle.ttlv_run.proofs.Groups.{behind, group_of, behind_group, group_known, no_group, group_then, nothing, least_group, more_whole, some_width}
+use Rattle.ttlv_run.proofs.Groups.{prepended, nothing_in_front}
 
 -- ---- digits
-
-prepended : (front x : List ℕ) (rest : Option (List ℕ)) → prepend_known front (prepend_known x rest) ≡ prepend_known (front ++ x) rest
-prepended front x None = refl
-prepended front x (Some rest) = ap Some (sym (append_assoc front x rest))
 
 module _ {form : Form} {front bytes : List ℕ} (continues : Continues form front bytes) where
   -- digits that are bytes
@@ -44,7 +41,7 @@ module _ {form : Form} {front bytes : List ℕ} (continues : Continues form fron
       whole = more_groups;
       on = λ rest. ap (decode_form form) (append_assoc front g rest) ∙ continues.on (g ++ rest)
           ∙ ap (prepend_known bytes) (group_then form g x long plain is rest)
-          ∙ prepended bytes x (decode_form form rest);
+          ∙ sym (prepended bytes x (decode_form form rest));
     }
 
     -- or one behind which there are no more digits
@@ -245,15 +242,11 @@ no_digits form = record {
   front = [];
   are = refl;
   few = some_width form;
-  continues = record { whole = by_zero; on = λ rest. none_in_front (decode_form form rest) };
+  continues = record { whole = by_zero; on = λ rest. nothing_in_front (decode_form form rest) };
 }
   where
     by_zero : 0 % width form ≡ 0
     by_zero = omega arith
-
-    none_in_front : (o : Option (List ℕ)) → o ≡ prepend_known [] o
-    none_in_front None = refl
-    none_in_front (Some x) = refl
 
 -- in front of a text
 pub starts_reading : (d : Decoder) (mark : ℕ) → d.part ≡ first_part d.form → d.phase ≡ Groups → d.count ≡ 0 → d.waiting ≡ None → d.offset ≡ mark

@@ -507,7 +507,7 @@ pub prepended : (x y : List ℕ) (o : Option (List ℕ)) → prepend_known (x ++
 prepended x y None = refl
 prepended x y (Some z) = ap Some (append_assoc x y z)
 
-nothing_in_front : (o : Option (List ℕ)) → o ≡ prepend_known [] o
+pub nothing_in_front : (o : Option (List ℕ)) → o ≡ prepend_known [] o
 nothing_in_front None = refl
 nothing_in_front (Some x) = refl
 
