@@ -2,3 +2,4 @@ pub mod Views
 pub mod Shapes
 pub mod Building
 pub mod Visiting
+pub mod TagNames

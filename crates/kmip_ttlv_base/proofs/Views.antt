@@ -2,7 +2,10 @@
 use Rattle.std.proofs.Common.{◌≡◌, ℕ, ℤ, List, Bool as Boole, String, Vec, Box, Bor, string_bytes, rules}
 use Rattle.kmip_ttlv_base.specs.declared.shape.Data.{Data, the_lemmas}
 use Rattle.kmip_ttlv_base.specs.declared.shape.Data.TheVariants.{Bool, I8, I16, I32, U32, I64, U64, DateTime, Interval, Text, Bytes, BigInteger, None, Some}
-use Rattle.kmip_ttlv_base.specs.declared.shape.Data.TheVariants.{Seq, Struct, Newtype, UnitVariant, NewtypeVariant, TupleVariant, Unsupported}
+use Rattle.kmip_ttlv_base.specs.declared.shape.Data.TheVariants.{Seq, Struct, Newtype, Tagged, Structure, UnitVariant, NewtypeVariant, TupleVariant}
+use Rattle.kmip_ttlv_base.specs.declared.shape.Data.TheVariants.{Unsupported}
+use Rattle.kmip_ttlv_types.specs.Digits.{tag_text}
+use Rattle.kmip_ttlv_base.specs.Tags.{wrapper_name}
 use Rattle.kmip_ttlv_base.specs.Values.{view, views, boolean_value, i8_value, i16_value, i32_value, u32_value, i64_value, u64_value, date_time_value}
 use Rattle.kmip_ttlv_base.specs.Values.{interval_value, text_value, bytes_value, big_integer_value, none_value, some_value, seq_value, struct_value}
 use Rattle.kmip_ttlv_base.specs.Values.{newtype_value, unit_variant_value, newtype_variant_value, tuple_variant_value, unsupported_value}
@@ -57,6 +60,12 @@ view-Struct name v = search (rules, the_lemmas)
 
 pub view-Newtype : {A : Type 0} (name : Bor (List ℕ)) (b : Box (Data A) A) → view (Newtype name b) ≡ newtype_value name.now (view b.value)
 view-Newtype name b = search (rules, the_lemmas)
+
+pub view-Tagged : {A : Type 0} (tag : ℕ) (b : Box (Data A) A) → view (Tagged tag b) ≡ newtype_value (wrapper_name tag) (view b.value)
+view-Tagged tag b = search (rules, the_lemmas)
+
+pub view-Structure : {A : Type 0} (tag : ℕ) (v : Vec (Data A) A) → view (Structure tag v) ≡ struct_value (tag_text tag) (views v.items)
+view-Structure tag v = search (rules, the_lemmas)
 
 pub view-UnitVariant : (A : Type 0) (name variant : Bor (List ℕ)) → view {A = A} (UnitVariant name variant) ≡ unit_variant_value name.now variant.now
 view-UnitVariant A name variant = search (rules, the_lemmas)

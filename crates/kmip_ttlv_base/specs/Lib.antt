@@ -12,6 +12,7 @@ pub use Rattle.kmip_ttlv_types.specs.Headers
 pub use Rattle.kmip_ttlv_types.specs.Primitives
 pub use Rattle.kmip_ttlv_types.specs.Machine
 pub use Rattle.kmip_ttlv_types.specs.Laws
+pub mod Tags
 pub mod Values
 pub mod Visits
 pub mod Builds

@@ -1,5 +1,7 @@
 -- Values: data, apart from where it is in memory.
 use Rattle.std.specs.Prelude.{ℕ, ℤ, Bool, List, [], ◌∷◌, map, string_bytes}
+use Rattle.kmip_ttlv_types.specs.Digits.{tag_text}
+use Rattle.kmip_ttlv_base.specs.Tags.{wrapper_name}
 use Rattle.kmip_ttlv_base.specs.declared.shape.Data.{Data, fold-Data, Data-F}
 use Rattle.kmip_ttlv_base.specs.declared.shape.Data.TheOpen as layer
 
@@ -57,6 +59,8 @@ view_step (layer.Some b) = some_value b.value
 view_step (layer.Seq v) = seq_value (values_of v.items)
 view_step (layer.Struct name fields) = struct_value name.now (values_of fields.items)
 view_step (layer.Newtype name inner) = newtype_value name.now inner.value
+view_step (layer.Tagged n inner) = newtype_value (wrapper_name n) inner.value
+view_step (layer.Structure n fields) = struct_value (tag_text n) (values_of fields.items)
 view_step (layer.UnitVariant name variant) = unit_variant_value name.now variant.now
 view_step (layer.NewtypeVariant name variant inner) = newtype_variant_value name.now variant.now inner.value
 view_step (layer.TupleVariant name variant fields) = tuple_variant_value name.now variant.now (values_of fields.items)

@@ -1,5 +1,7 @@
 -- The events that a visitor gets of a value, in document order.
 use Rattle.std.specs.Prelude.{ℕ, List, Option, None, Some}
+use Rattle.kmip_ttlv_types.specs.Digits.{tag_text}
+use Rattle.kmip_ttlv_base.specs.Tags.{wrapper_name}
 use Rattle.kmip_ttlv_base.specs.Values.{Value, Values, no_values, value}
 use Rattle.kmip_ttlv_base.specs.Values.{boolean_value, i8_value, i16_value, i32_value, u32_value, i64_value, u64_value}
 use Rattle.kmip_ttlv_base.specs.Values.{date_time_value, interval_value, text_value, bytes_value, big_integer_value, none_value}
@@ -49,6 +51,8 @@ around groups.Some = a_some
 around groups.Seq = a_seq
 around (groups.Struct name) = a_struct name.now
 around (groups.Newtype name) = a_newtype name.now
+around (groups.Tagged n) = a_newtype (wrapper_name n)
+around (groups.Structure n) = a_struct (tag_text n)
 around (groups.NewtypeVariant name variant) = a_newtype_variant name.now variant.now
 around (groups.TupleVariant name variant) = a_tuple_variant name.now variant.now
 

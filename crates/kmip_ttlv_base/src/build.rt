@@ -87,6 +87,14 @@ fn group_data<A: Allocator>(
             name,
             inner: Box::new(alloc, first(values))?,
         }),
+        Group::Tagged { tag } => Ok(Data::Tagged {
+            tag,
+            inner: Box::new(alloc, first(values))?,
+        }),
+        Group::Structure { tag } => Ok(Data::Structure {
+            tag,
+            fields: values,
+        }),
         Group::NewtypeVariant { name, variant } => Ok(Data::NewtypeVariant {
             name,
             variant,

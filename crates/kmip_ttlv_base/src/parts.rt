@@ -1,4 +1,4 @@
-//! The parts of a user's `visit`: leaves and groups, with their names as parameters.
+//! The parts of a user's `visit`: leaves and groups, with their names, or the numbers of their tags, as parameters.
 //!
 //! With these a `visit` needs no proof of its own if it makes five calls or so, and ends in
 //! `?; Ok(())`. Split a larger message into several functions, each with a definition of the value that it
@@ -20,7 +20,9 @@ ghost use Rattle.kmip_ttlv_base.specs.Values.{newtype_value, newtype_variant_val
 ghost use Rattle.kmip_ttlv_base.specs.Values.{boolean_value, i32_value, u32_value, i64_value, u64_value};
 ghost use Rattle.kmip_ttlv_base.specs.Values.{interval_value, text_value, bytes_value, big_integer_value, values_of};
 ghost use Rattle.kmip_ttlv_base.specs.Visits.{begun, ended, a_struct, a_newtype, a_newtype_variant, a_tuple_variant};
-ghost use Rattle.kmip_ttlv_base.specs.Visits.{a_seq, Receives, ReceivesEach, ReceivesEvent, optional_field};
+ghost use Rattle.kmip_ttlv_base.specs.Visits.{a_seq, Receives, ReceivesEach, ReceivesEvent, optional_field, leaf_value};
+ghost use Rattle.kmip_ttlv_base.specs.Tags.{wrapper_name};
+ghost use Rattle.kmip_ttlv_types.specs.Digits.{tag_text};
 
 use crate::shape::Serialize;
 use crate::visit::{Group, Leaf, Visitor};
@@ -225,6 +227,25 @@ pub fn unit_variant<V: Visitor>(
     visitor.leaf(Leaf::UnitVariant { name, variant })
 }
 
+/// A leaf under the tag of this number: what a newtype named `Transparent:` and the tag's six digits is, but no name
+/// is looked at when it is encoded, and the tag may be a parameter of a type. Of a number above 2^24 - 1 the last 24
+/// bits count.
+///
+/// ```
+/// tagged(visitor, 0x420020, Leaf::I32(8))?; // 42002002 00000004 00000008 00000000
+/// ```
+#[tactic(auto, using(crate::proofs::Visiting::visited_leaf))]
+#[inline(always)]
+pub fn tagged<V: Visitor>(visitor: &mut V, tag: u32, leaf: Leaf<'_>) -> Result<(), AllocError>
+    ensures received { OnOk result
+        (Receives V.knows V.step (newtype_value (wrapper_name tag) (leaf_value leaf.entry)) visitor.old visitor.new) }
+    ensures stopped { OnErr result (V.stopped visitor.new) }
+{
+    visitor.begin(Group::Tagged { tag })?;
+    visitor.leaf(leaf)?;
+    visitor.end(Group::Tagged { tag })
+}
+
 /// A value in a newtype of this name.
 ///
 /// ```
@@ -362,6 +383,33 @@ pub fn end_struct<V: Visitor>(visitor: &mut V, name: &'static str) -> Result<(),
     ensures stopped { OnErr result (V.stopped visitor.new) }
 {
     visitor.end(Group::Struct { name })
+}
+
+/// The start of a structure under the tag of this number: what follows, up to its end, is in it. It is what a struct
+/// named by the tag is. Of a number above 2^24 - 1 the last 24 bits count.
+///
+/// ```
+/// begin_structure(visitor, 0xAABBCC)?; // AABBCC01 00000010
+/// tagged(visitor, 0xBBBBBB, Leaf::I32(3))?; // BBBBBB02 00000004 00000003 00000000
+/// end_structure(visitor, 0xAABBCC)?;
+/// ```
+#[inline(always)]
+pub fn begin_structure<V: Visitor>(visitor: &mut V, tag: u32) -> Result<(), AllocError>
+    ensures received { OnOk result
+        (ReceivesEvent V.knows V.step (begun (a_struct (tag_text tag))) visitor.old visitor.new) }
+    ensures stopped { OnErr result (V.stopped visitor.new) }
+{
+    visitor.begin(Group::Structure { tag })
+}
+
+/// The end of a structure under the tag of this number.
+#[inline(always)]
+pub fn end_structure<V: Visitor>(visitor: &mut V, tag: u32) -> Result<(), AllocError>
+    ensures received { OnOk result
+        (ReceivesEvent V.knows V.step (ended (a_struct (tag_text tag))) visitor.old visitor.new) }
+    ensures stopped { OnErr result (V.stopped visitor.new) }
+{
+    visitor.end(Group::Structure { tag })
 }
 
 /// The start of a newtype of this name: what follows, up to its end, is in it.

@@ -52,6 +52,10 @@ fn send<A: Allocator, V: Visitor>(value: &Data<A>, visitor: &mut V) -> Result<()
         Data::Seq(values) => send_group(values, Group::Seq, visitor),
         Data::Struct { name, fields } => send_group(fields, Group::Struct { name }, visitor),
         Data::Newtype { name, inner } => send_one(inner, Group::Newtype { name }, visitor),
+        Data::Tagged { tag, inner } => send_one(inner, Group::Tagged { tag: *tag }, visitor),
+        Data::Structure { tag, fields } => {
+            send_group(fields, Group::Structure { tag: *tag }, visitor)
+        }
         Data::UnitVariant { name, variant } => visitor.leaf(Leaf::UnitVariant { name, variant }),
         Data::NewtypeVariant {
             name,

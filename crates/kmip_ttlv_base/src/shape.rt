@@ -61,6 +61,16 @@ pub enum Data<A: Allocator = Global> {
         name: &'static str,
         inner: Box<Data<A>, A>,
     },
+    /// The value in it, whose item gets the tag of this number, of which the last 24 bits count.
+    Tagged {
+        tag: u32,
+        inner: Box<Data<A>, A>,
+    },
+    /// A Structure of the fields, under the tag of this number, of which the last 24 bits count.
+    Structure {
+        tag: u32,
+        fields: Vec<Data<A>, A>,
+    },
     /// An Enumeration under the tag that the name is, of the number that the variant's name is.
     UnitVariant {
         name: &'static str,

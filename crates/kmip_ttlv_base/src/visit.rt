@@ -59,6 +59,16 @@ pub enum Group {
     Newtype {
         name: &'static str,
     },
+    /// The value in it, whose item gets the tag of this number: what a newtype named `Transparent:` and the tag's
+    /// six digits is. Of a number above 2^24 - 1 the last 24 bits count.
+    Tagged {
+        tag: u32,
+    },
+    /// A Structure of the fields under the tag of this number: what a struct named by the tag is. Of a number
+    /// above 2^24 - 1 the last 24 bits count.
+    Structure {
+        tag: u32,
+    },
     /// A Structure of one field, or a wrapper if the variant is named `Transparent`.
     NewtypeVariant {
         name: &'static str,

@@ -6,6 +6,7 @@ mod Measuring
 mod Finding
 mod Failing
 mod Sending
+mod Filling
 mod Outputs
 mod Receiving
 mod Sound

@@ -41,7 +41,7 @@ node_plan : (t : ℕ) (us : List Tree) (rest : List ℕ) → sizes_all (node t (
 node_plan t us rest = ap (λ ns. ns ++ rest) (append-nil (sizes (node t (trees_of us)))) ∙ ap (λ bs. length bs ∷ (sizes_below (trees_of us) ++ rest))
     (below_is us) ∙ ap (λ ns. length (bytes_all us) ∷ (ns ++ rest)) (sizes_below_is us)
 
-node_bytes_are : (t : ℕ) (us : List Tree) (old : List ℕ) → (old ++ header t Structure (length (bytes_all us))) ++ bytes_all us ≡ old ++ bytes_all
+pub node_bytes_are : (t : ℕ) (us : List Tree) (old : List ℕ) → (old ++ header t Structure (length (bytes_all us))) ++ bytes_all us ≡ old ++ bytes_all
     (node t (trees_of us) ∷ [])
 unfolding node_bytes
 node_bytes_are t us old = rw (below_is us, append-nil (bytes_all us)) (simp append_assoc)
@@ -153,7 +153,7 @@ wrote_leaf {given = given} {old} {e} {s} {t} typ c h tag are gave plan pending =
     record { gave = subst (λ bs. given s.start bs e.out) are gave; plan_is = h.plan_is ∙ sym plan; pending_is = sym pending }
 
 -- the items of a unit variant, under the tag that its name gave
-unit_items : (name vname : List ℕ) {w v : PendingTag} (t : ℕ) {o : Option ℕ} → w ≡ v → take_tag v name ≡ Some t → number vname ≡ o
+pub unit_items : (name vname : List ℕ) {w v : PendingTag} (t : ℕ) {o : Option ℕ} → w ≡ v → take_tag v name ≡ Some t → number vname ≡ o
     → items (unit_variant_value name vname) w ≡ (o >>= λ n. one_leaf (Plain t) Enumeration (to_be_bytes w32 n))
 unfolding enumeration
 unit_items name vname t same is number_is = rw (same, is, number_is) refl

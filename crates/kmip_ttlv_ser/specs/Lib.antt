@@ -1,3 +1,4 @@
+pub mod NameTexts
 pub mod WrittenItems
 pub mod Sizes
 pub mod Faults
@@ -9,5 +10,6 @@ pub mod Outputs
 pub mod Waiting
 pub mod Gathers
 pub mod Emits
+pub mod Singles
 pub mod WriteLaws
 pub mod Rows

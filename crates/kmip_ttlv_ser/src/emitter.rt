@@ -9,6 +9,7 @@ ghost use Rattle.kmip_ttlv_types.specs.Primitives.{sign_extended};
 ghost use Rattle.kmip_ttlv_types.specs.Trees.{Tree, leaf_bytes, bytes_all};
 ghost use Rattle.kmip_ttlv_base.specs.Values.{unit_variant_value};
 ghost use Rattle.kmip_ttlv_base.specs.Visits.{Knows};
+ghost use Rattle.kmip_ttlv_ser.specs.NameTexts.{text_of};
 ghost use Rattle.kmip_ttlv_ser.specs.WrittenItems.{take_tag, one_leaf, items, is_wrapper};
 ghost use Rattle.kmip_ttlv_ser.specs.Sizes.{sizes_all};
 ghost use Rattle.kmip_ttlv_ser.specs.Outputs.{Given};
@@ -18,7 +19,7 @@ ghost use Rattle.kmip_ttlv_ser.specs.Emits.{Written, HasWritten, wrote, began, w
 ghost use Rattle.kmip_ttlv_ser.specs.Emits.{began_variant, emit_step};
 
 use crate::measurer::padding;
-use crate::names::{is_wrapper, number_of, transparent_name, without_override};
+use crate::names::{Name, is_wrapper, number_of, transparent_name, without_override};
 use crate::output::Output;
 use crate::pending::PendingTag;
 use kmip_ttlv_base::shape::Serialize;
@@ -35,36 +36,60 @@ pub struct Emitter<'a, O: Output> {
     pending: PendingTag,
 }
 
-/// Writes an item's header: its tag, its type and its length (KMIP 1.0, section 9.1.1).
+/// An item's header: its tag, its type and its length (KMIP 1.0, section 9.1.1).
+#[inline(always)]
+pub(crate) fn header(tag: TtlvTag, typ: TtlvType, len: u64) -> [u8; 8]
+    ensures { result ≡ header tag typ len }
+{
+    let [a, b, c] = <[u8; 3]>::from(tag);
+    let [_, _, _, _, d, e, f, g] = len.to_be_bytes();
+    [a, b, c, typ.code(), d, e, f, g]
+}
+
+/// A leaf of a number of four bytes: header, content and four bytes of padding.
+#[inline(always)]
+#[tactic(auto, unfolding(kmip_ttlv_types::specs::Trees::leaf_bytes))]
+pub(crate) fn word_item(tag: TtlvTag, typ: TtlvType, number: u32) -> [u8; 16]
+    ensures { result ≡ leaf_bytes tag typ (to_be_bytes w32 number) }
+{
+    let [a, b, c] = <[u8; 3]>::from(tag);
+    let [d, e, f, g] = number.to_be_bytes();
+    [a, b, c, typ.code(), 0, 0, 0, 4, d, e, f, g, 0, 0, 0, 0]
+}
+
+/// A leaf of a number of eight bytes: header and content.
+#[inline(always)]
+#[tactic(auto, unfolding(kmip_ttlv_types::specs::Trees::leaf_bytes))]
+pub(crate) fn long_item(tag: TtlvTag, typ: TtlvType, number: u64) -> [u8; 16]
+    ensures { result ≡ leaf_bytes tag typ (to_be_bytes w64 number) }
+{
+    let [a, b, c] = <[u8; 3]>::from(tag);
+    let [d, e, f, g, h, i, j, k] = number.to_be_bytes();
+    [a, b, c, typ.code(), 0, 0, 0, 8, d, e, f, g, h, i, j, k]
+}
+
+/// Writes an item's header.
 #[inline(always)]
 fn put_header<O: Output>(out: &mut O, tag: TtlvTag, typ: TtlvType, len: u64)
     ensures { Given O.given (header tag typ len) out.old out.new }
 {
-    let [a, b, c] = <[u8; 3]>::from(tag);
-    let [_, _, _, _, d, e, f, g] = len.to_be_bytes();
-    out.give(&[a, b, c, typ.code(), d, e, f, g]);
+    out.give(&header(tag, typ, len));
 }
 
-/// Writes a leaf of a number of four bytes: header, content and four bytes of padding, in one piece.
+/// Writes a leaf of a number of four bytes, in one piece.
 #[inline(always)]
-#[tactic(auto, unfolding(kmip_ttlv_types::specs::Trees::leaf_bytes))]
 fn put_word<O: Output>(out: &mut O, tag: TtlvTag, typ: TtlvType, number: u32)
     ensures { Given O.given (leaf_bytes tag typ (to_be_bytes w32 number)) out.old out.new }
 {
-    let [a, b, c] = <[u8; 3]>::from(tag);
-    let [d, e, f, g] = number.to_be_bytes();
-    out.give(&[a, b, c, typ.code(), 0, 0, 0, 4, d, e, f, g, 0, 0, 0, 0]);
+    out.give(&word_item(tag, typ, number));
 }
 
-/// Writes a leaf of a number of eight bytes: header and content, in one piece.
+/// Writes a leaf of a number of eight bytes, in one piece.
 #[inline(always)]
-#[tactic(auto, unfolding(kmip_ttlv_types::specs::Trees::leaf_bytes))]
 fn put_long<O: Output>(out: &mut O, tag: TtlvTag, typ: TtlvType, number: u64)
     ensures { Given O.given (leaf_bytes tag typ (to_be_bytes w64 number)) out.old out.new }
 {
-    let [a, b, c] = <[u8; 3]>::from(tag);
-    let [d, e, f, g, h, i, j, k] = number.to_be_bytes();
-    out.give(&[a, b, c, typ.code(), 0, 0, 0, 8, d, e, f, g, h, i, j, k]);
+    out.give(&long_item(tag, typ, number));
 }
 
 /// Writes fewer than eight bytes, all of this value.
@@ -142,7 +167,7 @@ impl<'a, O: Output> Emitter<'a, O> {
         ensures { Knows (HasWritten O.given)
             (λ s. wrote (items (unit_variant_value name.now variant.now) s.pending) s) self.old self.new }
     {
-        let Some(tag) = self.pending.take(name) else {
+        let Some(tag) = self.pending.take(Name::Text(name)) else {
             return;
         };
         let Some(value) = number_of(variant) else {
@@ -154,8 +179,8 @@ impl<'a, O: Output> Emitter<'a, O> {
 
     /// A structure's header. Its length is the next of the plan.
     #[inline(always)]
-    fn put_structure(&mut self, name: &'static str)
-        ensures { Knows (HasWritten O.given) (λ s. began (take_tag s.pending name.now) s) self.old self.new }
+    fn put_structure(&mut self, name: Name)
+        ensures { Knows (HasWritten O.given) (λ s. began (take_tag s.pending (text_of name)) s) self.old self.new }
     {
         let Some(tag) = self.pending.take(name) else {
             return;
@@ -170,9 +195,9 @@ impl<'a, O: Output> Emitter<'a, O> {
 
     /// The start of a wrapper: its tag is pending.
     #[inline(always)]
-    fn wait(&mut self, name: &'static str)
+    fn wait(&mut self, name: Name)
         ensures { Knows (HasWritten O.given)
-            (λ s. waits (take_tag s.pending name.now) SpecPlain s) self.old self.new }
+            (λ s. waits (take_tag s.pending (text_of name)) SpecPlain s) self.old self.new }
     {
         if let Some(tag) = self.pending.take(name) {
             self.pending = PendingTag::Plain(tag);
@@ -186,8 +211,8 @@ impl<'a, O: Output> Emitter<'a, O> {
             (λ s. began_newtype (transparent_name name.now) name.now s) self.old self.new }
     {
         match transparent_name(name) {
-            None => self.put_structure(name),
-            Some(rest) => self.wait(rest),
+            None => self.put_structure(Name::Text(name)),
+            Some(rest) => self.wait(Name::Text(rest)),
         }
     }
 
@@ -199,9 +224,9 @@ impl<'a, O: Output> Emitter<'a, O> {
     {
         let rest = without_override(name);
         if !is_wrapper(variant) {
-            return self.put_structure(without_override(rest));
+            return self.put_structure(Name::Text(without_override(rest)));
         }
-        if let Some(tag) = self.pending.take(rest) {
+        if let Some(tag) = self.pending.take(Name::Text(rest)) {
             self.pending = self.pending.over(name, tag);
         }
     }
@@ -239,15 +264,20 @@ impl<'a, O: Output> Visitor for Emitter<'a, O> {
         Ok(())
     }
 
+    #[tactic(auto, using(kmip_ttlv_base::proofs::TagNames::transparent_wrapper))]
     #[inline(always)]
     fn begin(&mut self, group: Group) -> Result<(), AllocError> {
         match group {
             Group::Some => {}
             Group::Seq => {}
-            Group::Struct { name } => self.put_structure(name),
+            Group::Struct { name } => self.put_structure(Name::Text(name)),
             Group::Newtype { name } => self.begin_newtype(name),
+            Group::Tagged { tag } => self.wait(Name::Number(tag)),
+            Group::Structure { tag } => self.put_structure(Name::Number(tag)),
             Group::NewtypeVariant { name, variant } => self.begin_variant(name, variant),
-            Group::TupleVariant { name, variant: _ } => self.put_structure(without_override(name)),
+            Group::TupleVariant { name, variant: _ } => {
+                self.put_structure(Name::Text(without_override(name)))
+            }
         }
         Ok(())
     }

@@ -4,6 +4,7 @@ ghost use Rattle.std.specs.Prelude.{◌≡◌, ◌+◌, ◌<◌, OnOk, reverse, 
 ghost use Rattle.kmip_ttlv_types.specs.ItemTypes.{pad_len};
 ghost use Rattle.kmip_ttlv_types.specs.Names.{tag_of, transparent_name};
 ghost use Rattle.kmip_ttlv_base.specs.Values.{unit_variant_value};
+ghost use Rattle.kmip_ttlv_ser.specs.NameTexts.{text_of};
 ghost use Rattle.kmip_ttlv_ser.specs.Faults.{name_kind};
 ghost use Rattle.kmip_ttlv_ser.specs.WrittenItems.{take_tag, pending_tag, pending_after, is_wrapper};
 ghost use Rattle.kmip_ttlv_ser.specs.Passes.{kind_of_cause};
@@ -14,7 +15,7 @@ ghost use Rattle.kmip_ttlv_ser.specs.Measures.{unwrapped, out_of_newtype, out_of
 ghost use Rattle.kmip_ttlv_ser.specs.Measures.{Plans};
 
 use crate::encode_error::{Cause, EncodeError};
-use crate::names::{is_wrapper, number_of, transparent_name, without_override};
+use crate::names::{Name, is_wrapper, number_of, transparent_name, without_override};
 use crate::pending::{PendingTag, Place};
 use kmip_ttlv_base::error::Result as Answer;
 use kmip_ttlv_base::shape::Serialize;
@@ -92,16 +93,22 @@ impl<A: Allocator> Measurer<A> {
     }
 
     /// A name that can't be taken: it is no tag, or a plain tag is pending.
-    fn fail_name(&mut self, name: &'static str)
+    #[tactic(auto, using(kmip_ttlv_base::proofs::TagNames::tag_of_number))]
+    fn fail_name(&mut self, name: Name)
         requires { self.old.encode_error ≡ SpecNone }
         ensures { known self.new
-            ≡ halt_at (name_kind (tag_of name.now) name.now) self.old.pending (going self.old) }
+            ≡ halt_at (name_kind (tag_of (text_of name)) (text_of name)) self.old.pending (going self.old) }
     {
         let waits = self.pending.len();
-        if TtlvTag::from_name(name).is_none() {
-            return self.fail(Cause::InvalidTag(name), waits);
+        match name {
+            Name::Number(_) => self.fail(Cause::TagUnused, waits),
+            Name::Text(text) => {
+                if TtlvTag::from_name(text).is_none() {
+                    return self.fail(Cause::InvalidTag(text), waits);
+                }
+                self.fail(Cause::TagUnused, waits)
+            }
         }
-        self.fail(Cause::TagUnused, waits)
     }
 
     /// A unit variant: the leaf of its number, under its enum's tag.
@@ -111,6 +118,7 @@ impl<A: Allocator> Measurer<A> {
         ensures { known self.new
             ≡ after_unit (take_tag self.old.pending name.now) name.now variant.now (going self.old) }
     {
+        let name = Name::Text(name);
         let Some(tag) = self.pending.take(name) else {
             return self.fail_name(name);
         };
@@ -123,10 +131,10 @@ impl<A: Allocator> Measurer<A> {
 
     /// Enters a structure. The first one reserves room for several, so that most values allocate once.
     #[inline(always)]
-    fn enter(&mut self, name: &'static str) -> Result<(), AllocError>
+    fn enter(&mut self, name: Name) -> Result<(), AllocError>
         requires { self.old.encode_error ≡ SpecNone }
         ensures { OnOk result (known self.new
-            ≡ into (take_tag self.old.pending name.now) name.now (going self.old)) }
+            ≡ into (take_tag self.old.pending (text_of name)) (text_of name) (going self.old)) }
     {
         if self.pending.take(name).is_none() {
             self.fail_name(name);
@@ -153,10 +161,10 @@ impl<A: Allocator> Measurer<A> {
 
     /// Enters a wrapper: its tag is pending.
     #[inline(always)]
-    fn wrap(&mut self, name: &'static str)
+    fn wrap(&mut self, name: Name)
         requires { self.old.encode_error ≡ SpecNone }
         ensures { known self.new
-            ≡ wrapped (take_tag self.old.pending name.now) name.now SpecPlain (going self.old) }
+            ≡ wrapped (take_tag self.old.pending (text_of name)) (text_of name) SpecPlain (going self.old) }
     {
         match self.pending.take(name) {
             Some(tag) => self.pending = PendingTag::Plain(tag),
@@ -172,9 +180,9 @@ impl<A: Allocator> Measurer<A> {
             ≡ into_newtype (transparent_name name.now) name.now (going self.old)) }
     {
         match transparent_name(name) {
-            None => self.enter(name),
+            None => self.enter(Name::Text(name)),
             Some(rest) => {
-                self.wrap(rest);
+                self.wrap(Name::Text(rest));
                 Ok(())
             }
         }
@@ -189,11 +197,11 @@ impl<A: Allocator> Measurer<A> {
     {
         let rest = without_override(name);
         if !is_wrapper(variant) {
-            return self.enter(without_override(rest));
+            return self.enter(Name::Text(without_override(rest)));
         }
-        match self.pending.take(rest) {
+        match self.pending.take(Name::Text(rest)) {
             Some(tag) => self.pending = self.pending.over(name, tag),
-            None => self.fail_name(rest),
+            None => self.fail_name(Name::Text(rest)),
         }
         Ok(())
     }
@@ -295,6 +303,7 @@ impl<A: Allocator> Visitor for Measurer<A> {
         Ok(())
     }
 
+    #[tactic(auto, using(kmip_ttlv_base::proofs::TagNames::transparent_wrapper))]
     #[inline(always)]
     fn begin(&mut self, group: Group) -> Result<(), AllocError> {
         if self.encode_error.is_some() {
@@ -303,10 +312,17 @@ impl<A: Allocator> Visitor for Measurer<A> {
         match group {
             Group::Some => Ok(()),
             Group::Seq => Ok(()),
-            Group::Struct { name } => self.enter(name),
+            Group::Struct { name } => self.enter(Name::Text(name)),
             Group::Newtype { name } => self.enter_newtype(name),
+            Group::Tagged { tag } => {
+                self.wrap(Name::Number(tag));
+                Ok(())
+            }
+            Group::Structure { tag } => self.enter(Name::Number(tag)),
             Group::NewtypeVariant { name, variant } => self.enter_variant(name, variant),
-            Group::TupleVariant { name, variant: _ } => self.enter(without_override(name)),
+            Group::TupleVariant { name, variant: _ } => {
+                self.enter(Name::Text(without_override(name)))
+            }
         }
     }
 
@@ -320,6 +336,8 @@ impl<A: Allocator> Visitor for Measurer<A> {
             Group::Seq => {}
             Group::Struct { .. } => self.leave(),
             Group::Newtype { name } => self.leave_newtype(name),
+            Group::Tagged { .. } => self.unwrap(),
+            Group::Structure { .. } => self.leave(),
             Group::NewtypeVariant { name: _, variant } => self.leave_variant(variant),
             Group::TupleVariant { .. } => self.leave(),
         }

@@ -1,17 +1,27 @@
 //! The parts of names: what follows a prefix, the one variant that is a wrapper, and the numbers that
 //! names are.
 //!
-//! All of it is inlined and, except in rare cases, calls nothing. So the compiler evaluates it for the
-//! constant names of message types.
+//! All of it is inlined and, except in rare cases, calls nothing. So the compiler evaluates it for constant
+//! names, where it inlines what they are passed to.
 
 ghost use Rattle.std.specs.Prelude.{◌≡◌, ◌<◌, ◌≤◌, eqb, option_map, IfSome};
 ghost use Rattle.std.specs.Str.Parse.{AllDigits};
 ghost use Rattle.std.specs.List.{starts_with};
 ghost use Rattle.std.specs.Char.{digit_value};
 ghost use Rattle.kmip_ttlv_types.specs.Names.{transparent_name, override_name, numeral, number, tag_of};
+ghost use Rattle.kmip_ttlv_ser.specs.NameTexts.{text_of};
 ghost use Rattle.kmip_ttlv_ser.specs.WrittenItems.{without_override, is_wrapper};
 
 use kmip_ttlv_types::{TtlvTag, number};
+
+/// A name that a tag is taken from.
+#[derive(Clone, Copy)]
+pub enum Name {
+    /// A text, which is a tag if it is a number below 2^24.
+    Text(&'static str),
+    /// The text of the tag of this number, of which the last 24 bits count.
+    Number(u32),
+}
 
 /// Whether the bytes begin with the prefix.
 #[inline(always)]
@@ -132,11 +142,14 @@ pub(crate) fn number_of(text: &str) -> Option<u32>
     }
 }
 
-/// The tag that a name is, if it is one.
-#[tactic(auto, unfolding(kmip_ttlv_types::specs::Names::tag_of))]
+/// The tag that a name is, if it is one. That of a number is computed without its text.
+#[tactic(auto, unfolding(kmip_ttlv_types::specs::Names::tag_of), using(kmip_ttlv_base::proofs::TagNames::tag_of_number))]
 #[inline(always)]
-pub(crate) fn tag_of(name: &str) -> Option<TtlvTag>
-    ensures { result ≡ tag_of name.now }
+pub(crate) fn tag_of(name: Name) -> Option<TtlvTag>
+    ensures { result ≡ tag_of (text_of name) }
 {
-    TtlvTag::from_number(number_of(name)?)
+    match name {
+        Name::Text(text) => TtlvTag::from_number(number_of(text)?),
+        Name::Number(number) => TtlvTag::from_number(number % 0x0100_0000),
+    }
 }

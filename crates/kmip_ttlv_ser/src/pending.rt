@@ -1,10 +1,11 @@
 //! The pending tag of the next item, and the place that encoding has reached.
 
 ghost use Rattle.std.specs.Prelude.{◌≡◌};
+ghost use Rattle.kmip_ttlv_ser.specs.NameTexts.{text_of};
 ghost use Rattle.kmip_ttlv_ser.specs.WrittenItems.{take_tag, pending_tag, pending_after};
 ghost use Rattle.kmip_ttlv_ser.specs.Faults.{pending_len};
 
-use crate::names::{override_name, tag_of};
+use crate::names::{Name, override_name, tag_of};
 use kmip_ttlv_types::TtlvTag;
 
 /// The tag that the next item gets.
@@ -46,8 +47,8 @@ impl PendingTag {
     /// The tag that a name gives when it is taken, if it can be.
     #[tactic(auto, unfolding(crate::specs::WrittenItems::take_tag))]
     #[inline(always)]
-    pub fn take(&self, name: &str) -> Option<TtlvTag>
-        ensures { result ≡ take_tag self.now name.now }
+    pub fn take(&self, name: Name) -> Option<TtlvTag>
+        ensures { result ≡ take_tag self.now (text_of name) }
     {
         let named = tag_of(name)?;
         match self {

@@ -11,6 +11,7 @@ use crate::gathered::Gathered;
 use crate::measurer::measure;
 use crate::output::Direct;
 use crate::pending::Place;
+use crate::single::in_one_pass;
 use kmip_ttlv_base::error::{Error, ErrorKind, ErrorLocation, MalformedTtlvError, Result};
 use kmip_ttlv_base::shape::Serialize;
 use kmip_ttlv_types::ByteOffset;
@@ -39,6 +40,11 @@ pub fn to_vec<A: Allocator + Copy, T: Serialize>(alloc: A, value: &T) -> Result<
     ensures { Encodes (T.stated value.now) result }
 {
     let mut out = Vec::new(alloc);
+    let mut room = [0; 1_024];
+    if let Some(whole) = in_one_pass(value, &mut room) {
+        out.extend_from_slice(whole.bytes())?;
+        return Ok(out);
+    }
     append(alloc, value, false, &mut out)?;
     Ok(out)
 }
@@ -57,6 +63,25 @@ pub fn to_vec<A: Allocator + Copy, T: Serialize>(alloc: A, value: &T) -> Result<
 /// assert!(rt; writer.as_slice() == b"\x42\0\x20\x02\0\0\0\x04\0\0\0\x08\0\0\0\0".as_slice());
 /// ```
 pub fn to_writer<A: Allocator + Copy, T: Serialize, S: Sink>(
+    alloc: A,
+    value: &T,
+    writer: &mut S,
+) -> Result<(), A>
+    ensures { EncodesTo (T.stated value.now) (held S.emitted S.room writer.old) (held S.emitted S.room writer.new) result }
+{
+    let mut room = [0; 1_024];
+    let Some(whole) = in_one_pass(value, &mut room) else {
+        return to_writer_by_plan(alloc, value, writer);
+    };
+    match writer.send(whole.bytes()) {
+        Ok(()) => Ok(()),
+        Err(error) => Err(Error::new(ErrorKind::IoError(error), ErrorLocation::unknown())),
+    }
+}
+
+/// The same, in two passes.
+#[inline(never)]
+fn to_writer_by_plan<A: Allocator + Copy, T: Serialize, S: Sink>(
     alloc: A,
     value: &T,
     writer: &mut S,

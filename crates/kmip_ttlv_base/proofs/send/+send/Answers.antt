@@ -3,8 +3,15 @@ use Rattle.std.proofs.lemmas.{List.drop_more, List.drop_all, Grind.common_steps}
 use Rattle.kmip_ttlv_base.specs.declared.shape.Data.{the_lemmas}
 use Rattle.kmip_ttlv_base.specs.Values.{view, views, seq_value, struct_value, tuple_variant_value}
 use Rattle.kmip_ttlv_base.specs.Visits.{Receives, ReceivesEach, visited}
-use Rattle.kmip_ttlv_base.proofs.Views.{view-Seq, view-Struct, view-TupleVariant}
+use Rattle.kmip_ttlv_types.specs.Digits.{tag_text}
+use Rattle.kmip_ttlv_base.proofs.Views.{view-Seq, view-Struct, view-Structure, view-TupleVariant}
 use Rattle.kmip_ttlv_base.proofs.send.+send.Goals as goal
+
+pub send-send_group-requires-in-Struct : goal.send-send_group-requires-in-Struct
+send-send_group-requires-in-Struct g t c κs within = (grind (the_lemmas, arith, common_steps) steps 9000000, within)
+
+pub send-send_group-requires-in-Structure : goal.send-send_group-requires-in-Structure
+send-send_group-requires-in-Structure g t c κs within = (grind (the_lemmas, arith, common_steps) steps 9000000, within)
 
 pub send-send_group-requires-in-TupleVariant : goal.send-send_group-requires-in-TupleVariant
 send-send_group-requires-in-TupleVariant g t c κs within = (grind (the_lemmas, arith, common_steps) steps 9000000, within)
@@ -24,6 +31,15 @@ send-returns-in-Struct-clause-received g t c =
     (ap (λ vs. struct_value c.in-Struct.name.now (views vs)) c.deref-in-Struct.ensures.value
     ∙ sym (ap view c.in-Struct.is ∙ view-Struct _ _))
     c.send_group-in-Struct.ensures.received
+
+pub send-returns-in-Structure-clause-received : goal.send-returns-in-Structure-clause-received
+send-returns-in-Structure-clause-received g t c =
+    let tells = Receives g.V.Visitor.knows g.V.Visitor.step in
+    let r = c.send_group-in-Structure.result in
+    subst (λ v. OnOk r (tells v c.args.visitor.now c.send_group-in-Structure.new.visitor))
+    (ap (λ vs. struct_value (tag_text c.in-Structure.tag) (views vs)) c.deref-in-Structure.ensures.value
+    ∙ sym (ap view c.in-Structure.is ∙ view-Structure _ _))
+    c.send_group-in-Structure.ensures.received
 
 pub send-returns-in-TupleVariant-clause-received : goal.send-returns-in-TupleVariant-clause-received
 send-returns-in-TupleVariant-clause-received g t c =

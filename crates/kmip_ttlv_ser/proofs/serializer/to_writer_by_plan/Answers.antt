@@ -3,7 +3,7 @@ use Rattle.kmip_ttlv_base.specs.Errors.{kind_of, view_of_kind, location_of, view
 use Rattle.kmip_ttlv_types.specs.Held.{held}
 use Rattle.kmip_ttlv_ser.specs.{Gathers.Lent, EncodeResults.WrittenTo, EncodeResults.IsNotWritten}
 use Rattle.kmip_ttlv_ser.proofs.Outputs.{gathered_nothing, flushed, whole_reached, written_to, partly_written, not_written}
-use Rattle.kmip_ttlv_ser.proofs.serializer.to_writer.Goals as goal
+use Rattle.kmip_ttlv_ser.proofs.serializer.to_writer_by_plan.Goals as goal
 
 pub returns-in-None : goal.returns-in-None
 returns-in-None g c =
