@@ -1,2 +1,4 @@
 pub mod FieldTags
 pub mod ReadRows
+pub mod Settings
+pub mod StreamMessages

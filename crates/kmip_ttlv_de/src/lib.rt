@@ -1,10 +1,10 @@
-//! Reading values from TTLV bytes by the shape of their type.
+//! Decoding values from TTLV bytes, and from a stream of bytes; and reading them by the shape of their type.
 //!
-//! `from_slice` is the entry. It calls `Decode::decode`, which goes by the shape for a type that has one; a type that reads
-//! itself has a `decode` of its own. What a shape reads is defined in the specs/ of kmip_ttlv_reader: `Outcomes` says as one total
-//! function which value comes, or which error and where; `Reads` has one rule for each way to read
-//! from a list of items, and `Begins` says that bytes begin with an item from which a form reads a
-//! value. The two agree (`read_by_rules`).
+//! `from_slice` is the entry, and `from_reader` that for a stream. `from_slice` calls `Decode::decode`, which goes by the shape
+//! for a type that has one; a type that reads itself has a `decode` of its own. What a shape reads is defined in the specs/ of
+//! kmip_ttlv_reader: `Outcomes` says as one total function which value comes, or which error and where; `Reads` has one rule
+//! for each way to read from a list of items, and `Begins` says that bytes begin with an item from which a form reads a value.
+//! The two agree (`read_by_rules`).
 #![tactic(auto)]
 
 ghost use Rattle.std.specs.Prelude.{◌≡◌, ◌+◌, ◌≤◌, ◌++◌, List, ℕ, length, IfOk, IfErr};
@@ -29,11 +29,13 @@ mod read;
 mod rest;
 mod root;
 mod rows;
+mod stream;
 mod variant;
 
 pub use crate::deserialize::{ByShape, Decode, Deserialize};
 use crate::root::read_root;
 pub use crate::rows::small_messages;
+pub use crate::stream::{Config, from_reader};
 use kmip_ttlv_base::error::Result;
 use kmip_ttlv_base::shape::{Data, Shape};
 use std::alloc::Allocator;

@@ -10,7 +10,6 @@ pub mod Wholeness
 pub mod Founding
 pub mod Giving
 pub mod ResultLemmas
-pub mod TagNames
 pub mod Mapped
 pub mod LeafLemmas
 pub mod Items

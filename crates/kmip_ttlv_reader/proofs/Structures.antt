@@ -7,7 +7,7 @@ use Rattle.kmip_ttlv_reader.specs.{TagValues.TagValue, ReadFaults.in_struct, Spo
 use Rattle.kmip_ttlv_reader.specs.Reads.{has_tag, is_option, is_struct}
 use Rattle.kmip_ttlv_reader.specs.Steps.{Outcome, Reader, gives, reads, ends_early, fails, within, ◌>>=◌}
 use Rattle.kmip_ttlv_reader.specs.Outcomes.{type_there, tag_wanted, field_outcome, first_outcome, opened, all_outcome, fields_outcome}
-use Rattle.kmip_ttlv_reader.proofs.TagNames.{tag_of_number}
+use Rattle.kmip_ttlv_base.proofs.TagNames.{tag_of_number}
 
 -- a message: its name is a tag, so it is read as it stands
 pub first_is : (tag : ℕ) (fs : Fields) (deny : Bool) (b : List ℕ)

@@ -1,8 +1,9 @@
 -- Where a cursor is in a structure, and what is read from there.
-use Rattle.std.specs.Prelude.{◌≡◌, ℕ, ◌≤◌, Bool, false, List, ◌++◌, length, codes, Option, Some, None, Result, Ok, Err}
+use Rattle.std.specs.Prelude.{◌≡◌, ℕ, ◌≤◌, Bool, false, List, length, codes, Option, Some, None, Result, Ok, Err}
 use Rattle.std.specs.Prelude.{ℤ, map, [], ◌∷◌, ◌==◌, if◌then◌else◌}
 use Rattle.std.specs.Int.{Width, cast_signed, cast_unsigned}
 use Rattle.kmip_ttlv_types.specs.Digits.{tag_text}
+use Rattle.kmip_ttlv_base.specs.Tags.{wrapper_name}
 use Rattle.kmip_ttlv_base.specs.Values.{Value, none_value, some_value, seq_value, struct_value, Values, values_of}
 use Rattle.kmip_ttlv_base.specs.Forms.{Form, Fields, newtype, struct}
 use Rattle.kmip_ttlv_reader.specs.declared.failure.Failure.{Failure}
@@ -32,10 +33,6 @@ at read scope spot = read scope.bytes.now scope.owner spot.stored spot.pos scope
 abbrev pub IsReadTo : {X V A : Type 0} → (X → V) → Spot → Outcome (Read V) → Result X (Failure A) → Type 0
 IsReadTo view spot o (Ok x) = o ≡ reads (view x) spot.stored spot.pos
 IsReadTo view spot o (Err r) = IsFailure o r
-
--- the name of the wrapper around a leaf of this tag
-abbrev pub wrapper_name : ℕ → List ℕ
-wrapper_name tag = codes "Transparent:" ++ tag_text tag
 
 -- a leaf's form within its wrapper
 abbrev pub wrapped_leaf : ℕ → Form → Form

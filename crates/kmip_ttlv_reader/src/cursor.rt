@@ -10,7 +10,8 @@ ghost use Rattle.kmip_ttlv_reader.specs.Reads.{has_tag};
 ghost use Rattle.kmip_ttlv_reader.specs.Outcomes.{outcome, field_outcome, tag_wanted};
 ghost use Rattle.kmip_ttlv_reader.specs.Results.{IsRead, IsStep, IsFailureOf};
 ghost use Rattle.kmip_ttlv_reader.specs.ReadFaults.{in_struct};
-ghost use Rattle.kmip_ttlv_reader.specs.Spots.{Spot, IsWithin, IsReadTo, at, wrapper_name, wrapped_leaf, optional_value, field_there, optional_there};
+ghost use Rattle.kmip_ttlv_base.specs.Tags.{wrapper_name};
+ghost use Rattle.kmip_ttlv_reader.specs.Spots.{Spot, IsWithin, IsReadTo, at, wrapped_leaf, optional_value, field_there, optional_there};
 ghost use Rattle.kmip_ttlv_reader.specs.ListedRows.{AreListed};
 
 use crate::failure::{Cause, Failure, Step, at_item, in_struct};

@@ -5,7 +5,8 @@ ghost use Rattle.kmip_ttlv_base.specs.Values.{newtype_value, seq_value};
 ghost use Rattle.kmip_ttlv_base.specs.Forms.{seq};
 ghost use Rattle.kmip_ttlv_reader.specs.LeafForms.{form_of_leaf};
 ghost use Rattle.kmip_ttlv_reader.specs.Outcomes.{outcome};
-ghost use Rattle.kmip_ttlv_reader.specs.Spots.{IsWithin, IsReadTo, at, wrapper_name, wrapped_leaf};
+ghost use Rattle.kmip_ttlv_base.specs.Tags.{wrapper_name};
+ghost use Rattle.kmip_ttlv_reader.specs.Spots.{IsWithin, IsReadTo, at, wrapped_leaf};
 
 use crate::cursor::Cursor;
 use crate::failure::Step;

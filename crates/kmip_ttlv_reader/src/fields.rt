@@ -8,7 +8,8 @@ ghost use Rattle.kmip_ttlv_base.specs.Forms.{no_fields, field, option};
 ghost use Rattle.kmip_ttlv_reader.specs.LeafForms.{form_of_leaf};
 ghost use Rattle.kmip_ttlv_reader.specs.Reads.{has_tag, names_tag, has_fields};
 ghost use Rattle.kmip_ttlv_reader.specs.Outcomes.{outcome, field_outcome, fields_outcome};
-ghost use Rattle.kmip_ttlv_reader.specs.Spots.{IsWithin, IsReadTo, at, wrapper_name, wrapped_leaf, optional_value};
+ghost use Rattle.kmip_ttlv_base.specs.Tags.{wrapper_name};
+ghost use Rattle.kmip_ttlv_reader.specs.Spots.{IsWithin, IsReadTo, at, wrapped_leaf, optional_value};
 
 use crate::cursor::{Cursor, is_tag};
 use crate::failure::Step;

@@ -1,5 +1,5 @@
 use Rattle.kmip_ttlv_base.specs.Values.{newtype_value}
-use Rattle.kmip_ttlv_reader.specs.Spots.{wrapper_name}
+use Rattle.kmip_ttlv_base.specs.Tags.{wrapper_name}
 use Rattle.kmip_ttlv_reader.proofs.{LeafLemmas.wrapped_is, Mapped.mapped_read}
 use Rattle.kmip_ttlv_reader.proofs.cursor.read_wrapped.Goals as goal
 

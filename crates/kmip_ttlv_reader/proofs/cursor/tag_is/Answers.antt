@@ -1,5 +1,5 @@
 use Rattle.std.proofs.Common.{rules}
-use Rattle.kmip_ttlv_reader.proofs.TagNames.{tag_of_number}
+use Rattle.kmip_ttlv_base.proofs.TagNames.{tag_of_number}
 use Rattle.kmip_ttlv_reader.proofs.cursor.tag_is.Goals as goal
 use Rattle.kmip_ttlv_reader.specs.Outcomes.{tag_wanted}
 

@@ -1,6 +1,0 @@
-pub mod Filling
-pub mod Fronts
-pub mod BySize
-pub mod Exact
-pub mod Stopping
-pub mod Leaving
