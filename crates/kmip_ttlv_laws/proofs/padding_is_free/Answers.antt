@@ -1,5 +1,0 @@
-use Rattle.kmip_ttlv_laws.proofs.Roots as roots
-use Rattle.kmip_ttlv_laws.proofs.padding_is_free.Goals as goal
-
-pub returns : goal.returns
-returns c = roots.padding_is_free

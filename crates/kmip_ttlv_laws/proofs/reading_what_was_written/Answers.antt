@@ -1,5 +1,0 @@
-use Rattle.kmip_ttlv_laws.proofs.Roots as roots
-use Rattle.kmip_ttlv_laws.proofs.reading_what_was_written.Goals as goal
-
-pub returns : goal.returns
-returns c = roots.reading_what_was_written
