@@ -94,7 +94,7 @@ impl<A: Allocator + Copy> reader::VariantOf<
     AttributeValue,
     A,
 > for AttributeValueAesRule {
-    #[tactic(auto, unfolding(kmip_ttlv_types::specs::Digits::six_digits, crate::specs::Attributes::read_attribute_value))]
+    #[tactic(auto, unfolding(crate::specs::Attributes::read_attribute_value))]
     fn from_content(_inner: AttributeValueAes) -> AttributeValue {
         AttributeValue::Aes
     }
@@ -148,7 +148,7 @@ impl reader::Rule for AttributeValueIntegerRule {
 
 impl<A: Allocator + Copy> reader::VariantOf<reader::BareLeaf<i32>, AttributeValue, A>
     for AttributeValueIntegerRule {
-    #[tactic(auto, unfolding(kmip_ttlv_types::specs::Digits::six_digits, crate::specs::Attributes::read_attribute_value))]
+    #[tactic(auto, unfolding(crate::specs::Attributes::read_attribute_value))]
     fn from_content(inner: i32) -> AttributeValue {
         AttributeValue::Integer(inner)
     }
@@ -171,7 +171,6 @@ impl<A: Allocator + Copy> reader::Choice<A> for AttributeValue {
         ),
     );
 
-    #[tactic(auto, unfolding(kmip_ttlv_types::specs::Digits::six_digits))]
     fn has_form() {}
 }
 
@@ -205,10 +204,10 @@ impl<B: Allocator> Serialize for Attribute<B> {
 
     #[tactic(auto, unfolding(crate::specs::Attributes::written_attribute))]
     fn visit<V: Visitor>(&self, visitor: &mut V) -> Result<(), AllocError> {
-        writing::begin_struct(visitor, "0x420008")?;
-        writing::string(visitor, "Transparent:0x42000A", &self.name)?;
+        writing::begin_structure(visitor, 0x420008)?;
+        writing::string(visitor, 0x42000A, &self.name)?;
         self.value.visit(visitor)?;
-        writing::end_struct(visitor, "0x420008")?;
+        writing::end_structure(visitor, 0x420008)?;
         Ok(())
     }
 }
@@ -231,10 +230,9 @@ impl<A: Allocator + Copy> reader::ReadStructure<A> for Attribute<A> {
 
     const DENIES_UNKNOWN: bool = false;
 
-    #[tactic(auto, unfolding(kmip_ttlv_types::specs::Digits::six_digits))]
     fn has_form() {}
 
-    #[tactic(auto, unfolding(kmip_ttlv_types::specs::Digits::six_digits, crate::specs::Attributes::read_attribute))]
+    #[tactic(auto, unfolding(crate::specs::Attributes::read_attribute))]
     fn from_fields(fields: (String<A>, AttributeValue)) -> Self {
         let (name, value) = fields;
         Attribute { name, value }
@@ -300,10 +298,9 @@ impl<A: Allocator + Copy> reader::ReadStructure<A> for Template<A> {
 
     const DENIES_UNKNOWN: bool = false;
 
-    #[tactic(auto, unfolding(kmip_ttlv_types::specs::Digits::six_digits))]
     fn has_form() {}
 
-    #[tactic(auto, unfolding(kmip_ttlv_types::specs::Digits::six_digits, crate::specs::Attributes::read_template))]
+    #[tactic(auto, unfolding(crate::specs::Attributes::read_template))]
     fn from_fields(fields: (Vec<Attribute<A>, A>,)) -> Self {
         let (attributes,) = fields;
         Template { attributes }

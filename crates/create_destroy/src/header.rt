@@ -7,7 +7,7 @@ ghost use Rattle.create_destroy.specs.Headers.{protocol_version_form, protocol_v
 use kmip_ttlv::messages::writing;
 use kmip_ttlv::reader;
 use kmip_ttlv::shape::Serialize;
-use kmip_ttlv::visit::Visitor;
+use kmip_ttlv::visit::{Leaf, Visitor};
 use std::alloc::{AllocError, Allocator};
 
 /// The version of the protocol (KMIP 1.0, section 6.1).
@@ -23,10 +23,10 @@ impl Serialize for ProtocolVersion {
     ghost stated = { protocol_version_value };
 
     fn visit<V: Visitor>(&self, visitor: &mut V) -> Result<(), AllocError> {
-        writing::begin_struct(visitor, "0x420069")?;
-        writing::integer(visitor, "Transparent:0x42006A", self.major)?;
-        writing::integer(visitor, "Transparent:0x42006B", self.minor)?;
-        writing::end_struct(visitor, "0x420069")?;
+        writing::begin_structure(visitor, 0x420069)?;
+        writing::tagged(visitor, 0x42006A, Leaf::I32(self.major))?;
+        writing::tagged(visitor, 0x42006B, Leaf::I32(self.minor))?;
+        writing::end_structure(visitor, 0x420069)?;
         Ok(())
     }
 }
@@ -46,10 +46,9 @@ impl<A: Allocator + Copy> reader::ReadStructure<A> for ProtocolVersion {
 
     const DENIES_UNKNOWN: bool = false;
 
-    #[tactic(auto, unfolding(kmip_ttlv_types::specs::Digits::six_digits))]
     fn has_form() {}
 
-    #[tactic(auto, unfolding(kmip_ttlv_types::specs::Digits::six_digits, crate::specs::Headers::protocol_version_value))]
+    #[tactic(auto, unfolding(crate::specs::Headers::protocol_version_value))]
     fn from_fields(fields: (i32, i32)) -> Self {
         let (major, minor) = fields;
         ProtocolVersion { major, minor }
@@ -89,10 +88,10 @@ impl Serialize for RequestHeader {
 
     #[tactic(auto, unfolding(crate::specs::Headers::request_header_value))]
     fn visit<V: Visitor>(&self, visitor: &mut V) -> Result<(), AllocError> {
-        writing::begin_struct(visitor, "0x420077")?;
+        writing::begin_structure(visitor, 0x420077)?;
         self.version.visit(visitor)?;
-        writing::integer(visitor, "Transparent:0x42000D", self.batch_count)?;
-        writing::end_struct(visitor, "0x420077")?;
+        writing::tagged(visitor, 0x42000D, Leaf::I32(self.batch_count))?;
+        writing::end_structure(visitor, 0x420077)?;
         Ok(())
     }
 }
@@ -112,10 +111,9 @@ impl<A: Allocator + Copy> reader::ReadStructure<A> for RequestHeader {
 
     const DENIES_UNKNOWN: bool = false;
 
-    #[tactic(auto, unfolding(kmip_ttlv_types::specs::Digits::six_digits))]
     fn has_form() {}
 
-    #[tactic(auto, unfolding(kmip_ttlv_types::specs::Digits::six_digits, crate::specs::Headers::request_header_value))]
+    #[tactic(auto, unfolding(crate::specs::Headers::request_header_value))]
     fn from_fields(fields: (ProtocolVersion, i32)) -> Self {
         let (version, batch_count) = fields;
         RequestHeader {
@@ -159,11 +157,11 @@ impl Serialize for ResponseHeader {
     ghost stated = { response_header_value };
 
     fn visit<V: Visitor>(&self, visitor: &mut V) -> Result<(), AllocError> {
-        writing::begin_struct(visitor, "0x42007A")?;
+        writing::begin_structure(visitor, 0x42007A)?;
         self.version.visit(visitor)?;
-        writing::date_time(visitor, "Transparent:0x420092", self.time_stamp)?;
-        writing::integer(visitor, "Transparent:0x42000D", self.batch_count)?;
-        writing::end_struct(visitor, "0x42007A")?;
+        writing::tagged(visitor, 0x420092, Leaf::DateTime(self.time_stamp))?;
+        writing::tagged(visitor, 0x42000D, Leaf::I32(self.batch_count))?;
+        writing::end_structure(visitor, 0x42007A)?;
         Ok(())
     }
 }
@@ -187,10 +185,9 @@ impl<A: Allocator + Copy> reader::ReadStructure<A> for ResponseHeader {
 
     const DENIES_UNKNOWN: bool = false;
 
-    #[tactic(auto, unfolding(kmip_ttlv_types::specs::Digits::six_digits))]
     fn has_form() {}
 
-    #[tactic(auto, unfolding(kmip_ttlv_types::specs::Digits::six_digits, crate::specs::Headers::response_header_value))]
+    #[tactic(auto, unfolding(crate::specs::Headers::response_header_value))]
     fn from_fields(fields: (ProtocolVersion, reader::DateTime, i32)) -> Self {
         let (version, time_stamp, batch_count) = fields;
         ResponseHeader {

@@ -61,7 +61,7 @@ impl<A: Allocator + Copy> reader::ReadItem<A> for Operation {
 
     ghost plain = { (refl, refl) };
 
-    #[tactic(auto, unfolding(kmip_ttlv_types::specs::Digits::six_digits, crate::specs::Operations::operation_value))]
+    #[tactic(auto, unfolding(crate::specs::Operations::operation_value))]
     fn read_item<'b>(
         scope: &reader::Scope<'b, A>,
         cursor: &mut reader::Cursor<'b, A>,

@@ -3,7 +3,8 @@
 
 ghost use Rattle.std.specs.Prelude.{◌≡◌, ◌↔◌, refl, IsTrue, OnErr, OnOk, codes, false, string_bytes};
 ghost use Rattle.kmip_ttlv.specs.Forms.{enum, no_variants, unit, variant};
-ghost use Rattle.kmip_ttlv.specs.Values.{newtype_value, text_value, unit_variant_value};
+ghost use Rattle.kmip_ttlv.specs.MessageParts.{tagged};
+ghost use Rattle.kmip_ttlv.specs.Values.{text_value, unit_variant_value};
 ghost use Rattle.kmip_ttlv.specs.Visits.{Receives};
 ghost use Rattle.create_destroy.specs.Headers.{request_header_value};
 ghost use Rattle.create_destroy.specs.Requests.{create_payload_form, written_create_payload, read_create_payload, destroy_payload_form, written_destroy_payload, read_destroy_payload, request_payload_form, written_request_payload, read_request_payload, ChoosesRequestPayload, request_item_form, written_request_item, read_request_item, request_form, written_request, read_request, request_header};
@@ -35,10 +36,10 @@ impl<A: Allocator> CreatePayload<A> {
         ensures received { OnOk result (Receives V.knows V.step (written_create_payload record { template = record { attributes = attributes.now } }) visitor.old visitor.new) }
         ensures stopped { OnErr result (V.stopped visitor.new) }
     {
-        writing::begin_struct(visitor, "0x420079")?;
+        writing::begin_structure(visitor, 0x420079)?;
         writing::unit_variant(visitor, "0x420057", "0x00000002")?;
         Template::send(visitor, attributes)?;
-        writing::end_struct(visitor, "0x420079")?;
+        writing::end_structure(visitor, 0x420079)?;
         Ok(())
     }
 }
@@ -61,10 +62,9 @@ impl<A: Allocator + Copy> reader::ReadStructure<A> for CreatePayload<A> {
 
     const DENIES_UNKNOWN: bool = false;
 
-    #[tactic(auto, unfolding(kmip_ttlv_types::specs::Digits::six_digits))]
     fn has_form() {}
 
-    #[tactic(auto, unfolding(kmip_ttlv_types::specs::Digits::six_digits, crate::specs::Requests::read_create_payload))]
+    #[tactic(auto, unfolding(crate::specs::Requests::read_create_payload))]
     fn from_fields(fields: (CreatePayloadObjectType, Template<A>)) -> Self {
         let (_, template) = fields;
         CreatePayload { template }
@@ -131,10 +131,10 @@ impl<A: Allocator> DestroyPayload<A> {
         visitor: &mut V,
         unique_identifier: &String<A>,
     ) -> Result<(), AllocError>
-        ensures received { OnOk result (Receives V.knows V.step (newtype_value (codes "Transparent:0x420094") (text_value (string_bytes unique_identifier.now))) visitor.old visitor.new) }
+        ensures received { OnOk result (Receives V.knows V.step (tagged 0x420094 (text_value (string_bytes unique_identifier.now))) visitor.old visitor.new) }
         ensures stopped { OnErr result (V.stopped visitor.new) }
     {
-        writing::string(visitor, "Transparent:0x420094", unique_identifier)?;
+        writing::string(visitor, 0x420094, unique_identifier)?;
         Ok(())
     }
 
@@ -169,10 +169,9 @@ impl<A: Allocator + Copy> reader::ReadStructure<A> for DestroyPayload<A> {
 
     const DENIES_UNKNOWN: bool = false;
 
-    #[tactic(auto, unfolding(kmip_ttlv_types::specs::Digits::six_digits))]
     fn has_form() {}
 
-    #[tactic(auto, unfolding(kmip_ttlv_types::specs::Digits::six_digits, crate::specs::Requests::read_destroy_payload))]
+    #[tactic(auto, unfolding(crate::specs::Requests::read_destroy_payload))]
     fn from_fields(fields: (String<A>,)) -> Self {
         let (unique_identifier,) = fields;
         DestroyPayload { unique_identifier }
@@ -259,7 +258,7 @@ impl<A: Allocator + Copy> reader::VariantOf<
     RequestPayload<A>,
     A,
 > for RequestPayloadCreateRule {
-    #[tactic(auto, unfolding(kmip_ttlv_types::specs::Digits::six_digits, crate::specs::Requests::read_request_payload, crate::specs::Requests::read_create_payload))]
+    #[tactic(auto, unfolding(crate::specs::Requests::read_request_payload, crate::specs::Requests::read_create_payload))]
     fn from_content(inner: CreatePayload<A>) -> RequestPayload<A> {
         RequestPayload::Create(inner.template.attributes)
     }
@@ -289,7 +288,7 @@ impl<A: Allocator + Copy> reader::VariantOf<
     RequestPayload<A>,
     A,
 > for RequestPayloadDestroyRule {
-    #[tactic(auto, unfolding(kmip_ttlv_types::specs::Digits::six_digits, crate::specs::Requests::read_request_payload, crate::specs::Requests::read_destroy_payload))]
+    #[tactic(auto, unfolding(crate::specs::Requests::read_request_payload, crate::specs::Requests::read_destroy_payload))]
     fn from_content(inner: DestroyPayload<A>) -> RequestPayload<A> {
         RequestPayload::Destroy(inner.unique_identifier)
     }
@@ -312,7 +311,6 @@ impl<A: Allocator + Copy> reader::Choice<A> for RequestPayload<A> {
         ),
     );
 
-    #[tactic(auto, unfolding(kmip_ttlv_types::specs::Digits::six_digits))]
     fn has_form() {}
 }
 
@@ -346,10 +344,10 @@ impl<B: Allocator> Serialize for RequestItem<B> {
 
     #[tactic(auto, unfolding(crate::specs::Requests::written_request_item))]
     fn visit<V: Visitor>(&self, visitor: &mut V) -> Result<(), AllocError> {
-        writing::begin_struct(visitor, "0x42000F")?;
+        writing::begin_structure(visitor, 0x42000F)?;
         self.operation.visit(visitor)?;
         self.payload.visit(visitor)?;
-        writing::end_struct(visitor, "0x42000F")?;
+        writing::end_structure(visitor, 0x42000F)?;
         Ok(())
     }
 }
@@ -372,10 +370,9 @@ impl<A: Allocator + Copy> reader::ReadStructure<A> for RequestItem<A> {
 
     const DENIES_UNKNOWN: bool = false;
 
-    #[tactic(auto, unfolding(kmip_ttlv_types::specs::Digits::six_digits))]
     fn has_form() {}
 
-    #[tactic(auto, unfolding(kmip_ttlv_types::specs::Digits::six_digits, crate::specs::Requests::read_request_item))]
+    #[tactic(auto, unfolding(crate::specs::Requests::read_request_item))]
     fn from_fields(fields: (Operation, RequestPayload<A>)) -> Self {
         let (operation, payload) = fields;
         RequestItem { operation, payload }
@@ -457,10 +454,10 @@ impl<B: Allocator> Serialize for Request<B> {
 
     #[tactic(auto, unfolding(crate::specs::Requests::written_request))]
     fn visit<V: Visitor>(&self, visitor: &mut V) -> Result<(), AllocError> {
-        writing::begin_struct(visitor, "0x420078")?;
+        writing::begin_structure(visitor, 0x420078)?;
         self.send_header(visitor)?;
         writing::several(visitor, &self.items)?;
-        writing::end_struct(visitor, "0x420078")?;
+        writing::end_structure(visitor, 0x420078)?;
         Ok(())
     }
 }
@@ -483,10 +480,9 @@ impl<A: Allocator + Copy> reader::ReadStructure<A> for Request<A> {
 
     const DENIES_UNKNOWN: bool = false;
 
-    #[tactic(auto, unfolding(kmip_ttlv_types::specs::Digits::six_digits))]
     fn has_form() {}
 
-    #[tactic(auto, unfolding(kmip_ttlv_types::specs::Digits::six_digits, crate::specs::Requests::read_request))]
+    #[tactic(auto, unfolding(crate::specs::Requests::read_request))]
     fn from_fields(fields: (RequestHeader, Vec<RequestItem<A>, A>)) -> Self {
         let (header, items) = fields;
         Request::with_header(header, items)

@@ -3,7 +3,8 @@
 
 ghost use Rattle.std.specs.Prelude.{◌≡◌, ◌↔◌, refl, IsTrue, OnErr, OnOk, codes, false, string_bytes};
 ghost use Rattle.kmip_ttlv.specs.Forms.{enum, no_variants, unit, variant};
-ghost use Rattle.kmip_ttlv.specs.Values.{newtype_value, text_value, unit_variant_value};
+ghost use Rattle.kmip_ttlv.specs.MessageParts.{tagged};
+ghost use Rattle.kmip_ttlv.specs.Values.{text_value, unit_variant_value};
 ghost use Rattle.kmip_ttlv.specs.Visits.{Receives};
 ghost use Rattle.create_destroy.specs.Headers.{response_header_value};
 ghost use Rattle.create_destroy.specs.Responses.{created_form, created_value, destroyed_form, destroyed_value, response_payload_form, written_response_payload, read_response_payload, ChoosesResponsePayload, response_item_form, written_response_item, read_response_item, response_form, written_response, read_response, response_header};
@@ -30,10 +31,10 @@ impl<A: Allocator> Created<A> {
         visitor: &mut V,
         unique_identifier: &String<A>,
     ) -> Result<(), AllocError>
-        ensures received { OnOk result (Receives V.knows V.step (newtype_value (codes "Transparent:0x420094") (text_value (string_bytes unique_identifier.now))) visitor.old visitor.new) }
+        ensures received { OnOk result (Receives V.knows V.step (tagged 0x420094 (text_value (string_bytes unique_identifier.now))) visitor.old visitor.new) }
         ensures stopped { OnErr result (V.stopped visitor.new) }
     {
-        writing::string(visitor, "Transparent:0x420094", unique_identifier)?;
+        writing::string(visitor, 0x420094, unique_identifier)?;
         Ok(())
     }
 
@@ -46,10 +47,10 @@ impl<A: Allocator> Created<A> {
         ensures received { OnOk result (Receives V.knows V.step (created_value record { unique_identifier = unique_identifier.now }) visitor.old visitor.new) }
         ensures stopped { OnErr result (V.stopped visitor.new) }
     {
-        writing::begin_struct(visitor, "0x42007C")?;
+        writing::begin_structure(visitor, 0x42007C)?;
         writing::unit_variant(visitor, "0x420057", "0x00000002")?;
         Self::send_inner(visitor, unique_identifier)?;
-        writing::end_struct(visitor, "0x42007C")?;
+        writing::end_structure(visitor, 0x42007C)?;
         Ok(())
     }
 }
@@ -72,10 +73,9 @@ impl<A: Allocator + Copy> reader::ReadStructure<A> for Created<A> {
 
     const DENIES_UNKNOWN: bool = false;
 
-    #[tactic(auto, unfolding(kmip_ttlv_types::specs::Digits::six_digits))]
     fn has_form() {}
 
-    #[tactic(auto, unfolding(kmip_ttlv_types::specs::Digits::six_digits, crate::specs::Responses::created_value))]
+    #[tactic(auto, unfolding(crate::specs::Responses::created_value))]
     fn from_fields(fields: (CreatedObjectType, String<A>)) -> Self {
         let (_, unique_identifier) = fields;
         Created { unique_identifier }
@@ -142,10 +142,10 @@ impl<A: Allocator> Destroyed<A> {
         visitor: &mut V,
         unique_identifier: &String<A>,
     ) -> Result<(), AllocError>
-        ensures received { OnOk result (Receives V.knows V.step (newtype_value (codes "Transparent:0x420094") (text_value (string_bytes unique_identifier.now))) visitor.old visitor.new) }
+        ensures received { OnOk result (Receives V.knows V.step (tagged 0x420094 (text_value (string_bytes unique_identifier.now))) visitor.old visitor.new) }
         ensures stopped { OnErr result (V.stopped visitor.new) }
     {
-        writing::string(visitor, "Transparent:0x420094", unique_identifier)?;
+        writing::string(visitor, 0x420094, unique_identifier)?;
         Ok(())
     }
 
@@ -158,9 +158,9 @@ impl<A: Allocator> Destroyed<A> {
         ensures received { OnOk result (Receives V.knows V.step (destroyed_value record { unique_identifier = unique_identifier.now }) visitor.old visitor.new) }
         ensures stopped { OnErr result (V.stopped visitor.new) }
     {
-        writing::begin_struct(visitor, "0x42007C")?;
+        writing::begin_structure(visitor, 0x42007C)?;
         Self::send_inner(visitor, unique_identifier)?;
-        writing::end_struct(visitor, "0x42007C")?;
+        writing::end_structure(visitor, 0x42007C)?;
         Ok(())
     }
 }
@@ -180,10 +180,9 @@ impl<A: Allocator + Copy> reader::ReadStructure<A> for Destroyed<A> {
 
     const DENIES_UNKNOWN: bool = false;
 
-    #[tactic(auto, unfolding(kmip_ttlv_types::specs::Digits::six_digits))]
     fn has_form() {}
 
-    #[tactic(auto, unfolding(kmip_ttlv_types::specs::Digits::six_digits, crate::specs::Responses::destroyed_value))]
+    #[tactic(auto, unfolding(crate::specs::Responses::destroyed_value))]
     fn from_fields(fields: (String<A>,)) -> Self {
         let (unique_identifier,) = fields;
         Destroyed { unique_identifier }
@@ -270,7 +269,7 @@ impl<A: Allocator + Copy> reader::VariantOf<
     ResponsePayload<A>,
     A,
 > for ResponsePayloadCreateRule {
-    #[tactic(auto, unfolding(kmip_ttlv_types::specs::Digits::six_digits, crate::specs::Responses::read_response_payload, crate::specs::Responses::created_value))]
+    #[tactic(auto, unfolding(crate::specs::Responses::read_response_payload, crate::specs::Responses::created_value))]
     fn from_content(inner: Created<A>) -> ResponsePayload<A> {
         ResponsePayload::Create(inner.unique_identifier)
     }
@@ -300,7 +299,7 @@ impl<A: Allocator + Copy> reader::VariantOf<
     ResponsePayload<A>,
     A,
 > for ResponsePayloadDestroyRule {
-    #[tactic(auto, unfolding(kmip_ttlv_types::specs::Digits::six_digits, crate::specs::Responses::read_response_payload, crate::specs::Responses::destroyed_value))]
+    #[tactic(auto, unfolding(crate::specs::Responses::read_response_payload, crate::specs::Responses::destroyed_value))]
     fn from_content(inner: Destroyed<A>) -> ResponsePayload<A> {
         ResponsePayload::Destroy(inner.unique_identifier)
     }
@@ -323,7 +322,6 @@ impl<A: Allocator + Copy> reader::Choice<A> for ResponsePayload<A> {
         ),
     );
 
-    #[tactic(auto, unfolding(kmip_ttlv_types::specs::Digits::six_digits))]
     fn has_form() {}
 }
 
@@ -356,11 +354,11 @@ impl<B: Allocator> Serialize for ResponseItem<B> {
     ghost stated = { written_response_item };
 
     fn visit<V: Visitor>(&self, visitor: &mut V) -> Result<(), AllocError> {
-        writing::begin_struct(visitor, "0x42000F")?;
+        writing::begin_structure(visitor, 0x42000F)?;
         self.operation.visit(visitor)?;
         writing::unit_variant(visitor, "0x42007F", "0x00000000")?;
         self.payload.visit(visitor)?;
-        writing::end_struct(visitor, "0x42000F")?;
+        writing::end_structure(visitor, 0x42000F)?;
         Ok(())
     }
 }
@@ -384,10 +382,9 @@ impl<A: Allocator + Copy> reader::ReadStructure<A> for ResponseItem<A> {
 
     const DENIES_UNKNOWN: bool = false;
 
-    #[tactic(auto, unfolding(kmip_ttlv_types::specs::Digits::six_digits))]
     fn has_form() {}
 
-    #[tactic(auto, unfolding(kmip_ttlv_types::specs::Digits::six_digits, crate::specs::Responses::read_response_item))]
+    #[tactic(auto, unfolding(crate::specs::Responses::read_response_item))]
     fn from_fields(fields: (Operation, ResponseItemResultStatus, ResponsePayload<A>)) -> Self {
         let (operation, _, payload) = fields;
         ResponseItem { operation, payload }
@@ -500,10 +497,10 @@ impl<B: Allocator> Serialize for Response<B> {
 
     #[tactic(auto, unfolding(crate::specs::Responses::written_response))]
     fn visit<V: Visitor>(&self, visitor: &mut V) -> Result<(), AllocError> {
-        writing::begin_struct(visitor, "0x42007B")?;
+        writing::begin_structure(visitor, 0x42007B)?;
         self.send_header(visitor)?;
         writing::several(visitor, &self.items)?;
-        writing::end_struct(visitor, "0x42007B")?;
+        writing::end_structure(visitor, 0x42007B)?;
         Ok(())
     }
 }
@@ -526,10 +523,9 @@ impl<A: Allocator + Copy> reader::ReadStructure<A> for Response<A> {
 
     const DENIES_UNKNOWN: bool = false;
 
-    #[tactic(auto, unfolding(kmip_ttlv_types::specs::Digits::six_digits))]
     fn has_form() {}
 
-    #[tactic(auto, unfolding(kmip_ttlv_types::specs::Digits::six_digits, crate::specs::Responses::read_response))]
+    #[tactic(auto, unfolding(crate::specs::Responses::read_response))]
     fn from_fields(fields: (ResponseHeader, Vec<ResponseItem<A>, A>)) -> Self {
         let (header, items) = fields;
         Response::with_header(header, items)

@@ -1,11 +1,11 @@
 //! The client's half: a request that is encoded, and what its response says.
 
-use kmip_messages::header::{Operation, ProtocolVersion, RequestHeader};
+use kmip_messages::header::{Operation, ProtocolVersion, RequestHeader, operation};
 use kmip_messages::request::{Request, RequestItem};
 use kmip_messages::request_payload::{
-    DiscoverVersionsRequest, ObjectRequest, QueryFunction, QueryRequest, RequestPayload,
+    DiscoverVersionsRequest, ObjectRequest, QueryRequest, RequestPayload, query_function,
 };
-use kmip_messages::response::{Response, ResponseItem};
+use kmip_messages::response::{Response, ResponseItem, result_reason, result_status};
 use kmip_messages::response_payload::ResponsePayload;
 use kmip_ttlv::error::Error;
 use kmip_ttlv::{from_slice, to_vec};
@@ -29,32 +29,33 @@ fn item(
 /// The bytes of a request: what the server can do, which versions it has, and that an object be destroyed.
 pub fn request(alloc: Global) -> Result<Vec<u8>, Error> {
     let mut functions = Vec::new(alloc);
-    functions.push(QueryFunction::QueryOperations)?;
+    functions.push(query_function::QUERY_OPERATIONS)?;
     let query = RequestPayload::Query(QueryRequest { functions });
     let versions = Vec::new(alloc);
     let discover = RequestPayload::DiscoverVersions(DiscoverVersionsRequest { versions });
     let unique_identifier = Some("1".to_string(alloc)?);
     let destroy = RequestPayload::Destroy(ObjectRequest { unique_identifier });
     let mut items = Vec::new(alloc);
-    items.push(item(alloc, 1, Operation::Query, query)?)?;
-    items.push(item(alloc, 2, Operation::DiscoverVersions, discover)?)?;
-    items.push(item(alloc, 3, Operation::Destroy, destroy)?)?;
+    items.push(item(alloc, 1, operation::QUERY, query)?)?;
+    items.push(item(alloc, 2, operation::DISCOVER_VERSIONS, discover)?)?;
+    items.push(item(alloc, 3, operation::DESTROY, destroy)?)?;
     let header = RequestHeader::new(ProtocolVersion { major: 1, minor: 0 }, 3);
     to_vec(alloc, &Request { header, items })
 }
 
 // What an item says.
 fn said(alloc: Global, item: &ResponseItem) -> Result<String, AllocError> {
-    let status = item.result_status;
-    match (&item.payload, item.result_reason) {
-        (Some(ResponsePayload::Query(query)), _) => {
-            format!(in alloc; "{status:?}: {} operations", query.operations.len())
+    match (item.result_status, &item.payload, item.result_reason) {
+        (result_status::SUCCESS, Some(ResponsePayload::Query(query)), _) => {
+            format!(in alloc; "Success: {} operations", query.operations.len())
         }
-        (Some(ResponsePayload::DiscoverVersions(found)), _) => {
-            format!(in alloc; "{status:?}: {} versions", found.versions.len())
+        (result_status::SUCCESS, Some(ResponsePayload::DiscoverVersions(found)), _) => {
+            format!(in alloc; "Success: {} versions", found.versions.len())
         }
-        (_, Some(reason)) => format!(in alloc; "{status:?}: {reason:?}"),
-        _ => format!(in alloc; "{status:?}"),
+        (result_status::OPERATION_FAILED, _, Some(result_reason::OPERATION_NOT_SUPPORTED)) => {
+            format!(in alloc; "OperationFailed: OperationNotSupported")
+        }
+        (status, _, reason) => format!(in alloc; "{status:?}: {reason:?}"),
     }
 }
 

@@ -6,10 +6,10 @@
 
 ghost use Rattle.std.specs.Prelude.{◌≡◌, IfOk, length};
 
-use kmip_messages::header::{Operation, ProtocolVersion, ResponseHeader};
+use kmip_messages::header::{Operation, ProtocolVersion, ResponseHeader, operation};
 use kmip_messages::request::{Request, RequestItem};
 use kmip_messages::request_payload::RequestPayload;
-use kmip_messages::response::{Response, ResponseItem, ResultReason, ResultStatus};
+use kmip_messages::response::{Response, ResponseItem, ResultReason, result_reason, result_status};
 use kmip_messages::response_payload::{DiscoverVersionsResponse, QueryResponse, ResponsePayload};
 use kmip_ttlv::error::{Error, ErrorKind};
 use kmip_ttlv::items::find_fault;
@@ -30,8 +30,8 @@ fn item<A: Allocator + Copy>(
     done: Result<ResponsePayload<A>, ResultReason>,
 ) -> ResponseItem<A> {
     let (result_status, result_reason, payload) = match done {
-        Ok(payload) => (ResultStatus::Success, None, Some(payload)),
-        Err(reason) => (ResultStatus::OperationFailed, Some(reason), None),
+        Ok(payload) => (result_status::SUCCESS, None, Some(payload)),
+        Err(reason) => (result_status::OPERATION_FAILED, Some(reason), None),
     };
     ResponseItem {
         operation,
@@ -59,8 +59,8 @@ fn copied<A: Allocator + Copy>(
 // What the server can do.
 fn abilities<A: Allocator + Copy>(alloc: A) -> Result<QueryResponse<A>, AllocError> {
     let mut operations = Vec::new(alloc);
-    operations.push(Operation::Query)?;
-    operations.push(Operation::DiscoverVersions)?;
+    operations.push(operation::QUERY)?;
+    operations.push(operation::DISCOVER_VERSIONS)?;
     Ok(QueryResponse {
         operations,
         object_types: Vec::new(alloc),
@@ -82,7 +82,7 @@ fn done<A: Allocator + Copy>(
             let versions = DiscoverVersionsResponse { versions };
             Ok(Ok(ResponsePayload::DiscoverVersions(versions)))
         }
-        _ => Ok(Err(ResultReason::OperationNotSupported)),
+        _ => Ok(Err(result_reason::OPERATION_NOT_SUPPORTED)),
     }
 }
 
@@ -105,7 +105,7 @@ pub fn respond<A: Allocator + Copy>(
 ) -> Result<Response<A>, AllocError> {
     let mut items = Vec::new(alloc);
     if !request.is_consistent() {
-        items.push(item(None, None, Err(ResultReason::InvalidMessage)))?;
+        items.push(item(None, None, Err(result_reason::INVALID_MESSAGE)))?;
         return Ok(response(items));
     }
     for asked in &request.items {
@@ -119,7 +119,7 @@ pub fn respond<A: Allocator + Copy>(
 /// The response to bytes that are no request.
 pub fn refuse<A: Allocator + Copy>(alloc: A) -> Result<Response<A>, AllocError> {
     let mut items = Vec::new(alloc);
-    items.push(item(None, None, Err(ResultReason::InvalidMessage)))?;
+    items.push(item(None, None, Err(result_reason::INVALID_MESSAGE)))?;
     Ok(response(items))
 }
 

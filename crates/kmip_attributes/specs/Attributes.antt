@@ -1,14 +1,17 @@
 -- Written by codegen from types.table: change that, and run codegen/codegen.
 -- Forms and values of the types in `attribute`.
-use Rattle.kmip_ttlv.specs.Forms.{Form, Variants, any_number, big_integer, boolean, date_time, enum, field, int32, int64, interval, newtype, no_fields}
-use Rattle.kmip_ttlv.specs.Forms.{no_variants, octets, option, struct, text, variant, wrapped}
-use Rattle.kmip_ttlv.specs.MessageParts.{optional}
-use Rattle.kmip_ttlv.specs.Returns.{IsNoneOf}
-use Rattle.kmip_ttlv.specs.Values.{Value, big_integer_value, boolean_value, bytes_value, date_time_value, i32_value, i64_value, interval_value, newtype_value}
-use Rattle.kmip_ttlv.specs.Values.{newtype_variant_value, no_values, struct_value, text_value, u32_value, value}
-use Rattle.kmip_ttlv.specs.Visits.{joined}
+use Rattle.kmip_ttlv_parts.specs.Digits.{tag_text}
+use Rattle.kmip_ttlv_parts.specs.Enumerations.{enumeration_value}
+use Rattle.kmip_ttlv_parts.specs.Forms.{Form, Variants, any_number, big_integer, boolean, date_time, enum, field, int32, int64, interval, no_fields}
+use Rattle.kmip_ttlv_parts.specs.Forms.{no_variants, octets, option, struct, text, variant, wrapped}
+use Rattle.kmip_ttlv_parts.specs.MessageParts.{optional, tagged}
+use Rattle.kmip_ttlv_parts.specs.Returns.{IsNoneOf}
+use Rattle.kmip_ttlv_parts.specs.Spots.{wrapped_leaf}
+use Rattle.kmip_ttlv_parts.specs.Values.{Value, big_integer_value, boolean_value, bytes_value, date_time_value, i32_value, i64_value, interval_value}
+use Rattle.kmip_ttlv_parts.specs.Values.{newtype_variant_value, no_values, struct_value, text_value, u32_value, value}
+use Rattle.kmip_ttlv_parts.specs.Visits.{joined}
 use Rattle.std.specs.Prelude.{List, [], codes, option_map, string_bytes, true, ℕ, ◌∷◌, ◌≡◌}
-use Rattle.kmip_ttlv.specs.Visits as visits
+use Rattle.kmip_ttlv_parts.specs.Visits as visits
 use Rattle.kmip_attributes.specs.declared.attribute.{AttributeName.AttributeName, AttributeIndex.AttributeIndex, IntegerValue.IntegerValue}
 use Rattle.kmip_attributes.specs.declared.attribute.{LongIntegerValue.LongIntegerValue, BigIntegerValue.BigIntegerValue, EnumerationValue.EnumerationValue}
 use Rattle.kmip_attributes.specs.declared.attribute.{BooleanValue.BooleanValue, TextStringValue.TextStringValue, ByteStringValue.ByteStringValue}
@@ -16,167 +19,140 @@ use Rattle.kmip_attributes.specs.declared.attribute.{DateTimeValue.DateTimeValue
 use Rattle.kmip_attributes.specs.declared.attribute.{AttributeValue.AttributeValue, Attribute.Attribute}
 use Rattle.kmip_attributes.specs.declared.attribute.AttributeStructure.TheVariants as attribute_structure
 use Rattle.kmip_attributes.specs.declared.attribute.AttributeValue.TheVariants as attribute_value
-use Rattle.kmip_attributes.specs.Values.{object_type_form, written_object_type, read_object_type, cryptographic_algorithm_form, written_cryptographic_algorithm}
-use Rattle.kmip_attributes.specs.Values.{read_cryptographic_algorithm, certificate_type_form, written_certificate_type, read_certificate_type, state_form}
-use Rattle.kmip_attributes.specs.Values.{written_state, read_state}
-use Rattle.kmip_attributes.specs.Structures.{name_form, written_name, read_name, returned_name, cryptographic_parameters_form, written_cryptographic_parameters}
-use Rattle.kmip_attributes.specs.Structures.{read_cryptographic_parameters, returned_cryptographic_parameters, cryptographic_domain_parameters_form}
-use Rattle.kmip_attributes.specs.Structures.{written_cryptographic_domain_parameters, read_cryptographic_domain_parameters}
-use Rattle.kmip_attributes.specs.Structures.{returned_cryptographic_domain_parameters, certificate_identifier_form, written_certificate_identifier}
+use Rattle.kmip_attributes.specs.Structures.{name_form, name_value, cryptographic_parameters_form, written_cryptographic_parameters}
+use Rattle.kmip_attributes.specs.Structures.{read_cryptographic_parameters, cryptographic_domain_parameters_form, written_cryptographic_domain_parameters}
+use Rattle.kmip_attributes.specs.Structures.{read_cryptographic_domain_parameters, certificate_identifier_form, written_certificate_identifier}
 use Rattle.kmip_attributes.specs.Structures.{read_certificate_identifier, certificate_subject_form, written_certificate_subject, read_certificate_subject}
 use Rattle.kmip_attributes.specs.Structures.{certificate_issuer_form, written_certificate_issuer, read_certificate_issuer, digest_form, written_digest}
-use Rattle.kmip_attributes.specs.Structures.{read_digest, returned_digest, usage_limits_form, written_usage_limits, read_usage_limits, returned_usage_limits}
-use Rattle.kmip_attributes.specs.Structures.{revocation_reason_form, written_revocation_reason, read_revocation_reason, returned_revocation_reason, link_form}
-use Rattle.kmip_attributes.specs.Structures.{written_link, read_link, returned_link, application_specific_information_form}
+use Rattle.kmip_attributes.specs.Structures.{read_digest, usage_limits_form, written_usage_limits, read_usage_limits, revocation_reason_form}
+use Rattle.kmip_attributes.specs.Structures.{written_revocation_reason, read_revocation_reason, link_form, link_value, application_specific_information_form}
 use Rattle.kmip_attributes.specs.Structures.{application_specific_information_value}
 
 -- the form of a `AttributeName`
 abbrev pub attribute_name_form : Form
-attribute_name_form = (newtype (codes "Transparent:0x42000A") text)
+attribute_name_form = (wrapped_leaf 0x42000A text)
 
 -- the value of a `AttributeName`
 abbrev pub attribute_name_value : {A : Type 0} → AttributeName A → Value
-attribute_name_value x = newtype_value (codes "Transparent:0x42000A") (text_value (string_bytes x.text))
+attribute_name_value x = tagged 0x42000A (text_value (string_bytes x.text))
 
 -- the form of a `AttributeIndex`
 abbrev pub attribute_index_form : Form
-attribute_index_form = (newtype (codes "Transparent:0x420009") int32)
+attribute_index_form = (wrapped_leaf 0x420009 int32)
 
 -- the value of a `AttributeIndex`
 abbrev pub attribute_index_value : AttributeIndex → Value
-attribute_index_value x = newtype_value (codes "Transparent:0x420009") (i32_value x.index)
+attribute_index_value x = tagged 0x420009 (i32_value x.index)
 
 -- the form of a `IntegerValue`
 abbrev pub integer_value_form : Form
-integer_value_form = (newtype (codes "Transparent:0x42000B") int32)
+integer_value_form = (wrapped_leaf 0x42000B int32)
 
 -- the value of a `IntegerValue`
 abbrev pub integer_value_value : IntegerValue → Value
-integer_value_value x = newtype_value (codes "Transparent:0x42000B") (i32_value x.value)
+integer_value_value x = tagged 0x42000B (i32_value x.value)
 
 -- the form of a `LongIntegerValue`
 abbrev pub long_integer_value_form : Form
-long_integer_value_form = (newtype (codes "Transparent:0x42000B") int64)
+long_integer_value_form = (wrapped_leaf 0x42000B int64)
 
 -- the value of a `LongIntegerValue`
 abbrev pub long_integer_value_value : LongIntegerValue → Value
-long_integer_value_value x = newtype_value (codes "Transparent:0x42000B") (i64_value x.value)
+long_integer_value_value x = tagged 0x42000B (i64_value x.value)
 
 -- the form of a `BigIntegerValue`
 abbrev pub big_integer_value_form : Form
-big_integer_value_form = (newtype (codes "Transparent:0x42000B") big_integer)
+big_integer_value_form = (wrapped_leaf 0x42000B big_integer)
 
 -- the value of a `BigIntegerValue`
 abbrev pub big_integer_value_value : {A : Type 0} → BigIntegerValue A → Value
-big_integer_value_value x = newtype_value (codes "Transparent:0x42000B") (big_integer_value x.bytes.items)
+big_integer_value_value x = tagged 0x42000B (big_integer_value x.bytes.items)
 
 -- the form of a `EnumerationValue`
 abbrev pub enumeration_value_form : Form
-enumeration_value_form = (newtype (codes "Transparent:0x42000B") any_number)
+enumeration_value_form = (wrapped_leaf 0x42000B any_number)
 
 -- the value of a `EnumerationValue`
 abbrev pub enumeration_value_value : EnumerationValue → Value
-enumeration_value_value x = newtype_value (codes "Transparent:0x42000B") (u32_value x.number)
+enumeration_value_value x = tagged 0x42000B (u32_value x.number)
 
 -- the form of a `BooleanValue`
 abbrev pub boolean_value_form : Form
-boolean_value_form = (newtype (codes "Transparent:0x42000B") boolean)
+boolean_value_form = (wrapped_leaf 0x42000B boolean)
 
 -- the value of a `BooleanValue`
 abbrev pub boolean_value_value : BooleanValue → Value
-boolean_value_value x = newtype_value (codes "Transparent:0x42000B") (boolean_value x.value)
+boolean_value_value x = tagged 0x42000B (boolean_value x.value)
 
 -- the form of a `TextStringValue`
 abbrev pub text_string_value_form : Form
-text_string_value_form = (newtype (codes "Transparent:0x42000B") text)
+text_string_value_form = (wrapped_leaf 0x42000B text)
 
 -- the value of a `TextStringValue`
 abbrev pub text_string_value_value : {A : Type 0} → TextStringValue A → Value
-text_string_value_value x = newtype_value (codes "Transparent:0x42000B") (text_value (string_bytes x.text))
+text_string_value_value x = tagged 0x42000B (text_value (string_bytes x.text))
 
 -- the form of a `ByteStringValue`
 abbrev pub byte_string_value_form : Form
-byte_string_value_form = (newtype (codes "Transparent:0x42000B") octets)
+byte_string_value_form = (wrapped_leaf 0x42000B octets)
 
 -- the value of a `ByteStringValue`
 abbrev pub byte_string_value_value : {A : Type 0} → ByteStringValue A → Value
-byte_string_value_value x = newtype_value (codes "Transparent:0x42000B") (bytes_value x.bytes.items)
+byte_string_value_value x = tagged 0x42000B (bytes_value x.bytes.items)
 
 -- the form of a `DateTimeValue`
 abbrev pub date_time_value_form : Form
-date_time_value_form = (newtype (codes "Transparent:0x42000B") date_time)
+date_time_value_form = (wrapped_leaf 0x42000B date_time)
 
 -- the value of a `DateTimeValue`
 abbrev pub date_time_value_value : DateTimeValue → Value
-date_time_value_value x = newtype_value (codes "Transparent:0x42000B") (date_time_value x.seconds)
+date_time_value_value x = tagged 0x42000B (date_time_value x.seconds)
 
 -- the form of a `IntervalValue`
 abbrev pub interval_value_form : Form
-interval_value_form = (newtype (codes "Transparent:0x42000B") interval)
+interval_value_form = (wrapped_leaf 0x42000B interval)
 
 -- the value of a `IntervalValue`
 abbrev pub interval_value_value : IntervalValue → Value
-interval_value_value x = newtype_value (codes "Transparent:0x42000B") (interval_value x.seconds)
+interval_value_value x = tagged 0x42000B (interval_value x.seconds)
 
 -- the variants of a `AttributeStructure` from `RevocationReason` on
 abbrev pub attribute_structure_variants_8 : Variants
 attribute_structure_variants_8 =
-    variant (codes "if 0x42000A==Revocation Reason") (wrapped
-    revocation_reason_form) (
-    variant (codes "if 0x42000A==Link") (wrapped
-    link_form) (
-    variant (codes "if 0x42000A==Application Specific Information") (wrapped
-    application_specific_information_form) no_variants))
+    variant (codes "if 0x42000A==Revocation Reason") (wrapped revocation_reason_form) (
+    variant (codes "if 0x42000A==Link") (wrapped link_form) (
+    variant (codes "if 0x42000A==Application Specific Information") (wrapped application_specific_information_form) no_variants))
 
 -- the variants of a `AttributeStructure` from `CertificateSubject` on
 abbrev pub attribute_structure_variants_4 : Variants
 attribute_structure_variants_4 =
-    variant (codes "if 0x42000A==Certificate Subject") (wrapped
-    certificate_subject_form) (
-    variant (codes "if 0x42000A==Certificate Issuer") (wrapped
-    certificate_issuer_form) (
-    variant (codes "if 0x42000A==Digest") (wrapped
-    digest_form) (
-    variant (codes "if 0x42000A==Usage Limits") (wrapped
-    usage_limits_form) attribute_structure_variants_8)))
+    variant (codes "if 0x42000A==Certificate Subject") (wrapped certificate_subject_form) (
+    variant (codes "if 0x42000A==Certificate Issuer") (wrapped certificate_issuer_form) (
+    variant (codes "if 0x42000A==Digest") (wrapped digest_form) (
+    variant (codes "if 0x42000A==Usage Limits") (wrapped usage_limits_form) attribute_structure_variants_8)))
 
 -- the form of a `AttributeStructure`
 abbrev pub attribute_structure_form : Form
 attribute_structure_form =
     enum (codes "structure") (
-    variant (codes "if 0x42000A==Name") (wrapped
-    name_form) (
-    variant (codes "if 0x42000A==Cryptographic Parameters") (wrapped
-    cryptographic_parameters_form) (
-    variant (codes "if 0x42000A==Cryptographic Domain Parameters") (wrapped
-    cryptographic_domain_parameters_form) (
-    variant (codes "if 0x42000A==Certificate Identifier") (wrapped
-    certificate_identifier_form) attribute_structure_variants_4))))
+    variant (codes "if 0x42000A==Name") (wrapped name_form) (
+    variant (codes "if 0x42000A==Cryptographic Parameters") (wrapped cryptographic_parameters_form) (
+    variant (codes "if 0x42000A==Cryptographic Domain Parameters") (wrapped cryptographic_domain_parameters_form) (
+    variant (codes "if 0x42000A==Certificate Identifier") (wrapped certificate_identifier_form) attribute_structure_variants_4))))
 
 -- what a `AttributeStructure` holds, as it is written
 unfoldable pub attribute_structure_content : {A : Type 0} → AttributeStructure A → Value
-attribute_structure_content (attribute_structure.Name x) =
-    written_name x
-attribute_structure_content (attribute_structure.CryptographicParameters x) =
-    written_cryptographic_parameters x
-attribute_structure_content (attribute_structure.CryptographicDomainParameters x) =
-    written_cryptographic_domain_parameters x
-attribute_structure_content (attribute_structure.CertificateIdentifier x) =
-    written_certificate_identifier x
-attribute_structure_content (attribute_structure.CertificateSubject x) =
-    written_certificate_subject x
-attribute_structure_content (attribute_structure.CertificateIssuer x) =
-    written_certificate_issuer x
-attribute_structure_content (attribute_structure.Digest x) =
-    written_digest x
-attribute_structure_content (attribute_structure.UsageLimits x) =
-    written_usage_limits x
-attribute_structure_content (attribute_structure.RevocationReason x) =
-    written_revocation_reason x
-attribute_structure_content (attribute_structure.Link x) =
-    written_link x
-attribute_structure_content (attribute_structure.ApplicationSpecificInformation x) =
-    application_specific_information_value x
+attribute_structure_content (attribute_structure.Name x) = name_value x
+attribute_structure_content (attribute_structure.CryptographicParameters x) = written_cryptographic_parameters x
+attribute_structure_content (attribute_structure.CryptographicDomainParameters x) = written_cryptographic_domain_parameters x
+attribute_structure_content (attribute_structure.CertificateIdentifier x) = written_certificate_identifier x
+attribute_structure_content (attribute_structure.CertificateSubject x) = written_certificate_subject x
+attribute_structure_content (attribute_structure.CertificateIssuer x) = written_certificate_issuer x
+attribute_structure_content (attribute_structure.Digest x) = written_digest x
+attribute_structure_content (attribute_structure.UsageLimits x) = written_usage_limits x
+attribute_structure_content (attribute_structure.RevocationReason x) = written_revocation_reason x
+attribute_structure_content (attribute_structure.Link x) = link_value x
+attribute_structure_content (attribute_structure.ApplicationSpecificInformation x) = application_specific_information_value x
 
 -- what is written of a `AttributeStructure`
 unfoldable pub written_attribute_structure : {A : Type 0} → AttributeStructure A → Value
@@ -185,97 +161,25 @@ written_attribute_structure x =
 
 -- what is read of a `AttributeStructure`
 unfoldable pub read_attribute_structure : {A : Type 0} → AttributeStructure A → Value
-read_attribute_structure (attribute_structure.Name x) =
-    newtype_variant_value (codes "structure")
-    (codes "if 0x42000A==Name")
-    (read_name x)
+read_attribute_structure (attribute_structure.Name x) = newtype_variant_value (codes "structure") (codes "if 0x42000A==Name") (name_value x)
 read_attribute_structure (attribute_structure.CryptographicParameters x) =
-    newtype_variant_value (codes "structure")
-    (codes "if 0x42000A==Cryptographic Parameters")
-    (read_cryptographic_parameters x)
+    newtype_variant_value (codes "structure") (codes "if 0x42000A==Cryptographic Parameters") (read_cryptographic_parameters x)
 read_attribute_structure (attribute_structure.CryptographicDomainParameters x) =
-    newtype_variant_value (codes "structure")
-    (codes "if 0x42000A==Cryptographic Domain Parameters")
-    (read_cryptographic_domain_parameters x)
+    newtype_variant_value (codes "structure") (codes "if 0x42000A==Cryptographic Domain Parameters") (read_cryptographic_domain_parameters x)
 read_attribute_structure (attribute_structure.CertificateIdentifier x) =
-    newtype_variant_value (codes "structure")
-    (codes "if 0x42000A==Certificate Identifier")
-    (read_certificate_identifier x)
+    newtype_variant_value (codes "structure") (codes "if 0x42000A==Certificate Identifier") (read_certificate_identifier x)
 read_attribute_structure (attribute_structure.CertificateSubject x) =
-    newtype_variant_value (codes "structure")
-    (codes "if 0x42000A==Certificate Subject")
-    (read_certificate_subject x)
+    newtype_variant_value (codes "structure") (codes "if 0x42000A==Certificate Subject") (read_certificate_subject x)
 read_attribute_structure (attribute_structure.CertificateIssuer x) =
-    newtype_variant_value (codes "structure")
-    (codes "if 0x42000A==Certificate Issuer")
-    (read_certificate_issuer x)
-read_attribute_structure (attribute_structure.Digest x) =
-    newtype_variant_value (codes "structure")
-    (codes "if 0x42000A==Digest")
-    (read_digest x)
+    newtype_variant_value (codes "structure") (codes "if 0x42000A==Certificate Issuer") (read_certificate_issuer x)
+read_attribute_structure (attribute_structure.Digest x) = newtype_variant_value (codes "structure") (codes "if 0x42000A==Digest") (read_digest x)
 read_attribute_structure (attribute_structure.UsageLimits x) =
-    newtype_variant_value (codes "structure")
-    (codes "if 0x42000A==Usage Limits")
-    (read_usage_limits x)
+    newtype_variant_value (codes "structure") (codes "if 0x42000A==Usage Limits") (read_usage_limits x)
 read_attribute_structure (attribute_structure.RevocationReason x) =
-    newtype_variant_value (codes "structure")
-    (codes "if 0x42000A==Revocation Reason")
-    (read_revocation_reason x)
-read_attribute_structure (attribute_structure.Link x) =
-    newtype_variant_value (codes "structure")
-    (codes "if 0x42000A==Link")
-    (read_link x)
+    newtype_variant_value (codes "structure") (codes "if 0x42000A==Revocation Reason") (read_revocation_reason x)
+read_attribute_structure (attribute_structure.Link x) = newtype_variant_value (codes "structure") (codes "if 0x42000A==Link") (link_value x)
 read_attribute_structure (attribute_structure.ApplicationSpecificInformation x) =
-    newtype_variant_value (codes "structure")
-    (codes "if 0x42000A==Application Specific Information")
-    (application_specific_information_value x)
-
--- what is read of the bytes of a `AttributeStructure`
-unfoldable pub returned_attribute_structure : {A : Type 0} → AttributeStructure A → Value
-returned_attribute_structure (attribute_structure.Name x) =
-    newtype_variant_value (codes "structure")
-    (codes "if 0x42000A==Name")
-    (returned_name x)
-returned_attribute_structure (attribute_structure.CryptographicParameters x) =
-    newtype_variant_value (codes "structure")
-    (codes "if 0x42000A==Cryptographic Parameters")
-    (returned_cryptographic_parameters x)
-returned_attribute_structure (attribute_structure.CryptographicDomainParameters x) =
-    newtype_variant_value (codes "structure")
-    (codes "if 0x42000A==Cryptographic Domain Parameters")
-    (returned_cryptographic_domain_parameters x)
-returned_attribute_structure (attribute_structure.CertificateIdentifier x) =
-    newtype_variant_value (codes "structure")
-    (codes "if 0x42000A==Certificate Identifier")
-    (read_certificate_identifier x)
-returned_attribute_structure (attribute_structure.CertificateSubject x) =
-    newtype_variant_value (codes "structure")
-    (codes "if 0x42000A==Certificate Subject")
-    (read_certificate_subject x)
-returned_attribute_structure (attribute_structure.CertificateIssuer x) =
-    newtype_variant_value (codes "structure")
-    (codes "if 0x42000A==Certificate Issuer")
-    (read_certificate_issuer x)
-returned_attribute_structure (attribute_structure.Digest x) =
-    newtype_variant_value (codes "structure")
-    (codes "if 0x42000A==Digest")
-    (returned_digest x)
-returned_attribute_structure (attribute_structure.UsageLimits x) =
-    newtype_variant_value (codes "structure")
-    (codes "if 0x42000A==Usage Limits")
-    (returned_usage_limits x)
-returned_attribute_structure (attribute_structure.RevocationReason x) =
-    newtype_variant_value (codes "structure")
-    (codes "if 0x42000A==Revocation Reason")
-    (returned_revocation_reason x)
-returned_attribute_structure (attribute_structure.Link x) =
-    newtype_variant_value (codes "structure")
-    (codes "if 0x42000A==Link")
-    (returned_link x)
-returned_attribute_structure (attribute_structure.ApplicationSpecificInformation x) =
-    newtype_variant_value (codes "structure")
-    (codes "if 0x42000A==Application Specific Information")
-    (application_specific_information_value x)
+    newtype_variant_value (codes "structure") (codes "if 0x42000A==Application Specific Information") (application_specific_information_value x)
 
 -- what is said, if it is the text of 42000A, chooses what is in a `AttributeStructure`
 abbrev pub ChoosesAttributeStructure : {A : Type 0} → List ℕ → AttributeStructure A → Type 0
@@ -294,78 +198,50 @@ ChoosesAttributeStructure said (attribute_structure.ApplicationSpecificInformati
 -- the variants of a `AttributeValue` from `Interval` on
 abbrev pub attribute_value_variants_12 : Variants
 attribute_value_variants_12 =
-    variant (codes "if type==Interval") (wrapped
-    interval_value_form) (
-    variant (codes "if type==Structure") (wrapped
-    attribute_structure_form) no_variants)
+    variant (codes "if type==Interval") (wrapped interval_value_form) (
+    variant (codes "if type==Structure") (wrapped attribute_structure_form) no_variants)
 
 -- the variants of a `AttributeValue` from `Boolean` on
 abbrev pub attribute_value_variants_8 : Variants
 attribute_value_variants_8 =
-    variant (codes "if type==Boolean") (wrapped
-    boolean_value_form) (
-    variant (codes "if type==TextString") (wrapped
-    text_string_value_form) (
-    variant (codes "if type==ByteString") (wrapped
-    byte_string_value_form) (
-    variant (codes "if type==DateTime") (wrapped
-    date_time_value_form) attribute_value_variants_12)))
+    variant (codes "if type==Boolean") (wrapped boolean_value_form) (
+    variant (codes "if type==TextString") (wrapped text_string_value_form) (
+    variant (codes "if type==ByteString") (wrapped byte_string_value_form) (
+    variant (codes "if type==DateTime") (wrapped date_time_value_form) attribute_value_variants_12)))
 
 -- the variants of a `AttributeValue` from `Integer` on
 abbrev pub attribute_value_variants_4 : Variants
 attribute_value_variants_4 =
-    variant (codes "if type==Integer") (wrapped
-    integer_value_form) (
-    variant (codes "if type==LongInteger") (wrapped
-    long_integer_value_form) (
-    variant (codes "if type==BigInteger") (wrapped
-    big_integer_value_form) (
-    variant (codes "if type==Enumeration") (wrapped
-    enumeration_value_form) attribute_value_variants_8)))
+    variant (codes "if type==Integer") (wrapped integer_value_form) (
+    variant (codes "if type==LongInteger") (wrapped long_integer_value_form) (
+    variant (codes "if type==BigInteger") (wrapped big_integer_value_form) (
+    variant (codes "if type==Enumeration") (wrapped enumeration_value_form) attribute_value_variants_8)))
 
 -- the form of a `AttributeValue`
 abbrev pub attribute_value_form : Form
 attribute_value_form =
     enum (codes "value") (
-    variant (codes "if 0x42000A==Object Type") (wrapped
-    object_type_form) (
-    variant (codes "if 0x42000A==Cryptographic Algorithm") (wrapped
-    cryptographic_algorithm_form) (
-    variant (codes "if 0x42000A==Certificate Type") (wrapped
-    certificate_type_form) (
-    variant (codes "if 0x42000A==State") (wrapped
-    state_form) attribute_value_variants_4))))
+    variant (codes "if 0x42000A==Object Type") (wrapped (wrapped_leaf 0x420057 any_number)) (
+    variant (codes "if 0x42000A==Cryptographic Algorithm") (wrapped (wrapped_leaf 0x420028 any_number)) (
+    variant (codes "if 0x42000A==Certificate Type") (wrapped (wrapped_leaf 0x42001D any_number)) (
+    variant (codes "if 0x42000A==State") (wrapped (wrapped_leaf 0x42008D any_number)) attribute_value_variants_4))))
 
 -- what a `AttributeValue` holds, as it is written
 unfoldable pub attribute_value_content : {A : Type 0} → AttributeValue A → Value
-attribute_value_content (attribute_value.ObjectType x) =
-    written_object_type x
-attribute_value_content (attribute_value.CryptographicAlgorithm x) =
-    written_cryptographic_algorithm x
-attribute_value_content (attribute_value.CertificateType x) =
-    written_certificate_type x
-attribute_value_content (attribute_value.State x) =
-    written_state x
-attribute_value_content (attribute_value.Integer x) =
-    integer_value_value x
-attribute_value_content (attribute_value.LongInteger x) =
-    long_integer_value_value x
-attribute_value_content (attribute_value.BigInteger x) =
-    big_integer_value_value x
-attribute_value_content (attribute_value.Enumeration x) =
-    enumeration_value_value x
-attribute_value_content (attribute_value.Boolean x) =
-    boolean_value_value x
-attribute_value_content (attribute_value.TextString x) =
-    text_string_value_value x
-attribute_value_content (attribute_value.ByteString x) =
-    byte_string_value_value x
-attribute_value_content (attribute_value.DateTime x) =
-    date_time_value_value x
-attribute_value_content (attribute_value.Interval x) =
-    interval_value_value x
-attribute_value_content (attribute_value.Structure x) =
-    attribute_structure_content x
+attribute_value_content (attribute_value.ObjectType x) = enumeration_value x
+attribute_value_content (attribute_value.CryptographicAlgorithm x) = enumeration_value x
+attribute_value_content (attribute_value.CertificateType x) = enumeration_value x
+attribute_value_content (attribute_value.State x) = enumeration_value x
+attribute_value_content (attribute_value.Integer x) = integer_value_value x
+attribute_value_content (attribute_value.LongInteger x) = long_integer_value_value x
+attribute_value_content (attribute_value.BigInteger x) = big_integer_value_value x
+attribute_value_content (attribute_value.Enumeration x) = enumeration_value_value x
+attribute_value_content (attribute_value.Boolean x) = boolean_value_value x
+attribute_value_content (attribute_value.TextString x) = text_string_value_value x
+attribute_value_content (attribute_value.ByteString x) = byte_string_value_value x
+attribute_value_content (attribute_value.DateTime x) = date_time_value_value x
+attribute_value_content (attribute_value.Interval x) = interval_value_value x
+attribute_value_content (attribute_value.Structure x) = attribute_structure_content x
 
 -- what is written of a `AttributeValue`
 unfoldable pub written_attribute_value : {A : Type 0} → AttributeValue A → Value
@@ -374,121 +250,21 @@ written_attribute_value x =
 
 -- what is read of a `AttributeValue`
 unfoldable pub read_attribute_value : {A : Type 0} → AttributeValue A → Value
-read_attribute_value (attribute_value.ObjectType x) =
-    newtype_variant_value (codes "value")
-    (codes "if 0x42000A==Object Type")
-    (read_object_type x)
+read_attribute_value (attribute_value.ObjectType x) = newtype_variant_value (codes "value") (codes "if 0x42000A==Object Type") (enumeration_value x)
 read_attribute_value (attribute_value.CryptographicAlgorithm x) =
-    newtype_variant_value (codes "value")
-    (codes "if 0x42000A==Cryptographic Algorithm")
-    (read_cryptographic_algorithm x)
-read_attribute_value (attribute_value.CertificateType x) =
-    newtype_variant_value (codes "value")
-    (codes "if 0x42000A==Certificate Type")
-    (read_certificate_type x)
-read_attribute_value (attribute_value.State x) =
-    newtype_variant_value (codes "value")
-    (codes "if 0x42000A==State")
-    (read_state x)
-read_attribute_value (attribute_value.Integer x) =
-    newtype_variant_value (codes "value")
-    (codes "if type==Integer")
-    (integer_value_value x)
-read_attribute_value (attribute_value.LongInteger x) =
-    newtype_variant_value (codes "value")
-    (codes "if type==LongInteger")
-    (long_integer_value_value x)
-read_attribute_value (attribute_value.BigInteger x) =
-    newtype_variant_value (codes "value")
-    (codes "if type==BigInteger")
-    (big_integer_value_value x)
-read_attribute_value (attribute_value.Enumeration x) =
-    newtype_variant_value (codes "value")
-    (codes "if type==Enumeration")
-    (enumeration_value_value x)
-read_attribute_value (attribute_value.Boolean x) =
-    newtype_variant_value (codes "value")
-    (codes "if type==Boolean")
-    (boolean_value_value x)
-read_attribute_value (attribute_value.TextString x) =
-    newtype_variant_value (codes "value")
-    (codes "if type==TextString")
-    (text_string_value_value x)
-read_attribute_value (attribute_value.ByteString x) =
-    newtype_variant_value (codes "value")
-    (codes "if type==ByteString")
-    (byte_string_value_value x)
-read_attribute_value (attribute_value.DateTime x) =
-    newtype_variant_value (codes "value")
-    (codes "if type==DateTime")
-    (date_time_value_value x)
-read_attribute_value (attribute_value.Interval x) =
-    newtype_variant_value (codes "value")
-    (codes "if type==Interval")
-    (interval_value_value x)
-read_attribute_value (attribute_value.Structure x) =
-    newtype_variant_value (codes "value")
-    (codes "if type==Structure")
-    (read_attribute_structure x)
-
--- what is read of the bytes of a `AttributeValue`
-unfoldable pub returned_attribute_value : {A : Type 0} → AttributeValue A → Value
-returned_attribute_value (attribute_value.ObjectType x) =
-    newtype_variant_value (codes "value")
-    (codes "if 0x42000A==Object Type")
-    (written_object_type x)
-returned_attribute_value (attribute_value.CryptographicAlgorithm x) =
-    newtype_variant_value (codes "value")
-    (codes "if 0x42000A==Cryptographic Algorithm")
-    (written_cryptographic_algorithm x)
-returned_attribute_value (attribute_value.CertificateType x) =
-    newtype_variant_value (codes "value")
-    (codes "if 0x42000A==Certificate Type")
-    (written_certificate_type x)
-returned_attribute_value (attribute_value.State x) =
-    newtype_variant_value (codes "value")
-    (codes "if 0x42000A==State")
-    (written_state x)
-returned_attribute_value (attribute_value.Integer x) =
-    newtype_variant_value (codes "value")
-    (codes "if type==Integer")
-    (integer_value_value x)
-returned_attribute_value (attribute_value.LongInteger x) =
-    newtype_variant_value (codes "value")
-    (codes "if type==LongInteger")
-    (long_integer_value_value x)
-returned_attribute_value (attribute_value.BigInteger x) =
-    newtype_variant_value (codes "value")
-    (codes "if type==BigInteger")
-    (big_integer_value_value x)
-returned_attribute_value (attribute_value.Enumeration x) =
-    newtype_variant_value (codes "value")
-    (codes "if type==Enumeration")
-    (enumeration_value_value x)
-returned_attribute_value (attribute_value.Boolean x) =
-    newtype_variant_value (codes "value")
-    (codes "if type==Boolean")
-    (boolean_value_value x)
-returned_attribute_value (attribute_value.TextString x) =
-    newtype_variant_value (codes "value")
-    (codes "if type==TextString")
-    (text_string_value_value x)
-returned_attribute_value (attribute_value.ByteString x) =
-    newtype_variant_value (codes "value")
-    (codes "if type==ByteString")
-    (byte_string_value_value x)
-returned_attribute_value (attribute_value.DateTime x) =
-    newtype_variant_value (codes "value")
-    (codes "if type==DateTime")
-    (date_time_value_value x)
-returned_attribute_value (attribute_value.Interval x) =
-    newtype_variant_value (codes "value")
-    (codes "if type==Interval")
-    (interval_value_value x)
-returned_attribute_value (attribute_value.Structure x) =
-    newtype_variant_value (codes "value")
-    (codes "if type==Structure")
-    (returned_attribute_structure x)
+    newtype_variant_value (codes "value") (codes "if 0x42000A==Cryptographic Algorithm") (enumeration_value x)
+read_attribute_value (attribute_value.CertificateType x) = newtype_variant_value (codes "value") (codes "if 0x42000A==Certificate Type") (enumeration_value x)
+read_attribute_value (attribute_value.State x) = newtype_variant_value (codes "value") (codes "if 0x42000A==State") (enumeration_value x)
+read_attribute_value (attribute_value.Integer x) = newtype_variant_value (codes "value") (codes "if type==Integer") (integer_value_value x)
+read_attribute_value (attribute_value.LongInteger x) = newtype_variant_value (codes "value") (codes "if type==LongInteger") (long_integer_value_value x)
+read_attribute_value (attribute_value.BigInteger x) = newtype_variant_value (codes "value") (codes "if type==BigInteger") (big_integer_value_value x)
+read_attribute_value (attribute_value.Enumeration x) = newtype_variant_value (codes "value") (codes "if type==Enumeration") (enumeration_value_value x)
+read_attribute_value (attribute_value.Boolean x) = newtype_variant_value (codes "value") (codes "if type==Boolean") (boolean_value_value x)
+read_attribute_value (attribute_value.TextString x) = newtype_variant_value (codes "value") (codes "if type==TextString") (text_string_value_value x)
+read_attribute_value (attribute_value.ByteString x) = newtype_variant_value (codes "value") (codes "if type==ByteString") (byte_string_value_value x)
+read_attribute_value (attribute_value.DateTime x) = newtype_variant_value (codes "value") (codes "if type==DateTime") (date_time_value_value x)
+read_attribute_value (attribute_value.Interval x) = newtype_variant_value (codes "value") (codes "if type==Interval") (interval_value_value x)
+read_attribute_value (attribute_value.Structure x) = newtype_variant_value (codes "value") (codes "if type==Structure") (read_attribute_structure x)
 
 -- the texts of 42000A that choose a variant of a `AttributeValue` whatever the type of its item is
 abbrev pub attribute_value_names : List (List ℕ)
@@ -519,31 +295,23 @@ ChoosesAttributeValue said (attribute_value.Structure x) = (IsNoneOf said attrib
 -- the form of a `Attribute`
 abbrev pub attribute_form : Form
 attribute_form =
-    struct (codes "0x420008") (
-    field (codes "0x42000A") (newtype (codes "Transparent:0x42000A") text) (
-    field (codes "0x420009") (option attribute_index_form) (
-    field (codes "0x42000B") attribute_value_form no_fields))) true
+    struct (tag_text 0x420008) (
+    field (tag_text 0x42000A) (wrapped_leaf 0x42000A text) (
+    field (tag_text 0x420009) (option attribute_index_form) (
+    field (tag_text 0x42000B) attribute_value_form no_fields))) true
 
 -- what is written of a `Attribute`
 unfoldable pub written_attribute : {A : Type 0} → Attribute A → Value
 written_attribute x =
-    struct_value (codes "0x420008") (
-    value (newtype_value (codes "Transparent:0x42000A") (text_value (string_bytes x.name))) (
+    struct_value (tag_text 0x420008) (
+    value (tagged 0x42000A (text_value (string_bytes x.name))) (
     joined (visits.optional_field (option_map attribute_index_value x.index)) (
     value (written_attribute_value x.value) no_values)))
 
 -- what is read of a `Attribute`
 unfoldable pub read_attribute : {A : Type 0} → Attribute A → Value
 read_attribute x =
-    struct_value (codes "0x420008") (
-    value (newtype_value (codes "Transparent:0x42000A") (text_value (string_bytes x.name))) (
+    struct_value (tag_text 0x420008) (
+    value (tagged 0x42000A (text_value (string_bytes x.name))) (
     value (optional attribute_index_value x.index) (
     value (read_attribute_value x.value) no_values)))
-
--- what is read of the bytes of a `Attribute`
-unfoldable pub returned_attribute : {A : Type 0} → Attribute A → Value
-returned_attribute x =
-    struct_value (codes "0x420008") (
-    value (newtype_value (codes "Transparent:0x42000A") (text_value (string_bytes x.name))) (
-    value (optional attribute_index_value x.index) (
-    value (returned_attribute_value x.value) no_values)))

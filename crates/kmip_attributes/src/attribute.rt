@@ -2,8 +2,8 @@
 //! An attribute: its name, its index and what it says (KMIP 1.0, section 2.1.1).
 
 ghost use Rattle.std.specs.Prelude.{◌↔◌, refl, IsTrue, OnErr, OnOk, codes, true};
-ghost use Rattle.kmip_ttlv.specs.Returns.{IsNoneOf};
-ghost use Rattle.kmip_ttlv.specs.Visits.{Receives};
+ghost use Rattle.kmip_ttlv_parts.specs.Returns.{IsNoneOf};
+ghost use Rattle.kmip_ttlv_parts.specs.Visits.{Receives};
 ghost use Rattle.kmip_attributes.specs.Attributes.{attribute_name_form, attribute_name_value, attribute_index_form, attribute_index_value, integer_value_form, integer_value_value, long_integer_value_form, long_integer_value_value, big_integer_value_form, big_integer_value_value, enumeration_value_form, enumeration_value_value, boolean_value_form, boolean_value_value, text_string_value_form, text_string_value_value, byte_string_value_form, byte_string_value_value, date_time_value_form, date_time_value_value, interval_value_form, interval_value_value, attribute_structure_form, written_attribute_structure, read_attribute_structure, attribute_structure_content, ChoosesAttributeStructure, attribute_structure_variants_4, attribute_structure_variants_8, attribute_value_form, written_attribute_value, read_attribute_value, attribute_value_content, ChoosesAttributeValue, attribute_value_names, attribute_value_variants_4, attribute_value_variants_8, attribute_value_variants_12, attribute_form, written_attribute, read_attribute};
 
 use crate::structures::{
@@ -12,12 +12,12 @@ use crate::structures::{
     UsageLimits,
 };
 use crate::values::{CertificateType, CryptographicAlgorithm, ObjectType, State};
-use kmip_ttlv::laws::is_none_of;
-use kmip_ttlv::messages::writing;
-use kmip_ttlv::reader;
-use kmip_ttlv::shape::Serialize;
-use kmip_ttlv::types::TtlvType;
-use kmip_ttlv::visit::Visitor;
+use kmip_ttlv_parts::laws::is_none_of;
+use kmip_ttlv_parts::messages::writing;
+use kmip_ttlv_parts::reader;
+use kmip_ttlv_parts::shape::Serialize;
+use kmip_ttlv_parts::types::TtlvType;
+use kmip_ttlv_parts::visit::{Leaf, Visitor};
 use std::alloc::{AllocError, Allocator, Global};
 
 /// What names an attribute.
@@ -32,7 +32,7 @@ impl<B: Allocator> Serialize for AttributeName<B> {
     ghost stated = { attribute_name_value };
 
     fn visit<V: Visitor>(&self, visitor: &mut V) -> Result<(), AllocError> {
-        writing::string(visitor, "Transparent:0x42000A", &self.text)
+        writing::string(visitor, 0x42000A, &self.text)
     }
 }
 
@@ -43,7 +43,6 @@ impl<A: Allocator + Copy> reader::ReadItem<A> for AttributeName<A> {
 
     ghost plain = { (refl, refl) };
 
-    #[tactic(auto, unfolding(kmip_ttlv_types::specs::Digits::six_digits))]
     fn read_item<'b>(
         scope: &reader::Scope<'b, A>,
         cursor: &mut reader::Cursor<'b, A>,
@@ -64,7 +63,7 @@ impl Serialize for AttributeIndex {
     ghost stated = { attribute_index_value };
 
     fn visit<V: Visitor>(&self, visitor: &mut V) -> Result<(), AllocError> {
-        writing::integer(visitor, "Transparent:0x420009", self.index)?;
+        writing::tagged(visitor, 0x420009, Leaf::I32(self.index))?;
         Ok(())
     }
 }
@@ -76,7 +75,6 @@ impl<A: Allocator + Copy> reader::ReadItem<A> for AttributeIndex {
 
     ghost plain = { (refl, refl) };
 
-    #[tactic(auto, unfolding(kmip_ttlv_types::specs::Digits::six_digits))]
     fn read_item<'b>(
         scope: &reader::Scope<'b, A>,
         cursor: &mut reader::Cursor<'b, A>,
@@ -97,7 +95,7 @@ impl Serialize for IntegerValue {
     ghost stated = { integer_value_value };
 
     fn visit<V: Visitor>(&self, visitor: &mut V) -> Result<(), AllocError> {
-        writing::integer(visitor, "Transparent:0x42000B", self.value)?;
+        writing::tagged(visitor, 0x42000B, Leaf::I32(self.value))?;
         Ok(())
     }
 }
@@ -109,7 +107,6 @@ impl<A: Allocator + Copy> reader::ReadItem<A> for IntegerValue {
 
     ghost plain = { (refl, refl) };
 
-    #[tactic(auto, unfolding(kmip_ttlv_types::specs::Digits::six_digits))]
     fn read_item<'b>(
         scope: &reader::Scope<'b, A>,
         cursor: &mut reader::Cursor<'b, A>,
@@ -130,7 +127,7 @@ impl Serialize for LongIntegerValue {
     ghost stated = { long_integer_value_value };
 
     fn visit<V: Visitor>(&self, visitor: &mut V) -> Result<(), AllocError> {
-        writing::long_integer(visitor, "Transparent:0x42000B", self.value)?;
+        writing::tagged(visitor, 0x42000B, Leaf::I64(self.value))?;
         Ok(())
     }
 }
@@ -142,7 +139,6 @@ impl<A: Allocator + Copy> reader::ReadItem<A> for LongIntegerValue {
 
     ghost plain = { (refl, refl) };
 
-    #[tactic(auto, unfolding(kmip_ttlv_types::specs::Digits::six_digits))]
     fn read_item<'b>(
         scope: &reader::Scope<'b, A>,
         cursor: &mut reader::Cursor<'b, A>,
@@ -164,7 +160,7 @@ impl<B: Allocator> Serialize for BigIntegerValue<B> {
     ghost stated = { big_integer_value_value };
 
     fn visit<V: Visitor>(&self, visitor: &mut V) -> Result<(), AllocError> {
-        writing::big_integer_bytes(visitor, "Transparent:0x42000B", &self.bytes)
+        writing::big_integer_bytes(visitor, 0x42000B, &self.bytes)
     }
 }
 
@@ -175,7 +171,6 @@ impl<A: Allocator + Copy> reader::ReadItem<A> for BigIntegerValue<A> {
 
     ghost plain = { (refl, refl) };
 
-    #[tactic(auto, unfolding(kmip_ttlv_types::specs::Digits::six_digits))]
     fn read_item<'b>(
         scope: &reader::Scope<'b, A>,
         cursor: &mut reader::Cursor<'b, A>,
@@ -196,7 +191,7 @@ impl Serialize for EnumerationValue {
     ghost stated = { enumeration_value_value };
 
     fn visit<V: Visitor>(&self, visitor: &mut V) -> Result<(), AllocError> {
-        writing::enumeration(visitor, "Transparent:0x42000B", self.number)
+        writing::tagged(visitor, 0x42000B, Leaf::U32(self.number))
     }
 }
 
@@ -207,7 +202,6 @@ impl<A: Allocator + Copy> reader::ReadItem<A> for EnumerationValue {
 
     ghost plain = { (refl, refl) };
 
-    #[tactic(auto, unfolding(kmip_ttlv_types::specs::Digits::six_digits))]
     fn read_item<'b>(
         scope: &reader::Scope<'b, A>,
         cursor: &mut reader::Cursor<'b, A>,
@@ -228,7 +222,7 @@ impl Serialize for BooleanValue {
     ghost stated = { boolean_value_value };
 
     fn visit<V: Visitor>(&self, visitor: &mut V) -> Result<(), AllocError> {
-        writing::boolean(visitor, "Transparent:0x42000B", self.value)
+        writing::tagged(visitor, 0x42000B, Leaf::Bool(self.value))
     }
 }
 
@@ -239,7 +233,6 @@ impl<A: Allocator + Copy> reader::ReadItem<A> for BooleanValue {
 
     ghost plain = { (refl, refl) };
 
-    #[tactic(auto, unfolding(kmip_ttlv_types::specs::Digits::six_digits))]
     fn read_item<'b>(
         scope: &reader::Scope<'b, A>,
         cursor: &mut reader::Cursor<'b, A>,
@@ -261,7 +254,7 @@ impl<B: Allocator> Serialize for TextStringValue<B> {
     ghost stated = { text_string_value_value };
 
     fn visit<V: Visitor>(&self, visitor: &mut V) -> Result<(), AllocError> {
-        writing::string(visitor, "Transparent:0x42000B", &self.text)
+        writing::string(visitor, 0x42000B, &self.text)
     }
 }
 
@@ -272,7 +265,6 @@ impl<A: Allocator + Copy> reader::ReadItem<A> for TextStringValue<A> {
 
     ghost plain = { (refl, refl) };
 
-    #[tactic(auto, unfolding(kmip_ttlv_types::specs::Digits::six_digits))]
     fn read_item<'b>(
         scope: &reader::Scope<'b, A>,
         cursor: &mut reader::Cursor<'b, A>,
@@ -294,7 +286,7 @@ impl<B: Allocator> Serialize for ByteStringValue<B> {
     ghost stated = { byte_string_value_value };
 
     fn visit<V: Visitor>(&self, visitor: &mut V) -> Result<(), AllocError> {
-        writing::bytes(visitor, "Transparent:0x42000B", &self.bytes)
+        writing::bytes(visitor, 0x42000B, &self.bytes)
     }
 }
 
@@ -305,7 +297,6 @@ impl<A: Allocator + Copy> reader::ReadItem<A> for ByteStringValue<A> {
 
     ghost plain = { (refl, refl) };
 
-    #[tactic(auto, unfolding(kmip_ttlv_types::specs::Digits::six_digits))]
     fn read_item<'b>(
         scope: &reader::Scope<'b, A>,
         cursor: &mut reader::Cursor<'b, A>,
@@ -326,7 +317,7 @@ impl Serialize for DateTimeValue {
     ghost stated = { date_time_value_value };
 
     fn visit<V: Visitor>(&self, visitor: &mut V) -> Result<(), AllocError> {
-        writing::date_time(visitor, "Transparent:0x42000B", self.seconds)?;
+        writing::tagged(visitor, 0x42000B, Leaf::DateTime(self.seconds))?;
         Ok(())
     }
 }
@@ -338,7 +329,6 @@ impl<A: Allocator + Copy> reader::ReadItem<A> for DateTimeValue {
 
     ghost plain = { (refl, refl) };
 
-    #[tactic(auto, unfolding(kmip_ttlv_types::specs::Digits::six_digits))]
     fn read_item<'b>(
         scope: &reader::Scope<'b, A>,
         cursor: &mut reader::Cursor<'b, A>,
@@ -359,7 +349,7 @@ impl Serialize for IntervalValue {
     ghost stated = { interval_value_value };
 
     fn visit<V: Visitor>(&self, visitor: &mut V) -> Result<(), AllocError> {
-        writing::interval(visitor, "Transparent:0x42000B", self.seconds)
+        writing::tagged(visitor, 0x42000B, Leaf::Interval(self.seconds))
     }
 }
 
@@ -370,7 +360,6 @@ impl<A: Allocator + Copy> reader::ReadItem<A> for IntervalValue {
 
     ghost plain = { (refl, refl) };
 
-    #[tactic(auto, unfolding(kmip_ttlv_types::specs::Digits::six_digits))]
     fn read_item<'b>(
         scope: &reader::Scope<'b, A>,
         cursor: &mut reader::Cursor<'b, A>,
@@ -489,7 +478,7 @@ impl<A: Allocator + Copy> reader::VariantOf<
     AttributeStructure<A>,
     A,
 > for AttributeStructureNameRule {
-    #[tactic(auto, unfolding(kmip_ttlv_types::specs::Digits::six_digits, crate::specs::Attributes::read_attribute_structure))]
+    #[tactic(auto, unfolding(crate::specs::Attributes::read_attribute_structure))]
     fn from_content(inner: Name<A>) -> AttributeStructure<A> {
         AttributeStructure::Name(inner)
     }
@@ -519,7 +508,7 @@ impl<A: Allocator + Copy> reader::VariantOf<
     AttributeStructure<A>,
     A,
 > for AttributeStructureCryptographicParametersRule {
-    #[tactic(auto, unfolding(kmip_ttlv_types::specs::Digits::six_digits, crate::specs::Attributes::read_attribute_structure))]
+    #[tactic(auto, unfolding(crate::specs::Attributes::read_attribute_structure))]
     fn from_content(inner: CryptographicParameters) -> AttributeStructure<A> {
         AttributeStructure::CryptographicParameters(inner)
     }
@@ -549,7 +538,7 @@ impl<A: Allocator + Copy> reader::VariantOf<
     AttributeStructure<A>,
     A,
 > for AttributeStructureCryptographicDomainParametersRule {
-    #[tactic(auto, unfolding(kmip_ttlv_types::specs::Digits::six_digits, crate::specs::Attributes::read_attribute_structure))]
+    #[tactic(auto, unfolding(crate::specs::Attributes::read_attribute_structure))]
     fn from_content(inner: CryptographicDomainParameters) -> AttributeStructure<A> {
         AttributeStructure::CryptographicDomainParameters(inner)
     }
@@ -579,7 +568,7 @@ impl<A: Allocator + Copy> reader::VariantOf<
     AttributeStructure<A>,
     A,
 > for AttributeStructureCertificateIdentifierRule {
-    #[tactic(auto, unfolding(kmip_ttlv_types::specs::Digits::six_digits, crate::specs::Attributes::read_attribute_structure))]
+    #[tactic(auto, unfolding(crate::specs::Attributes::read_attribute_structure))]
     fn from_content(inner: CertificateIdentifier<A>) -> AttributeStructure<A> {
         AttributeStructure::CertificateIdentifier(inner)
     }
@@ -609,7 +598,7 @@ impl<A: Allocator + Copy> reader::VariantOf<
     AttributeStructure<A>,
     A,
 > for AttributeStructureCertificateSubjectRule {
-    #[tactic(auto, unfolding(kmip_ttlv_types::specs::Digits::six_digits, crate::specs::Attributes::read_attribute_structure))]
+    #[tactic(auto, unfolding(crate::specs::Attributes::read_attribute_structure))]
     fn from_content(inner: CertificateSubject<A>) -> AttributeStructure<A> {
         AttributeStructure::CertificateSubject(inner)
     }
@@ -639,7 +628,7 @@ impl<A: Allocator + Copy> reader::VariantOf<
     AttributeStructure<A>,
     A,
 > for AttributeStructureCertificateIssuerRule {
-    #[tactic(auto, unfolding(kmip_ttlv_types::specs::Digits::six_digits, crate::specs::Attributes::read_attribute_structure))]
+    #[tactic(auto, unfolding(crate::specs::Attributes::read_attribute_structure))]
     fn from_content(inner: CertificateIssuer<A>) -> AttributeStructure<A> {
         AttributeStructure::CertificateIssuer(inner)
     }
@@ -669,7 +658,7 @@ impl<A: Allocator + Copy> reader::VariantOf<
     AttributeStructure<A>,
     A,
 > for AttributeStructureDigestRule {
-    #[tactic(auto, unfolding(kmip_ttlv_types::specs::Digits::six_digits, crate::specs::Attributes::read_attribute_structure))]
+    #[tactic(auto, unfolding(crate::specs::Attributes::read_attribute_structure))]
     fn from_content(inner: Digest<A>) -> AttributeStructure<A> {
         AttributeStructure::Digest(inner)
     }
@@ -699,7 +688,7 @@ impl<A: Allocator + Copy> reader::VariantOf<
     AttributeStructure<A>,
     A,
 > for AttributeStructureUsageLimitsRule {
-    #[tactic(auto, unfolding(kmip_ttlv_types::specs::Digits::six_digits, crate::specs::Attributes::read_attribute_structure))]
+    #[tactic(auto, unfolding(crate::specs::Attributes::read_attribute_structure))]
     fn from_content(inner: UsageLimits) -> AttributeStructure<A> {
         AttributeStructure::UsageLimits(inner)
     }
@@ -729,7 +718,7 @@ impl<A: Allocator + Copy> reader::VariantOf<
     AttributeStructure<A>,
     A,
 > for AttributeStructureRevocationReasonRule {
-    #[tactic(auto, unfolding(kmip_ttlv_types::specs::Digits::six_digits, crate::specs::Attributes::read_attribute_structure))]
+    #[tactic(auto, unfolding(crate::specs::Attributes::read_attribute_structure))]
     fn from_content(inner: RevocationReason<A>) -> AttributeStructure<A> {
         AttributeStructure::RevocationReason(inner)
     }
@@ -759,7 +748,7 @@ impl<A: Allocator + Copy> reader::VariantOf<
     AttributeStructure<A>,
     A,
 > for AttributeStructureLinkRule {
-    #[tactic(auto, unfolding(kmip_ttlv_types::specs::Digits::six_digits, crate::specs::Attributes::read_attribute_structure))]
+    #[tactic(auto, unfolding(crate::specs::Attributes::read_attribute_structure))]
     fn from_content(inner: Link<A>) -> AttributeStructure<A> {
         AttributeStructure::Link(inner)
     }
@@ -789,7 +778,7 @@ impl<A: Allocator + Copy> reader::VariantOf<
     AttributeStructure<A>,
     A,
 > for AttributeStructureApplicationSpecificInformationRule {
-    #[tactic(auto, unfolding(kmip_ttlv_types::specs::Digits::six_digits, crate::specs::Attributes::read_attribute_structure))]
+    #[tactic(auto, unfolding(crate::specs::Attributes::read_attribute_structure))]
     fn from_content(inner: ApplicationSpecificInformation<A>) -> AttributeStructure<A> {
         AttributeStructure::ApplicationSpecificInformation(inner)
     }
@@ -902,7 +891,6 @@ impl<A: Allocator + Copy> reader::Choice<A> for AttributeStructure<A> {
         ),
     );
 
-    #[tactic(auto, unfolding(kmip_ttlv_types::specs::Digits::six_digits))]
     fn has_form() {}
 }
 
@@ -1053,7 +1041,7 @@ impl reader::Rule for AttributeValueObjectTypeRule {
 
 impl<A: Allocator + Copy> reader::VariantOf<reader::ItemElement<ObjectType>, AttributeValue<A>, A>
     for AttributeValueObjectTypeRule {
-    #[tactic(auto, unfolding(kmip_ttlv_types::specs::Digits::six_digits, crate::specs::Attributes::read_attribute_value))]
+    #[tactic(auto, unfolding(crate::specs::Attributes::read_attribute_value))]
     fn from_content(inner: ObjectType) -> AttributeValue<A> {
         AttributeValue::ObjectType(inner)
     }
@@ -1083,7 +1071,7 @@ impl<A: Allocator + Copy> reader::VariantOf<
     AttributeValue<A>,
     A,
 > for AttributeValueCryptographicAlgorithmRule {
-    #[tactic(auto, unfolding(kmip_ttlv_types::specs::Digits::six_digits, crate::specs::Attributes::read_attribute_value))]
+    #[tactic(auto, unfolding(crate::specs::Attributes::read_attribute_value))]
     fn from_content(inner: CryptographicAlgorithm) -> AttributeValue<A> {
         AttributeValue::CryptographicAlgorithm(inner)
     }
@@ -1113,7 +1101,7 @@ impl<A: Allocator + Copy> reader::VariantOf<
     AttributeValue<A>,
     A,
 > for AttributeValueCertificateTypeRule {
-    #[tactic(auto, unfolding(kmip_ttlv_types::specs::Digits::six_digits, crate::specs::Attributes::read_attribute_value))]
+    #[tactic(auto, unfolding(crate::specs::Attributes::read_attribute_value))]
     fn from_content(inner: CertificateType) -> AttributeValue<A> {
         AttributeValue::CertificateType(inner)
     }
@@ -1140,7 +1128,7 @@ impl reader::Rule for AttributeValueStateRule {
 
 impl<A: Allocator + Copy> reader::VariantOf<reader::ItemElement<State>, AttributeValue<A>, A>
     for AttributeValueStateRule {
-    #[tactic(auto, unfolding(kmip_ttlv_types::specs::Digits::six_digits, crate::specs::Attributes::read_attribute_value))]
+    #[tactic(auto, unfolding(crate::specs::Attributes::read_attribute_value))]
     fn from_content(inner: State) -> AttributeValue<A> {
         AttributeValue::State(inner)
     }
@@ -1164,7 +1152,7 @@ impl reader::Rule for AttributeValueIntegerRule {
 
 impl<A: Allocator + Copy> reader::VariantOf<reader::ItemElement<IntegerValue>, AttributeValue<A>, A>
     for AttributeValueIntegerRule {
-    #[tactic(auto, unfolding(kmip_ttlv_types::specs::Digits::six_digits, crate::specs::Attributes::read_attribute_value))]
+    #[tactic(auto, unfolding(crate::specs::Attributes::read_attribute_value))]
     fn from_content(inner: IntegerValue) -> AttributeValue<A> {
         AttributeValue::Integer(inner)
     }
@@ -1191,7 +1179,7 @@ impl<A: Allocator + Copy> reader::VariantOf<
     AttributeValue<A>,
     A,
 > for AttributeValueLongIntegerRule {
-    #[tactic(auto, unfolding(kmip_ttlv_types::specs::Digits::six_digits, crate::specs::Attributes::read_attribute_value))]
+    #[tactic(auto, unfolding(crate::specs::Attributes::read_attribute_value))]
     fn from_content(inner: LongIntegerValue) -> AttributeValue<A> {
         AttributeValue::LongInteger(inner)
     }
@@ -1218,7 +1206,7 @@ impl<A: Allocator + Copy> reader::VariantOf<
     AttributeValue<A>,
     A,
 > for AttributeValueBigIntegerRule {
-    #[tactic(auto, unfolding(kmip_ttlv_types::specs::Digits::six_digits, crate::specs::Attributes::read_attribute_value))]
+    #[tactic(auto, unfolding(crate::specs::Attributes::read_attribute_value))]
     fn from_content(inner: BigIntegerValue<A>) -> AttributeValue<A> {
         AttributeValue::BigInteger(inner)
     }
@@ -1245,7 +1233,7 @@ impl<A: Allocator + Copy> reader::VariantOf<
     AttributeValue<A>,
     A,
 > for AttributeValueEnumerationRule {
-    #[tactic(auto, unfolding(kmip_ttlv_types::specs::Digits::six_digits, crate::specs::Attributes::read_attribute_value))]
+    #[tactic(auto, unfolding(crate::specs::Attributes::read_attribute_value))]
     fn from_content(inner: EnumerationValue) -> AttributeValue<A> {
         AttributeValue::Enumeration(inner)
     }
@@ -1269,7 +1257,7 @@ impl reader::Rule for AttributeValueBooleanRule {
 
 impl<A: Allocator + Copy> reader::VariantOf<reader::ItemElement<BooleanValue>, AttributeValue<A>, A>
     for AttributeValueBooleanRule {
-    #[tactic(auto, unfolding(kmip_ttlv_types::specs::Digits::six_digits, crate::specs::Attributes::read_attribute_value))]
+    #[tactic(auto, unfolding(crate::specs::Attributes::read_attribute_value))]
     fn from_content(inner: BooleanValue) -> AttributeValue<A> {
         AttributeValue::Boolean(inner)
     }
@@ -1296,7 +1284,7 @@ impl<A: Allocator + Copy> reader::VariantOf<
     AttributeValue<A>,
     A,
 > for AttributeValueTextStringRule {
-    #[tactic(auto, unfolding(kmip_ttlv_types::specs::Digits::six_digits, crate::specs::Attributes::read_attribute_value))]
+    #[tactic(auto, unfolding(crate::specs::Attributes::read_attribute_value))]
     fn from_content(inner: TextStringValue<A>) -> AttributeValue<A> {
         AttributeValue::TextString(inner)
     }
@@ -1323,7 +1311,7 @@ impl<A: Allocator + Copy> reader::VariantOf<
     AttributeValue<A>,
     A,
 > for AttributeValueByteStringRule {
-    #[tactic(auto, unfolding(kmip_ttlv_types::specs::Digits::six_digits, crate::specs::Attributes::read_attribute_value))]
+    #[tactic(auto, unfolding(crate::specs::Attributes::read_attribute_value))]
     fn from_content(inner: ByteStringValue<A>) -> AttributeValue<A> {
         AttributeValue::ByteString(inner)
     }
@@ -1350,7 +1338,7 @@ impl<A: Allocator + Copy> reader::VariantOf<
     AttributeValue<A>,
     A,
 > for AttributeValueDateTimeRule {
-    #[tactic(auto, unfolding(kmip_ttlv_types::specs::Digits::six_digits, crate::specs::Attributes::read_attribute_value))]
+    #[tactic(auto, unfolding(crate::specs::Attributes::read_attribute_value))]
     fn from_content(inner: DateTimeValue) -> AttributeValue<A> {
         AttributeValue::DateTime(inner)
     }
@@ -1377,7 +1365,7 @@ impl<A: Allocator + Copy> reader::VariantOf<
     AttributeValue<A>,
     A,
 > for AttributeValueIntervalRule {
-    #[tactic(auto, unfolding(kmip_ttlv_types::specs::Digits::six_digits, crate::specs::Attributes::read_attribute_value))]
+    #[tactic(auto, unfolding(crate::specs::Attributes::read_attribute_value))]
     fn from_content(inner: IntervalValue) -> AttributeValue<A> {
         AttributeValue::Interval(inner)
     }
@@ -1404,7 +1392,7 @@ impl<A: Allocator + Copy> reader::VariantOf<
     AttributeValue<A>,
     A,
 > for AttributeValueStructureRule {
-    #[tactic(auto, unfolding(kmip_ttlv_types::specs::Digits::six_digits, crate::specs::Attributes::read_attribute_value))]
+    #[tactic(auto, unfolding(crate::specs::Attributes::read_attribute_value))]
     fn from_content(inner: AttributeStructure<A>) -> AttributeValue<A> {
         AttributeValue::Structure(inner)
     }
@@ -1541,7 +1529,6 @@ impl<A: Allocator + Copy> reader::Choice<A> for AttributeValue<A> {
         ),
     );
 
-    #[tactic(auto, unfolding(kmip_ttlv_types::specs::Digits::six_digits))]
     fn has_form() {}
 }
 
@@ -1576,11 +1563,11 @@ impl<B: Allocator> Serialize for Attribute<B> {
     ghost stated = { written_attribute };
 
     fn visit<V: Visitor>(&self, visitor: &mut V) -> Result<(), AllocError> {
-        writing::begin_struct(visitor, "0x420008")?;
-        writing::string(visitor, "Transparent:0x42000A", &self.name)?;
+        writing::begin_structure(visitor, 0x420008)?;
+        writing::string(visitor, 0x42000A, &self.name)?;
         writing::option(visitor, &self.index)?;
         self.value.visit(visitor)?;
-        writing::end_struct(visitor, "0x420008")?;
+        writing::end_structure(visitor, 0x420008)?;
         Ok(())
     }
 }
@@ -1604,10 +1591,9 @@ impl<A: Allocator + Copy> reader::ReadStructure<A> for Attribute<A> {
 
     const DENIES_UNKNOWN: bool = true;
 
-    #[tactic(auto, unfolding(kmip_ttlv_types::specs::Digits::six_digits))]
     fn has_form() {}
 
-    #[tactic(auto, unfolding(kmip_ttlv_types::specs::Digits::six_digits, crate::specs::Attributes::read_attribute))]
+    #[tactic(auto, unfolding(crate::specs::Attributes::read_attribute))]
     fn from_fields(fields: (String<A>, Option<AttributeIndex>, AttributeValue<A>)) -> Self {
         let (name, index, value) = fields;
         Attribute { name, index, value }

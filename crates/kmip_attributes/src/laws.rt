@@ -1,12 +1,11 @@
 // Written by codegen from types.table: change that, and run codegen/codegen.
-//! What was written is read back: the laws of `kmip_ttlv::laws`, at these messages.
+//! What was written is read back: the laws of `kmip_ttlv_parts::laws`, at these messages.
 
 ghost use Rattle.std.specs.Prelude.{◌≡◌};
-ghost use Rattle.kmip_ttlv.specs.Equal.{AreEqual, ReturnsEqual};
-ghost use Rattle.kmip_attributes.specs.Values.{written_object_type, read_object_type, written_cryptographic_algorithm, read_cryptographic_algorithm, written_certificate_type, read_certificate_type, written_state, read_state, written_name_type, read_name_type, written_block_cipher_mode, read_block_cipher_mode, written_padding_method, read_padding_method, written_hashing_algorithm, read_hashing_algorithm, written_key_role_type, read_key_role_type, written_recommended_curve, read_recommended_curve, written_key_format_type, read_key_format_type, written_usage_limits_unit, read_usage_limits_unit, written_revocation_reason_code, read_revocation_reason_code, written_link_type, read_link_type};
-ghost use Rattle.kmip_attributes.specs.Structures.{returned_name, read_name, returned_cryptographic_parameters, read_cryptographic_parameters, qlength_value, returned_cryptographic_domain_parameters, read_cryptographic_domain_parameters, read_certificate_identifier, certificate_subject_alternative_name_value, read_certificate_subject, certificate_issuer_alternative_name_value, read_certificate_issuer, returned_digest, read_digest, usage_limits_count_value, returned_usage_limits, read_usage_limits, returned_revocation_reason, read_revocation_reason, returned_link, read_link, application_specific_information_value};
-ghost use Rattle.kmip_attributes.specs.Attributes.{attribute_name_value, attribute_index_value, integer_value_value, long_integer_value_value, big_integer_value_value, enumeration_value_value, boolean_value_value, text_string_value_value, byte_string_value_value, date_time_value_value, interval_value_value, returned_attribute_structure, read_attribute_structure, returned_attribute_value, read_attribute_value, returned_attribute, read_attribute};
-ghost use Rattle.kmip_attributes.specs.Soundness.{IsObjectType, IsCryptographicAlgorithm, IsCertificateType, IsState, IsNameType, IsBlockCipherMode, IsPaddingMethod, IsHashingAlgorithm, IsKeyRoleType, IsRecommendedCurve, IsKeyFormatType, IsUsageLimitsUnit, IsRevocationReasonCode, IsLinkType, IsName, IsCryptographicParameters, IsQlength, IsCryptographicDomainParameters, IsDigest, IsUsageLimitsCount, IsUsageLimits, IsRevocationReason, IsLink, IsAttributeIndex, IsIntegerValue, IsLongIntegerValue, IsBigIntegerValue, IsEnumerationValue, IsDateTimeValue, IsIntervalValue, IsAttributeStructure, IsAttributeValue, IsAttribute};
+ghost use Rattle.kmip_ttlv_parts.specs.Equal.{AreEqual};
+ghost use Rattle.kmip_attributes.specs.Structures.{name_value, read_cryptographic_parameters, qlength_value, read_cryptographic_domain_parameters, read_certificate_identifier, certificate_subject_alternative_name_value, read_certificate_subject, certificate_issuer_alternative_name_value, read_certificate_issuer, read_digest, usage_limits_count_value, read_usage_limits, read_revocation_reason, link_value, application_specific_information_value};
+ghost use Rattle.kmip_attributes.specs.Attributes.{attribute_name_value, attribute_index_value, integer_value_value, long_integer_value_value, big_integer_value_value, enumeration_value_value, boolean_value_value, text_string_value_value, byte_string_value_value, date_time_value_value, interval_value_value, read_attribute_structure, read_attribute_value, read_attribute};
+ghost use Rattle.kmip_attributes.specs.Soundness.{IsName, IsCryptographicParameters, IsQlength, IsCryptographicDomainParameters, IsDigest, IsUsageLimitsCount, IsUsageLimits, IsRevocationReason, IsLink, IsAttributeIndex, IsIntegerValue, IsLongIntegerValue, IsBigIntegerValue, IsEnumerationValue, IsDateTimeValue, IsIntervalValue, IsAttributeStructure, IsAttributeValue, IsAttribute};
 
 use crate::attribute::{
     Attribute, AttributeIndex, AttributeName, AttributeStructure, AttributeValue, BigIntegerValue,
@@ -19,44 +18,25 @@ use crate::structures::{
     CryptographicDomainParameters, CryptographicParameters, Digest, Link, Name, Qlength,
     RevocationReason, UsageLimits, UsageLimitsCount,
 };
-use crate::values::{
-    BlockCipherMode, CertificateType, CryptographicAlgorithm, HashingAlgorithm, KeyFormatType,
-    KeyRoleType, LinkType, NameType, ObjectType, PaddingMethod, RecommendedCurve,
-    RevocationReasonCode, State, UsageLimitsUnit,
-};
-use kmip_ttlv::laws::{Sound, is_whole};
+use kmip_ttlv_parts::laws::{Sound, is_whole};
 use std::alloc::Allocator;
 
 /// Values of a type are equal if they stand for the same: no type loses a part of what it is decoded from.
 pub fn equal_values<A: Allocator>()
-    ensures object_type { ReturnsEqual written_object_type read_object_type ⟦<ObjectType as PartialEq>⟧.eq }
-    ensures cryptographic_algorithm { ReturnsEqual written_cryptographic_algorithm read_cryptographic_algorithm ⟦<CryptographicAlgorithm as PartialEq>⟧.eq }
-    ensures certificate_type { ReturnsEqual written_certificate_type read_certificate_type ⟦<CertificateType as PartialEq>⟧.eq }
-    ensures state { ReturnsEqual written_state read_state ⟦<State as PartialEq>⟧.eq }
-    ensures name_type { ReturnsEqual written_name_type read_name_type ⟦<NameType as PartialEq>⟧.eq }
-    ensures block_cipher_mode { ReturnsEqual written_block_cipher_mode read_block_cipher_mode ⟦<BlockCipherMode as PartialEq>⟧.eq }
-    ensures padding_method { ReturnsEqual written_padding_method read_padding_method ⟦<PaddingMethod as PartialEq>⟧.eq }
-    ensures hashing_algorithm { ReturnsEqual written_hashing_algorithm read_hashing_algorithm ⟦<HashingAlgorithm as PartialEq>⟧.eq }
-    ensures key_role_type { ReturnsEqual written_key_role_type read_key_role_type ⟦<KeyRoleType as PartialEq>⟧.eq }
-    ensures recommended_curve { ReturnsEqual written_recommended_curve read_recommended_curve ⟦<RecommendedCurve as PartialEq>⟧.eq }
-    ensures key_format_type { ReturnsEqual written_key_format_type read_key_format_type ⟦<KeyFormatType as PartialEq>⟧.eq }
-    ensures usage_limits_unit { ReturnsEqual written_usage_limits_unit read_usage_limits_unit ⟦<UsageLimitsUnit as PartialEq>⟧.eq }
-    ensures revocation_reason_code { ReturnsEqual written_revocation_reason_code read_revocation_reason_code ⟦<RevocationReasonCode as PartialEq>⟧.eq }
-    ensures link_type { ReturnsEqual written_link_type read_link_type ⟦<LinkType as PartialEq>⟧.eq }
-    ensures name { ReturnsEqual returned_name read_name ⟦<Name<A> as PartialEq>⟧.eq }
-    ensures cryptographic_parameters { ReturnsEqual returned_cryptographic_parameters read_cryptographic_parameters ⟦<CryptographicParameters as PartialEq>⟧.eq }
+    ensures name { AreEqual name_value ⟦<Name<A> as PartialEq>⟧.eq }
+    ensures cryptographic_parameters { AreEqual read_cryptographic_parameters ⟦<CryptographicParameters as PartialEq>⟧.eq }
     ensures qlength { AreEqual qlength_value ⟦<Qlength as PartialEq>⟧.eq }
-    ensures cryptographic_domain_parameters { ReturnsEqual returned_cryptographic_domain_parameters read_cryptographic_domain_parameters ⟦<CryptographicDomainParameters as PartialEq>⟧.eq }
+    ensures cryptographic_domain_parameters { AreEqual read_cryptographic_domain_parameters ⟦<CryptographicDomainParameters as PartialEq>⟧.eq }
     ensures certificate_identifier { AreEqual read_certificate_identifier ⟦<CertificateIdentifier<A> as PartialEq>⟧.eq }
     ensures certificate_subject_alternative_name { AreEqual certificate_subject_alternative_name_value ⟦<CertificateSubjectAlternativeName<A> as PartialEq>⟧.eq }
     ensures certificate_subject { AreEqual read_certificate_subject ⟦<CertificateSubject<A> as PartialEq>⟧.eq }
     ensures certificate_issuer_alternative_name { AreEqual certificate_issuer_alternative_name_value ⟦<CertificateIssuerAlternativeName<A> as PartialEq>⟧.eq }
     ensures certificate_issuer { AreEqual read_certificate_issuer ⟦<CertificateIssuer<A> as PartialEq>⟧.eq }
-    ensures digest { ReturnsEqual returned_digest read_digest ⟦<Digest<A> as PartialEq>⟧.eq }
+    ensures digest { AreEqual read_digest ⟦<Digest<A> as PartialEq>⟧.eq }
     ensures usage_limits_count { AreEqual usage_limits_count_value ⟦<UsageLimitsCount as PartialEq>⟧.eq }
-    ensures usage_limits { ReturnsEqual returned_usage_limits read_usage_limits ⟦<UsageLimits as PartialEq>⟧.eq }
-    ensures revocation_reason { ReturnsEqual returned_revocation_reason read_revocation_reason ⟦<RevocationReason<A> as PartialEq>⟧.eq }
-    ensures link { ReturnsEqual returned_link read_link ⟦<Link<A> as PartialEq>⟧.eq }
+    ensures usage_limits { AreEqual read_usage_limits ⟦<UsageLimits as PartialEq>⟧.eq }
+    ensures revocation_reason { AreEqual read_revocation_reason ⟦<RevocationReason<A> as PartialEq>⟧.eq }
+    ensures link { AreEqual link_value ⟦<Link<A> as PartialEq>⟧.eq }
     ensures application_specific_information { AreEqual application_specific_information_value ⟦<ApplicationSpecificInformation<A> as PartialEq>⟧.eq }
     ensures attribute_name { AreEqual attribute_name_value ⟦<AttributeName<A> as PartialEq>⟧.eq }
     ensures attribute_index { AreEqual attribute_index_value ⟦<AttributeIndex as PartialEq>⟧.eq }
@@ -69,122 +49,10 @@ pub fn equal_values<A: Allocator>()
     ensures byte_string_value { AreEqual byte_string_value_value ⟦<ByteStringValue<A> as PartialEq>⟧.eq }
     ensures date_time_value { AreEqual date_time_value_value ⟦<DateTimeValue as PartialEq>⟧.eq }
     ensures interval_value { AreEqual interval_value_value ⟦<IntervalValue as PartialEq>⟧.eq }
-    ensures attribute_structure { ReturnsEqual returned_attribute_structure read_attribute_structure ⟦<AttributeStructure<A> as PartialEq>⟧.eq }
-    ensures attribute_value { ReturnsEqual returned_attribute_value read_attribute_value ⟦<AttributeValue<A> as PartialEq>⟧.eq }
-    ensures attribute { ReturnsEqual returned_attribute read_attribute ⟦<Attribute<A> as PartialEq>⟧.eq }
+    ensures attribute_structure { AreEqual read_attribute_structure ⟦<AttributeStructure<A> as PartialEq>⟧.eq }
+    ensures attribute_value { AreEqual read_attribute_value ⟦<AttributeValue<A> as PartialEq>⟧.eq }
+    ensures attribute { AreEqual read_attribute ⟦<Attribute<A> as PartialEq>⟧.eq }
 {}
-
-impl Sound for ObjectType {
-    ghost IsSound = { IsObjectType };
-
-    fn is_sound(&self) -> bool {
-        self.number().is_sound()
-    }
-}
-
-impl Sound for CryptographicAlgorithm {
-    ghost IsSound = { IsCryptographicAlgorithm };
-
-    fn is_sound(&self) -> bool {
-        self.number().is_sound()
-    }
-}
-
-impl Sound for CertificateType {
-    ghost IsSound = { IsCertificateType };
-
-    fn is_sound(&self) -> bool {
-        self.number().is_sound()
-    }
-}
-
-impl Sound for State {
-    ghost IsSound = { IsState };
-
-    fn is_sound(&self) -> bool {
-        self.number().is_sound()
-    }
-}
-
-impl Sound for NameType {
-    ghost IsSound = { IsNameType };
-
-    fn is_sound(&self) -> bool {
-        self.number().is_sound()
-    }
-}
-
-impl Sound for BlockCipherMode {
-    ghost IsSound = { IsBlockCipherMode };
-
-    fn is_sound(&self) -> bool {
-        self.number().is_sound()
-    }
-}
-
-impl Sound for PaddingMethod {
-    ghost IsSound = { IsPaddingMethod };
-
-    fn is_sound(&self) -> bool {
-        self.number().is_sound()
-    }
-}
-
-impl Sound for HashingAlgorithm {
-    ghost IsSound = { IsHashingAlgorithm };
-
-    fn is_sound(&self) -> bool {
-        self.number().is_sound()
-    }
-}
-
-impl Sound for KeyRoleType {
-    ghost IsSound = { IsKeyRoleType };
-
-    fn is_sound(&self) -> bool {
-        self.number().is_sound()
-    }
-}
-
-impl Sound for RecommendedCurve {
-    ghost IsSound = { IsRecommendedCurve };
-
-    fn is_sound(&self) -> bool {
-        self.number().is_sound()
-    }
-}
-
-impl Sound for KeyFormatType {
-    ghost IsSound = { IsKeyFormatType };
-
-    fn is_sound(&self) -> bool {
-        self.number().is_sound()
-    }
-}
-
-impl Sound for UsageLimitsUnit {
-    ghost IsSound = { IsUsageLimitsUnit };
-
-    fn is_sound(&self) -> bool {
-        self.number().is_sound()
-    }
-}
-
-impl Sound for RevocationReasonCode {
-    ghost IsSound = { IsRevocationReasonCode };
-
-    fn is_sound(&self) -> bool {
-        self.number().is_sound()
-    }
-}
-
-impl Sound for LinkType {
-    ghost IsSound = { IsLinkType };
-
-    fn is_sound(&self) -> bool {
-        self.number().is_sound()
-    }
-}
 
 impl<A: Allocator> Sound for Name<A> {
     ghost IsSound = { IsName };

@@ -2,16 +2,16 @@
 //! What attributes that are structures say (KMIP 1.0, section 3), under the tag of an Attribute Value.
 
 ghost use Rattle.std.specs.Prelude.{refl, true};
-ghost use Rattle.kmip_attributes.specs.Structures.{name_form, written_name, read_name, cryptographic_parameters_form, written_cryptographic_parameters, read_cryptographic_parameters, qlength_form, qlength_value, cryptographic_domain_parameters_form, written_cryptographic_domain_parameters, read_cryptographic_domain_parameters, certificate_identifier_form, written_certificate_identifier, read_certificate_identifier, certificate_subject_alternative_name_form, certificate_subject_alternative_name_value, certificate_subject_form, written_certificate_subject, read_certificate_subject, certificate_issuer_alternative_name_form, certificate_issuer_alternative_name_value, certificate_issuer_form, written_certificate_issuer, read_certificate_issuer, digest_form, written_digest, read_digest, usage_limits_count_form, usage_limits_count_value, usage_limits_form, written_usage_limits, read_usage_limits, revocation_reason_form, written_revocation_reason, read_revocation_reason, link_form, written_link, read_link, application_specific_information_form, application_specific_information_value};
+ghost use Rattle.kmip_attributes.specs.Structures.{name_form, name_value, cryptographic_parameters_form, written_cryptographic_parameters, read_cryptographic_parameters, qlength_form, qlength_value, cryptographic_domain_parameters_form, written_cryptographic_domain_parameters, read_cryptographic_domain_parameters, certificate_identifier_form, written_certificate_identifier, read_certificate_identifier, certificate_subject_alternative_name_form, certificate_subject_alternative_name_value, certificate_subject_form, written_certificate_subject, read_certificate_subject, certificate_issuer_alternative_name_form, certificate_issuer_alternative_name_value, certificate_issuer_form, written_certificate_issuer, read_certificate_issuer, digest_form, written_digest, read_digest, usage_limits_count_form, usage_limits_count_value, usage_limits_form, written_usage_limits, read_usage_limits, revocation_reason_form, written_revocation_reason, read_revocation_reason, link_form, link_value, application_specific_information_form, application_specific_information_value};
 
 use crate::values::{
     BlockCipherMode, HashingAlgorithm, KeyFormatType, KeyRoleType, LinkType, NameType,
     PaddingMethod, RecommendedCurve, RevocationReasonCode, UsageLimitsUnit,
 };
-use kmip_ttlv::messages::writing;
-use kmip_ttlv::reader;
-use kmip_ttlv::shape::Serialize;
-use kmip_ttlv::visit::Visitor;
+use kmip_ttlv_parts::messages::writing;
+use kmip_ttlv_parts::reader;
+use kmip_ttlv_parts::shape::Serialize;
+use kmip_ttlv_parts::visit::{Leaf, Visitor};
 use std::alloc::{AllocError, Allocator, Global};
 
 /// What users call an object (KMIP 1.0, section 3.2).
@@ -25,14 +25,14 @@ pub struct Name<A: Allocator = Global> {
 }
 
 impl<B: Allocator> Serialize for Name<B> {
-    ghost stated = { written_name };
+    ghost stated = { name_value };
 
-    #[tactic(auto, unfolding(crate::specs::Structures::written_name))]
+    #[tactic(auto, unfolding(crate::specs::Structures::name_value))]
     fn visit<V: Visitor>(&self, visitor: &mut V) -> Result<(), AllocError> {
-        writing::begin_struct(visitor, "0x42000B")?;
-        writing::string(visitor, "Transparent:0x420055", &self.value)?;
+        writing::begin_structure(visitor, 0x42000B)?;
+        writing::string(visitor, 0x420055, &self.value)?;
         self.name_type.visit(visitor)?;
-        writing::end_struct(visitor, "0x42000B")?;
+        writing::end_structure(visitor, 0x42000B)?;
         Ok(())
     }
 }
@@ -40,7 +40,7 @@ impl<B: Allocator> Serialize for Name<B> {
 impl<A: Allocator + Copy> reader::ReadStructure<A> for Name<A> {
     ghost form = { name_form };
 
-    ghost value = { read_name };
+    ghost value = { name_value };
 
     ghost TAG = { 0x42000B };
 
@@ -55,10 +55,9 @@ impl<A: Allocator + Copy> reader::ReadStructure<A> for Name<A> {
 
     const DENIES_UNKNOWN: bool = true;
 
-    #[tactic(auto, unfolding(kmip_ttlv_types::specs::Digits::six_digits))]
     fn has_form() {}
 
-    #[tactic(auto, unfolding(kmip_ttlv_types::specs::Digits::six_digits, crate::specs::Structures::read_name))]
+    #[tactic(auto, unfolding(crate::specs::Structures::name_value))]
     fn from_fields(fields: (String<A>, NameType)) -> Self {
         let (value, name_type) = fields;
         Name { value, name_type }
@@ -68,7 +67,7 @@ impl<A: Allocator + Copy> reader::ReadStructure<A> for Name<A> {
 impl<A: Allocator + Copy> reader::ReadNested<A> for Name<A> {
     ghost form = { name_form };
 
-    ghost value = { read_name };
+    ghost value = { name_value };
 
     ghost TAG = { 0x42000B };
 
@@ -101,12 +100,12 @@ impl Serialize for CryptographicParameters {
     ghost stated = { written_cryptographic_parameters };
 
     fn visit<V: Visitor>(&self, visitor: &mut V) -> Result<(), AllocError> {
-        writing::begin_struct(visitor, "0x42000B")?;
+        writing::begin_structure(visitor, 0x42000B)?;
         writing::option(visitor, &self.block_cipher_mode)?;
         writing::option(visitor, &self.padding_method)?;
         writing::option(visitor, &self.hashing_algorithm)?;
         writing::option(visitor, &self.key_role_type)?;
-        writing::end_struct(visitor, "0x42000B")?;
+        writing::end_structure(visitor, 0x42000B)?;
         Ok(())
     }
 }
@@ -131,10 +130,9 @@ impl<A: Allocator + Copy> reader::ReadStructure<A> for CryptographicParameters {
 
     const DENIES_UNKNOWN: bool = true;
 
-    #[tactic(auto, unfolding(kmip_ttlv_types::specs::Digits::six_digits))]
     fn has_form() {}
 
-    #[tactic(auto, unfolding(kmip_ttlv_types::specs::Digits::six_digits, crate::specs::Structures::read_cryptographic_parameters))]
+    #[tactic(auto, unfolding(crate::specs::Structures::read_cryptographic_parameters))]
     fn from_fields(
         fields: (
             Option<BlockCipherMode>,
@@ -183,7 +181,7 @@ impl Serialize for Qlength {
     ghost stated = { qlength_value };
 
     fn visit<V: Visitor>(&self, visitor: &mut V) -> Result<(), AllocError> {
-        writing::integer(visitor, "Transparent:0x420073", self.bits)?;
+        writing::tagged(visitor, 0x420073, Leaf::I32(self.bits))?;
         Ok(())
     }
 }
@@ -195,7 +193,6 @@ impl<A: Allocator + Copy> reader::ReadItem<A> for Qlength {
 
     ghost plain = { (refl, refl) };
 
-    #[tactic(auto, unfolding(kmip_ttlv_types::specs::Digits::six_digits))]
     fn read_item<'b>(
         scope: &reader::Scope<'b, A>,
         cursor: &mut reader::Cursor<'b, A>,
@@ -218,10 +215,10 @@ impl Serialize for CryptographicDomainParameters {
     ghost stated = { written_cryptographic_domain_parameters };
 
     fn visit<V: Visitor>(&self, visitor: &mut V) -> Result<(), AllocError> {
-        writing::begin_struct(visitor, "0x42000B")?;
+        writing::begin_structure(visitor, 0x42000B)?;
         writing::option(visitor, &self.qlength)?;
         writing::option(visitor, &self.recommended_curve)?;
-        writing::end_struct(visitor, "0x42000B")?;
+        writing::end_structure(visitor, 0x42000B)?;
         Ok(())
     }
 }
@@ -244,10 +241,9 @@ impl<A: Allocator + Copy> reader::ReadStructure<A> for CryptographicDomainParame
 
     const DENIES_UNKNOWN: bool = true;
 
-    #[tactic(auto, unfolding(kmip_ttlv_types::specs::Digits::six_digits))]
     fn has_form() {}
 
-    #[tactic(auto, unfolding(kmip_ttlv_types::specs::Digits::six_digits, crate::specs::Structures::read_cryptographic_domain_parameters))]
+    #[tactic(auto, unfolding(crate::specs::Structures::read_cryptographic_domain_parameters))]
     fn from_fields(fields: (Option<Qlength>, Option<RecommendedCurve>)) -> Self {
         let (qlength, recommended_curve) = fields;
         CryptographicDomainParameters {
@@ -290,10 +286,10 @@ impl<B: Allocator> Serialize for CertificateIdentifier<B> {
     ghost stated = { written_certificate_identifier };
 
     fn visit<V: Visitor>(&self, visitor: &mut V) -> Result<(), AllocError> {
-        writing::begin_struct(visitor, "0x42000B")?;
-        writing::string(visitor, "Transparent:0x42003B", &self.issuer)?;
-        writing::optional_text_string(visitor, "Transparent:0x420087", &self.serial_number)?;
-        writing::end_struct(visitor, "0x42000B")?;
+        writing::begin_structure(visitor, 0x42000B)?;
+        writing::string(visitor, 0x42003B, &self.issuer)?;
+        writing::optional_text_string(visitor, 0x420087, &self.serial_number)?;
+        writing::end_structure(visitor, 0x42000B)?;
         Ok(())
     }
 }
@@ -316,10 +312,9 @@ impl<A: Allocator + Copy> reader::ReadStructure<A> for CertificateIdentifier<A> 
 
     const DENIES_UNKNOWN: bool = true;
 
-    #[tactic(auto, unfolding(kmip_ttlv_types::specs::Digits::six_digits))]
     fn has_form() {}
 
-    #[tactic(auto, unfolding(kmip_ttlv_types::specs::Digits::six_digits, crate::specs::Structures::read_certificate_identifier))]
+    #[tactic(auto, unfolding(crate::specs::Structures::read_certificate_identifier))]
     fn from_fields(fields: (String<A>, Option<String<A>>)) -> Self {
         let (issuer, serial_number) = fields;
         CertificateIdentifier {
@@ -360,7 +355,7 @@ impl<B: Allocator> Serialize for CertificateSubjectAlternativeName<B> {
     ghost stated = { certificate_subject_alternative_name_value };
 
     fn visit<V: Visitor>(&self, visitor: &mut V) -> Result<(), AllocError> {
-        writing::string(visitor, "Transparent:0x42001B", &self.text)
+        writing::string(visitor, 0x42001B, &self.text)
     }
 }
 
@@ -371,7 +366,6 @@ impl<A: Allocator + Copy> reader::ReadItem<A> for CertificateSubjectAlternativeN
 
     ghost plain = { (refl, refl) };
 
-    #[tactic(auto, unfolding(kmip_ttlv_types::specs::Digits::six_digits))]
     fn read_item<'b>(
         scope: &reader::Scope<'b, A>,
         cursor: &mut reader::Cursor<'b, A>,
@@ -396,10 +390,10 @@ impl<B: Allocator> Serialize for CertificateSubject<B> {
 
     #[tactic(auto, unfolding(crate::specs::Structures::written_certificate_subject))]
     fn visit<V: Visitor>(&self, visitor: &mut V) -> Result<(), AllocError> {
-        writing::begin_struct(visitor, "0x42000B")?;
-        writing::string(visitor, "Transparent:0x42001C", &self.distinguished_name)?;
+        writing::begin_structure(visitor, 0x42000B)?;
+        writing::string(visitor, 0x42001C, &self.distinguished_name)?;
         writing::several(visitor, &self.alternative_names)?;
-        writing::end_struct(visitor, "0x42000B")?;
+        writing::end_structure(visitor, 0x42000B)?;
         Ok(())
     }
 }
@@ -422,10 +416,9 @@ impl<A: Allocator + Copy> reader::ReadStructure<A> for CertificateSubject<A> {
 
     const DENIES_UNKNOWN: bool = true;
 
-    #[tactic(auto, unfolding(kmip_ttlv_types::specs::Digits::six_digits))]
     fn has_form() {}
 
-    #[tactic(auto, unfolding(kmip_ttlv_types::specs::Digits::six_digits, crate::specs::Structures::read_certificate_subject))]
+    #[tactic(auto, unfolding(crate::specs::Structures::read_certificate_subject))]
     fn from_fields(fields: (String<A>, Vec<CertificateSubjectAlternativeName<A>, A>)) -> Self {
         let (distinguished_name, alternative_names) = fields;
         CertificateSubject {
@@ -466,7 +459,7 @@ impl<B: Allocator> Serialize for CertificateIssuerAlternativeName<B> {
     ghost stated = { certificate_issuer_alternative_name_value };
 
     fn visit<V: Visitor>(&self, visitor: &mut V) -> Result<(), AllocError> {
-        writing::string(visitor, "Transparent:0x420016", &self.text)
+        writing::string(visitor, 0x420016, &self.text)
     }
 }
 
@@ -477,7 +470,6 @@ impl<A: Allocator + Copy> reader::ReadItem<A> for CertificateIssuerAlternativeNa
 
     ghost plain = { (refl, refl) };
 
-    #[tactic(auto, unfolding(kmip_ttlv_types::specs::Digits::six_digits))]
     fn read_item<'b>(
         scope: &reader::Scope<'b, A>,
         cursor: &mut reader::Cursor<'b, A>,
@@ -502,10 +494,10 @@ impl<B: Allocator> Serialize for CertificateIssuer<B> {
 
     #[tactic(auto, unfolding(crate::specs::Structures::written_certificate_issuer))]
     fn visit<V: Visitor>(&self, visitor: &mut V) -> Result<(), AllocError> {
-        writing::begin_struct(visitor, "0x42000B")?;
-        writing::string(visitor, "Transparent:0x420017", &self.distinguished_name)?;
+        writing::begin_structure(visitor, 0x42000B)?;
+        writing::string(visitor, 0x420017, &self.distinguished_name)?;
         writing::several(visitor, &self.alternative_names)?;
-        writing::end_struct(visitor, "0x42000B")?;
+        writing::end_structure(visitor, 0x42000B)?;
         Ok(())
     }
 }
@@ -528,10 +520,9 @@ impl<A: Allocator + Copy> reader::ReadStructure<A> for CertificateIssuer<A> {
 
     const DENIES_UNKNOWN: bool = true;
 
-    #[tactic(auto, unfolding(kmip_ttlv_types::specs::Digits::six_digits))]
     fn has_form() {}
 
-    #[tactic(auto, unfolding(kmip_ttlv_types::specs::Digits::six_digits, crate::specs::Structures::read_certificate_issuer))]
+    #[tactic(auto, unfolding(crate::specs::Structures::read_certificate_issuer))]
     fn from_fields(fields: (String<A>, Vec<CertificateIssuerAlternativeName<A>, A>)) -> Self {
         let (distinguished_name, alternative_names) = fields;
         CertificateIssuer {
@@ -576,11 +567,11 @@ impl<B: Allocator> Serialize for Digest<B> {
     ghost stated = { written_digest };
 
     fn visit<V: Visitor>(&self, visitor: &mut V) -> Result<(), AllocError> {
-        writing::begin_struct(visitor, "0x42000B")?;
+        writing::begin_structure(visitor, 0x42000B)?;
         self.hashing_algorithm.visit(visitor)?;
-        writing::optional_byte_string(visitor, "Transparent:0x420035", &self.digest_value)?;
+        writing::optional_byte_string(visitor, 0x420035, &self.digest_value)?;
         writing::option(visitor, &self.key_format_type)?;
-        writing::end_struct(visitor, "0x42000B")?;
+        writing::end_structure(visitor, 0x42000B)?;
         Ok(())
     }
 }
@@ -604,10 +595,9 @@ impl<A: Allocator + Copy> reader::ReadStructure<A> for Digest<A> {
 
     const DENIES_UNKNOWN: bool = true;
 
-    #[tactic(auto, unfolding(kmip_ttlv_types::specs::Digits::six_digits))]
     fn has_form() {}
 
-    #[tactic(auto, unfolding(kmip_ttlv_types::specs::Digits::six_digits, crate::specs::Structures::read_digest))]
+    #[tactic(auto, unfolding(crate::specs::Structures::read_digest))]
     fn from_fields(fields: (HashingAlgorithm, Option<Vec<u8, A>>, Option<KeyFormatType>)) -> Self {
         let (hashing_algorithm, digest_value, key_format_type) = fields;
         Digest {
@@ -648,7 +638,7 @@ impl Serialize for UsageLimitsCount {
     ghost stated = { usage_limits_count_value };
 
     fn visit<V: Visitor>(&self, visitor: &mut V) -> Result<(), AllocError> {
-        writing::long_integer(visitor, "Transparent:0x420096", self.count)?;
+        writing::tagged(visitor, 0x420096, Leaf::I64(self.count))?;
         Ok(())
     }
 }
@@ -660,7 +650,6 @@ impl<A: Allocator + Copy> reader::ReadItem<A> for UsageLimitsCount {
 
     ghost plain = { (refl, refl) };
 
-    #[tactic(auto, unfolding(kmip_ttlv_types::specs::Digits::six_digits))]
     fn read_item<'b>(
         scope: &reader::Scope<'b, A>,
         cursor: &mut reader::Cursor<'b, A>,
@@ -685,11 +674,11 @@ impl Serialize for UsageLimits {
     ghost stated = { written_usage_limits };
 
     fn visit<V: Visitor>(&self, visitor: &mut V) -> Result<(), AllocError> {
-        writing::begin_struct(visitor, "0x42000B")?;
-        writing::long_integer(visitor, "Transparent:0x420097", self.total)?;
+        writing::begin_structure(visitor, 0x42000B)?;
+        writing::tagged(visitor, 0x420097, Leaf::I64(self.total))?;
         writing::option(visitor, &self.count)?;
         self.unit.visit(visitor)?;
-        writing::end_struct(visitor, "0x42000B")?;
+        writing::end_structure(visitor, 0x42000B)?;
         Ok(())
     }
 }
@@ -713,10 +702,9 @@ impl<A: Allocator + Copy> reader::ReadStructure<A> for UsageLimits {
 
     const DENIES_UNKNOWN: bool = true;
 
-    #[tactic(auto, unfolding(kmip_ttlv_types::specs::Digits::six_digits))]
     fn has_form() {}
 
-    #[tactic(auto, unfolding(kmip_ttlv_types::specs::Digits::six_digits, crate::specs::Structures::read_usage_limits))]
+    #[tactic(auto, unfolding(crate::specs::Structures::read_usage_limits))]
     fn from_fields(fields: (i64, Option<UsageLimitsCount>, UsageLimitsUnit)) -> Self {
         let (total, count, unit) = fields;
         UsageLimits { total, count, unit }
@@ -756,10 +744,10 @@ impl<B: Allocator> Serialize for RevocationReason<B> {
     ghost stated = { written_revocation_reason };
 
     fn visit<V: Visitor>(&self, visitor: &mut V) -> Result<(), AllocError> {
-        writing::begin_struct(visitor, "0x42000B")?;
+        writing::begin_structure(visitor, 0x42000B)?;
         self.code.visit(visitor)?;
-        writing::optional_text_string(visitor, "Transparent:0x420080", &self.message)?;
-        writing::end_struct(visitor, "0x42000B")?;
+        writing::optional_text_string(visitor, 0x420080, &self.message)?;
+        writing::end_structure(visitor, 0x42000B)?;
         Ok(())
     }
 }
@@ -782,10 +770,9 @@ impl<A: Allocator + Copy> reader::ReadStructure<A> for RevocationReason<A> {
 
     const DENIES_UNKNOWN: bool = true;
 
-    #[tactic(auto, unfolding(kmip_ttlv_types::specs::Digits::six_digits))]
     fn has_form() {}
 
-    #[tactic(auto, unfolding(kmip_ttlv_types::specs::Digits::six_digits, crate::specs::Structures::read_revocation_reason))]
+    #[tactic(auto, unfolding(crate::specs::Structures::read_revocation_reason))]
     fn from_fields(fields: (RevocationReasonCode, Option<String<A>>)) -> Self {
         let (code, message) = fields;
         RevocationReason { code, message }
@@ -822,18 +809,14 @@ pub struct Link<A: Allocator = Global> {
 }
 
 impl<B: Allocator> Serialize for Link<B> {
-    ghost stated = { written_link };
+    ghost stated = { link_value };
 
-    #[tactic(auto, unfolding(crate::specs::Structures::written_link))]
+    #[tactic(auto, unfolding(crate::specs::Structures::link_value))]
     fn visit<V: Visitor>(&self, visitor: &mut V) -> Result<(), AllocError> {
-        writing::begin_struct(visitor, "0x42000B")?;
+        writing::begin_structure(visitor, 0x42000B)?;
         self.link_type.visit(visitor)?;
-        writing::string(
-            visitor,
-            "Transparent:0x42004C",
-            &self.linked_object_identifier,
-        )?;
-        writing::end_struct(visitor, "0x42000B")?;
+        writing::string(visitor, 0x42004C, &self.linked_object_identifier)?;
+        writing::end_structure(visitor, 0x42000B)?;
         Ok(())
     }
 }
@@ -841,7 +824,7 @@ impl<B: Allocator> Serialize for Link<B> {
 impl<A: Allocator + Copy> reader::ReadStructure<A> for Link<A> {
     ghost form = { link_form };
 
-    ghost value = { read_link };
+    ghost value = { link_value };
 
     ghost TAG = { 0x42000B };
 
@@ -856,10 +839,9 @@ impl<A: Allocator + Copy> reader::ReadStructure<A> for Link<A> {
 
     const DENIES_UNKNOWN: bool = true;
 
-    #[tactic(auto, unfolding(kmip_ttlv_types::specs::Digits::six_digits))]
     fn has_form() {}
 
-    #[tactic(auto, unfolding(kmip_ttlv_types::specs::Digits::six_digits, crate::specs::Structures::read_link))]
+    #[tactic(auto, unfolding(crate::specs::Structures::link_value))]
     fn from_fields(fields: (LinkType, String<A>)) -> Self {
         let (link_type, linked_object_identifier) = fields;
         Link {
@@ -872,7 +854,7 @@ impl<A: Allocator + Copy> reader::ReadStructure<A> for Link<A> {
 impl<A: Allocator + Copy> reader::ReadNested<A> for Link<A> {
     ghost form = { link_form };
 
-    ghost value = { read_link };
+    ghost value = { link_value };
 
     ghost TAG = { 0x42000B };
 
@@ -903,10 +885,10 @@ impl<B: Allocator> Serialize for ApplicationSpecificInformation<B> {
 
     #[tactic(auto, unfolding(crate::specs::Structures::application_specific_information_value))]
     fn visit<V: Visitor>(&self, visitor: &mut V) -> Result<(), AllocError> {
-        writing::begin_struct(visitor, "0x42000B")?;
-        writing::string(visitor, "Transparent:0x420003", &self.namespace)?;
-        writing::string(visitor, "Transparent:0x420002", &self.data)?;
-        writing::end_struct(visitor, "0x42000B")?;
+        writing::begin_structure(visitor, 0x42000B)?;
+        writing::string(visitor, 0x420003, &self.namespace)?;
+        writing::string(visitor, 0x420002, &self.data)?;
+        writing::end_structure(visitor, 0x42000B)?;
         Ok(())
     }
 }
@@ -929,10 +911,9 @@ impl<A: Allocator + Copy> reader::ReadStructure<A> for ApplicationSpecificInform
 
     const DENIES_UNKNOWN: bool = true;
 
-    #[tactic(auto, unfolding(kmip_ttlv_types::specs::Digits::six_digits))]
     fn has_form() {}
 
-    #[tactic(auto, unfolding(kmip_ttlv_types::specs::Digits::six_digits, crate::specs::Structures::application_specific_information_value))]
+    #[tactic(auto, unfolding(crate::specs::Structures::application_specific_information_value))]
     fn from_fields(fields: (String<A>, String<A>)) -> Self {
         let (namespace, data) = fields;
         ApplicationSpecificInformation { namespace, data }

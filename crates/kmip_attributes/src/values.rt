@@ -1,1514 +1,417 @@
 // Written by codegen from types.table: change that, and run codegen/codegen.
 //! What attributes that are numbers say: Enumerations (KMIP 1.0, section 9.1.3.2).
 
-ghost use Rattle.std.specs.Prelude.{◌≡◌, ◌==◌, refl, Some};
-ghost use Rattle.std.proofs.Common.{rules};
-ghost use Rattle.std.specs.Cmp.Rules.{comparing};
-ghost use Rattle.std.specs.Ordering.{on};
-ghost use Rattle.kmip_attributes.specs.Values.{object_type_form, written_object_type, read_object_type, object_type_number, object_type_read_number, cryptographic_algorithm_form, written_cryptographic_algorithm, read_cryptographic_algorithm, cryptographic_algorithm_number, cryptographic_algorithm_read_number, certificate_type_form, written_certificate_type, read_certificate_type, certificate_type_number, certificate_type_read_number, state_form, written_state, read_state, state_number, state_read_number, name_type_form, written_name_type, read_name_type, name_type_number, name_type_read_number, block_cipher_mode_form, written_block_cipher_mode, read_block_cipher_mode, block_cipher_mode_number, block_cipher_mode_read_number, padding_method_form, written_padding_method, read_padding_method, padding_method_number, padding_method_read_number, hashing_algorithm_form, written_hashing_algorithm, read_hashing_algorithm, hashing_algorithm_number, hashing_algorithm_read_number, key_role_type_form, written_key_role_type, read_key_role_type, key_role_type_number, key_role_type_read_number, recommended_curve_form, written_recommended_curve, read_recommended_curve, recommended_curve_number, recommended_curve_read_number, key_format_type_form, written_key_format_type, read_key_format_type, key_format_type_number, key_format_type_read_number, usage_limits_unit_form, written_usage_limits_unit, read_usage_limits_unit, usage_limits_unit_number, usage_limits_unit_read_number, revocation_reason_code_form, written_revocation_reason_code, read_revocation_reason_code, revocation_reason_code_number, revocation_reason_code_read_number, link_type_form, written_link_type, read_link_type, link_type_number, link_type_read_number};
+ghost use Rattle.std.specs.Prelude.{};
+ghost use Rattle.kmip_attributes.specs.Values.{};
 
-use kmip_ttlv::messages::writing;
-use kmip_ttlv::reader;
-use kmip_ttlv::shape::Serialize;
-use kmip_ttlv::visit::Visitor;
+use kmip_ttlv_parts::messages::writing;
+use kmip_ttlv_parts::shape::Serialize;
+use kmip_ttlv_parts::visit::Visitor;
+use kmip_ttlv_parts::{Enumeration, reader};
 use std::alloc::{AllocError, Allocator};
 
 /// What an object is (KMIP 1.0, sections 3.3 and 9.1.3.2.11).
-#[derive(Clone, Copy, Debug)]
-pub enum ObjectType {
+pub type ObjectType = Enumeration<0x420057>;
+
+/// The numbers of `ObjectType` that have a name.
+pub mod object_type {
+    use super::ObjectType;
+
     /// A certificate.
-    Certificate,
+    pub const CERTIFICATE: ObjectType = ObjectType { number: 0x00000001 };
     /// A symmetric key.
-    SymmetricKey,
+    pub const SYMMETRIC_KEY: ObjectType = ObjectType { number: 0x00000002 };
     /// A public key.
-    PublicKey,
+    pub const PUBLIC_KEY: ObjectType = ObjectType { number: 0x00000003 };
     /// A private key.
-    PrivateKey,
+    pub const PRIVATE_KEY: ObjectType = ObjectType { number: 0x00000004 };
     /// One of the parts that a key was split into.
-    SplitKey,
+    pub const SPLIT_KEY: ObjectType = ObjectType { number: 0x00000005 };
     /// Attributes that other objects are made with.
-    Template,
+    pub const TEMPLATE: ObjectType = ObjectType { number: 0x00000006 };
     /// A secret that is no key.
-    SecretData,
+    pub const SECRET_DATA: ObjectType = ObjectType { number: 0x00000007 };
     /// Bytes that the server doesn't interpret.
-    OpaqueObject,
-    /// Any other number. One that has a name is encoded as it is, and decoded by its name, to which it is equal.
-    Other(u32),
-}
-
-impl ObjectType {
-    /// Its number.
-    pub fn number(self) -> u32
-        ensures { result ≡ object_type_number self }
-    {
-        match self {
-            ObjectType::Certificate => 0x00000001,
-            ObjectType::SymmetricKey => 0x00000002,
-            ObjectType::PublicKey => 0x00000003,
-            ObjectType::PrivateKey => 0x00000004,
-            ObjectType::SplitKey => 0x00000005,
-            ObjectType::Template => 0x00000006,
-            ObjectType::SecretData => 0x00000007,
-            ObjectType::OpaqueObject => 0x00000008,
-            ObjectType::Other(number) => number,
-        }
-    }
-
-    /// The one of a number: by its name, if it has one.
-    pub fn from_number(number: u32) -> ObjectType
-        ensures { object_type_read_number result ≡ Some number }
-    {
-        match number {
-            0x00000001 => ObjectType::Certificate,
-            0x00000002 => ObjectType::SymmetricKey,
-            0x00000003 => ObjectType::PublicKey,
-            0x00000004 => ObjectType::PrivateKey,
-            0x00000005 => ObjectType::SplitKey,
-            0x00000006 => ObjectType::Template,
-            0x00000007 => ObjectType::SecretData,
-            0x00000008 => ObjectType::OpaqueObject,
-            _ => ObjectType::Other(number),
-        }
-    }
-}
-
-/// By their numbers.
-impl PartialEq for ObjectType {
-    ghost eq = { on object_type_number ◌==◌ };
-
-    ghost laws = { Prim.search (comparing, rules) };
-
-    fn eq(&self, other: &ObjectType) -> bool {
-        self.number() == other.number()
-    }
-}
-
-impl Eq for ObjectType {
-    ghost laws = { Prim.search (comparing, rules) };
-}
-
-impl Serialize for ObjectType {
-    ghost stated = { written_object_type };
-
-    #[tactic(auto, unfolding(crate::specs::Values::written_object_type))]
-    fn visit<V: Visitor>(&self, visitor: &mut V) -> Result<(), AllocError> {
-        writing::enumeration(visitor, "Transparent:0x420057", self.number())
-    }
-}
-
-impl<A: Allocator + Copy> reader::ReadItem<A> for ObjectType {
-    ghost form = { object_type_form };
-
-    ghost value = { read_object_type };
-
-    ghost plain = { (refl, refl) };
-
-    #[tactic(auto, unfolding(kmip_ttlv_types::specs::Digits::six_digits, crate::specs::Values::read_object_type))]
-    fn read_item<'b>(
-        scope: &reader::Scope<'b, A>,
-        cursor: &mut reader::Cursor<'b, A>,
-    ) -> reader::Step<Self, A> {
-        let number: u32 = cursor.wrapped_leaf(scope, 0x420057)?;
-        Ok(ObjectType::from_number(number))
-    }
+    pub const OPAQUE_OBJECT: ObjectType = ObjectType { number: 0x00000008 };
 }
 
 /// What a key is for (KMIP 1.0, sections 3.4 and 9.1.3.2.12).
-#[derive(Clone, Copy, Debug)]
-pub enum CryptographicAlgorithm {
+pub type CryptographicAlgorithm = Enumeration<0x420028>;
+
+/// The numbers of `CryptographicAlgorithm` that have a name.
+pub mod cryptographic_algorithm {
+    use super::CryptographicAlgorithm;
+
     /// DES.
-    Des,
+    pub const DES: CryptographicAlgorithm = CryptographicAlgorithm { number: 0x00000001 };
     /// 3DES.
-    TripleDes,
+    pub const TRIPLE_DES: CryptographicAlgorithm = CryptographicAlgorithm { number: 0x00000002 };
     /// AES.
-    Aes,
+    pub const AES: CryptographicAlgorithm = CryptographicAlgorithm { number: 0x00000003 };
     /// RSA.
-    Rsa,
+    pub const RSA: CryptographicAlgorithm = CryptographicAlgorithm { number: 0x00000004 };
     /// DSA.
-    Dsa,
+    pub const DSA: CryptographicAlgorithm = CryptographicAlgorithm { number: 0x00000005 };
     /// ECDSA.
-    Ecdsa,
+    pub const ECDSA: CryptographicAlgorithm = CryptographicAlgorithm { number: 0x00000006 };
     /// HMAC with SHA-1.
-    HmacSha1,
+    pub const HMAC_SHA1: CryptographicAlgorithm = CryptographicAlgorithm { number: 0x00000007 };
     /// HMAC with SHA-224.
-    HmacSha224,
+    pub const HMAC_SHA224: CryptographicAlgorithm = CryptographicAlgorithm { number: 0x00000008 };
     /// HMAC with SHA-256.
-    HmacSha256,
+    pub const HMAC_SHA256: CryptographicAlgorithm = CryptographicAlgorithm { number: 0x00000009 };
     /// HMAC with SHA-384.
-    HmacSha384,
+    pub const HMAC_SHA384: CryptographicAlgorithm = CryptographicAlgorithm { number: 0x0000000A };
     /// HMAC with SHA-512.
-    HmacSha512,
+    pub const HMAC_SHA512: CryptographicAlgorithm = CryptographicAlgorithm { number: 0x0000000B };
     /// HMAC with MD5.
-    HmacMd5,
+    pub const HMAC_MD5: CryptographicAlgorithm = CryptographicAlgorithm { number: 0x0000000C };
     /// Diffie-Hellman.
-    Dh,
+    pub const DH: CryptographicAlgorithm = CryptographicAlgorithm { number: 0x0000000D };
     /// Elliptic curve Diffie-Hellman.
-    Ecdh,
+    pub const ECDH: CryptographicAlgorithm = CryptographicAlgorithm { number: 0x0000000E };
     /// Elliptic curve Menezes-Qu-Vanstone.
-    Ecmqv,
+    pub const ECMQV: CryptographicAlgorithm = CryptographicAlgorithm { number: 0x0000000F };
     /// Blowfish.
-    Blowfish,
+    pub const BLOWFISH: CryptographicAlgorithm = CryptographicAlgorithm { number: 0x00000010 };
     /// Camellia.
-    Camellia,
+    pub const CAMELLIA: CryptographicAlgorithm = CryptographicAlgorithm { number: 0x00000011 };
     /// CAST5.
-    Cast5,
+    pub const CAST5: CryptographicAlgorithm = CryptographicAlgorithm { number: 0x00000012 };
     /// IDEA.
-    Idea,
+    pub const IDEA: CryptographicAlgorithm = CryptographicAlgorithm { number: 0x00000013 };
     /// MARS.
-    Mars,
+    pub const MARS: CryptographicAlgorithm = CryptographicAlgorithm { number: 0x00000014 };
     /// RC2.
-    Rc2,
+    pub const RC2: CryptographicAlgorithm = CryptographicAlgorithm { number: 0x00000015 };
     /// RC4.
-    Rc4,
+    pub const RC4: CryptographicAlgorithm = CryptographicAlgorithm { number: 0x00000016 };
     /// RC5.
-    Rc5,
+    pub const RC5: CryptographicAlgorithm = CryptographicAlgorithm { number: 0x00000017 };
     /// SKIPJACK.
-    Skipjack,
+    pub const SKIPJACK: CryptographicAlgorithm = CryptographicAlgorithm { number: 0x00000018 };
     /// Twofish.
-    Twofish,
-    /// Any other number. One that has a name is encoded as it is, and decoded by its name, to which it is equal.
-    Other(u32),
-}
-
-impl CryptographicAlgorithm {
-    /// Its number.
-    pub fn number(self) -> u32
-        ensures { result ≡ cryptographic_algorithm_number self }
-    {
-        match self {
-            CryptographicAlgorithm::Des => 0x00000001,
-            CryptographicAlgorithm::TripleDes => 0x00000002,
-            CryptographicAlgorithm::Aes => 0x00000003,
-            CryptographicAlgorithm::Rsa => 0x00000004,
-            CryptographicAlgorithm::Dsa => 0x00000005,
-            CryptographicAlgorithm::Ecdsa => 0x00000006,
-            CryptographicAlgorithm::HmacSha1 => 0x00000007,
-            CryptographicAlgorithm::HmacSha224 => 0x00000008,
-            CryptographicAlgorithm::HmacSha256 => 0x00000009,
-            CryptographicAlgorithm::HmacSha384 => 0x0000000A,
-            CryptographicAlgorithm::HmacSha512 => 0x0000000B,
-            CryptographicAlgorithm::HmacMd5 => 0x0000000C,
-            CryptographicAlgorithm::Dh => 0x0000000D,
-            CryptographicAlgorithm::Ecdh => 0x0000000E,
-            CryptographicAlgorithm::Ecmqv => 0x0000000F,
-            CryptographicAlgorithm::Blowfish => 0x00000010,
-            CryptographicAlgorithm::Camellia => 0x00000011,
-            CryptographicAlgorithm::Cast5 => 0x00000012,
-            CryptographicAlgorithm::Idea => 0x00000013,
-            CryptographicAlgorithm::Mars => 0x00000014,
-            CryptographicAlgorithm::Rc2 => 0x00000015,
-            CryptographicAlgorithm::Rc4 => 0x00000016,
-            CryptographicAlgorithm::Rc5 => 0x00000017,
-            CryptographicAlgorithm::Skipjack => 0x00000018,
-            CryptographicAlgorithm::Twofish => 0x00000019,
-            CryptographicAlgorithm::Other(number) => number,
-        }
-    }
-
-    /// The one of a number: by its name, if it has one.
-    pub fn from_number(number: u32) -> CryptographicAlgorithm
-        ensures { cryptographic_algorithm_read_number result ≡ Some number }
-    {
-        match number {
-            0x00000001 => CryptographicAlgorithm::Des,
-            0x00000002 => CryptographicAlgorithm::TripleDes,
-            0x00000003 => CryptographicAlgorithm::Aes,
-            0x00000004 => CryptographicAlgorithm::Rsa,
-            0x00000005 => CryptographicAlgorithm::Dsa,
-            0x00000006 => CryptographicAlgorithm::Ecdsa,
-            0x00000007 => CryptographicAlgorithm::HmacSha1,
-            0x00000008 => CryptographicAlgorithm::HmacSha224,
-            0x00000009 => CryptographicAlgorithm::HmacSha256,
-            0x0000000A => CryptographicAlgorithm::HmacSha384,
-            0x0000000B => CryptographicAlgorithm::HmacSha512,
-            0x0000000C => CryptographicAlgorithm::HmacMd5,
-            0x0000000D => CryptographicAlgorithm::Dh,
-            0x0000000E => CryptographicAlgorithm::Ecdh,
-            0x0000000F => CryptographicAlgorithm::Ecmqv,
-            0x00000010 => CryptographicAlgorithm::Blowfish,
-            0x00000011 => CryptographicAlgorithm::Camellia,
-            0x00000012 => CryptographicAlgorithm::Cast5,
-            0x00000013 => CryptographicAlgorithm::Idea,
-            0x00000014 => CryptographicAlgorithm::Mars,
-            0x00000015 => CryptographicAlgorithm::Rc2,
-            0x00000016 => CryptographicAlgorithm::Rc4,
-            0x00000017 => CryptographicAlgorithm::Rc5,
-            0x00000018 => CryptographicAlgorithm::Skipjack,
-            0x00000019 => CryptographicAlgorithm::Twofish,
-            _ => CryptographicAlgorithm::Other(number),
-        }
-    }
-}
-
-/// By their numbers.
-impl PartialEq for CryptographicAlgorithm {
-    ghost eq = { on cryptographic_algorithm_number ◌==◌ };
-
-    ghost laws = { Prim.search (comparing, rules) };
-
-    fn eq(&self, other: &CryptographicAlgorithm) -> bool {
-        self.number() == other.number()
-    }
-}
-
-impl Eq for CryptographicAlgorithm {
-    ghost laws = { Prim.search (comparing, rules) };
-}
-
-impl Serialize for CryptographicAlgorithm {
-    ghost stated = { written_cryptographic_algorithm };
-
-    #[tactic(auto, unfolding(crate::specs::Values::written_cryptographic_algorithm))]
-    fn visit<V: Visitor>(&self, visitor: &mut V) -> Result<(), AllocError> {
-        writing::enumeration(visitor, "Transparent:0x420028", self.number())
-    }
-}
-
-impl<A: Allocator + Copy> reader::ReadItem<A> for CryptographicAlgorithm {
-    ghost form = { cryptographic_algorithm_form };
-
-    ghost value = { read_cryptographic_algorithm };
-
-    ghost plain = { (refl, refl) };
-
-    #[tactic(auto, unfolding(kmip_ttlv_types::specs::Digits::six_digits, crate::specs::Values::read_cryptographic_algorithm))]
-    fn read_item<'b>(
-        scope: &reader::Scope<'b, A>,
-        cursor: &mut reader::Cursor<'b, A>,
-    ) -> reader::Step<Self, A> {
-        let number: u32 = cursor.wrapped_leaf(scope, 0x420028)?;
-        Ok(CryptographicAlgorithm::from_number(number))
-    }
+    pub const TWOFISH: CryptographicAlgorithm = CryptographicAlgorithm { number: 0x00000019 };
 }
 
 /// What a certificate is (KMIP 1.0, sections 3.8 and 9.1.3.2.6).
-#[derive(Clone, Copy, Debug)]
-pub enum CertificateType {
+pub type CertificateType = Enumeration<0x42001D>;
+
+/// The numbers of `CertificateType` that have a name.
+pub mod certificate_type {
+    use super::CertificateType;
+
     /// One of X.509.
-    X509,
+    pub const X509: CertificateType = CertificateType { number: 0x00000001 };
     /// One of PGP.
-    Pgp,
-    /// Any other number. One that has a name is encoded as it is, and decoded by its name, to which it is equal.
-    Other(u32),
-}
-
-impl CertificateType {
-    /// Its number.
-    pub fn number(self) -> u32
-        ensures { result ≡ certificate_type_number self }
-    {
-        match self {
-            CertificateType::X509 => 0x00000001,
-            CertificateType::Pgp => 0x00000002,
-            CertificateType::Other(number) => number,
-        }
-    }
-
-    /// The one of a number: by its name, if it has one.
-    pub fn from_number(number: u32) -> CertificateType
-        ensures { certificate_type_read_number result ≡ Some number }
-    {
-        match number {
-            0x00000001 => CertificateType::X509,
-            0x00000002 => CertificateType::Pgp,
-            _ => CertificateType::Other(number),
-        }
-    }
-}
-
-/// By their numbers.
-impl PartialEq for CertificateType {
-    ghost eq = { on certificate_type_number ◌==◌ };
-
-    ghost laws = { Prim.search (comparing, rules) };
-
-    fn eq(&self, other: &CertificateType) -> bool {
-        self.number() == other.number()
-    }
-}
-
-impl Eq for CertificateType {
-    ghost laws = { Prim.search (comparing, rules) };
-}
-
-impl Serialize for CertificateType {
-    ghost stated = { written_certificate_type };
-
-    #[tactic(auto, unfolding(crate::specs::Values::written_certificate_type))]
-    fn visit<V: Visitor>(&self, visitor: &mut V) -> Result<(), AllocError> {
-        writing::enumeration(visitor, "Transparent:0x42001D", self.number())
-    }
-}
-
-impl<A: Allocator + Copy> reader::ReadItem<A> for CertificateType {
-    ghost form = { certificate_type_form };
-
-    ghost value = { read_certificate_type };
-
-    ghost plain = { (refl, refl) };
-
-    #[tactic(auto, unfolding(kmip_ttlv_types::specs::Digits::six_digits, crate::specs::Values::read_certificate_type))]
-    fn read_item<'b>(
-        scope: &reader::Scope<'b, A>,
-        cursor: &mut reader::Cursor<'b, A>,
-    ) -> reader::Step<Self, A> {
-        let number: u32 = cursor.wrapped_leaf(scope, 0x42001D)?;
-        Ok(CertificateType::from_number(number))
-    }
+    pub const PGP: CertificateType = CertificateType { number: 0x00000002 };
 }
 
 /// Where an object is in its life (KMIP 1.0, sections 3.17 and 9.1.3.2.17).
-#[derive(Clone, Copy, Debug)]
-pub enum State {
+pub type State = Enumeration<0x42008D>;
+
+/// The numbers of `State` that have a name.
+pub mod state {
+    use super::State;
+
     /// It isn't in use yet.
-    PreActive,
+    pub const PRE_ACTIVE: State = State { number: 0x00000001 };
     /// It is in use.
-    Active,
+    pub const ACTIVE: State = State { number: 0x00000002 };
     /// It no longer protects anything new.
-    Deactivated,
+    pub const DEACTIVATED: State = State { number: 0x00000003 };
     /// Others may know it.
-    Compromised,
+    pub const COMPROMISED: State = State { number: 0x00000004 };
     /// It is gone.
-    Destroyed,
+    pub const DESTROYED: State = State { number: 0x00000005 };
     /// It is gone, and others may know it.
-    DestroyedCompromised,
-    /// Any other number. One that has a name is encoded as it is, and decoded by its name, to which it is equal.
-    Other(u32),
-}
-
-impl State {
-    /// Its number.
-    pub fn number(self) -> u32
-        ensures { result ≡ state_number self }
-    {
-        match self {
-            State::PreActive => 0x00000001,
-            State::Active => 0x00000002,
-            State::Deactivated => 0x00000003,
-            State::Compromised => 0x00000004,
-            State::Destroyed => 0x00000005,
-            State::DestroyedCompromised => 0x00000006,
-            State::Other(number) => number,
-        }
-    }
-
-    /// The one of a number: by its name, if it has one.
-    pub fn from_number(number: u32) -> State
-        ensures { state_read_number result ≡ Some number }
-    {
-        match number {
-            0x00000001 => State::PreActive,
-            0x00000002 => State::Active,
-            0x00000003 => State::Deactivated,
-            0x00000004 => State::Compromised,
-            0x00000005 => State::Destroyed,
-            0x00000006 => State::DestroyedCompromised,
-            _ => State::Other(number),
-        }
-    }
-}
-
-/// By their numbers.
-impl PartialEq for State {
-    ghost eq = { on state_number ◌==◌ };
-
-    ghost laws = { Prim.search (comparing, rules) };
-
-    fn eq(&self, other: &State) -> bool {
-        self.number() == other.number()
-    }
-}
-
-impl Eq for State {
-    ghost laws = { Prim.search (comparing, rules) };
-}
-
-impl Serialize for State {
-    ghost stated = { written_state };
-
-    #[tactic(auto, unfolding(crate::specs::Values::written_state))]
-    fn visit<V: Visitor>(&self, visitor: &mut V) -> Result<(), AllocError> {
-        writing::enumeration(visitor, "Transparent:0x42008D", self.number())
-    }
-}
-
-impl<A: Allocator + Copy> reader::ReadItem<A> for State {
-    ghost form = { state_form };
-
-    ghost value = { read_state };
-
-    ghost plain = { (refl, refl) };
-
-    #[tactic(auto, unfolding(kmip_ttlv_types::specs::Digits::six_digits, crate::specs::Values::read_state))]
-    fn read_item<'b>(
-        scope: &reader::Scope<'b, A>,
-        cursor: &mut reader::Cursor<'b, A>,
-    ) -> reader::Step<Self, A> {
-        let number: u32 = cursor.wrapped_leaf(scope, 0x42008D)?;
-        Ok(State::from_number(number))
-    }
+    pub const DESTROYED_COMPROMISED: State = State { number: 0x00000006 };
 }
 
 /// How a name is to be read (KMIP 1.0, section 9.1.3.2.10).
-#[derive(Clone, Copy, Debug)]
-pub enum NameType {
+pub type NameType = Enumeration<0x420054>;
+
+/// The numbers of `NameType` that have a name.
+pub mod name_type {
+    use super::NameType;
+
     /// As any text.
-    UninterpretedTextString,
+    pub const UNINTERPRETED_TEXT_STRING: NameType = NameType { number: 0x00000001 };
     /// As a URI.
-    Uri,
-    /// Any other number. One that has a name is encoded as it is, and decoded by its name, to which it is equal.
-    Other(u32),
-}
-
-impl NameType {
-    /// Its number.
-    pub fn number(self) -> u32
-        ensures { result ≡ name_type_number self }
-    {
-        match self {
-            NameType::UninterpretedTextString => 0x00000001,
-            NameType::Uri => 0x00000002,
-            NameType::Other(number) => number,
-        }
-    }
-
-    /// The one of a number: by its name, if it has one.
-    pub fn from_number(number: u32) -> NameType
-        ensures { name_type_read_number result ≡ Some number }
-    {
-        match number {
-            0x00000001 => NameType::UninterpretedTextString,
-            0x00000002 => NameType::Uri,
-            _ => NameType::Other(number),
-        }
-    }
-}
-
-/// By their numbers.
-impl PartialEq for NameType {
-    ghost eq = { on name_type_number ◌==◌ };
-
-    ghost laws = { Prim.search (comparing, rules) };
-
-    fn eq(&self, other: &NameType) -> bool {
-        self.number() == other.number()
-    }
-}
-
-impl Eq for NameType {
-    ghost laws = { Prim.search (comparing, rules) };
-}
-
-impl Serialize for NameType {
-    ghost stated = { written_name_type };
-
-    #[tactic(auto, unfolding(crate::specs::Values::written_name_type))]
-    fn visit<V: Visitor>(&self, visitor: &mut V) -> Result<(), AllocError> {
-        writing::enumeration(visitor, "Transparent:0x420054", self.number())
-    }
-}
-
-impl<A: Allocator + Copy> reader::ReadItem<A> for NameType {
-    ghost form = { name_type_form };
-
-    ghost value = { read_name_type };
-
-    ghost plain = { (refl, refl) };
-
-    #[tactic(auto, unfolding(kmip_ttlv_types::specs::Digits::six_digits, crate::specs::Values::read_name_type))]
-    fn read_item<'b>(
-        scope: &reader::Scope<'b, A>,
-        cursor: &mut reader::Cursor<'b, A>,
-    ) -> reader::Step<Self, A> {
-        let number: u32 = cursor.wrapped_leaf(scope, 0x420054)?;
-        Ok(NameType::from_number(number))
-    }
+    pub const URI: NameType = NameType { number: 0x00000002 };
 }
 
 /// The mode of a block cipher (KMIP 1.0, section 9.1.3.2.13).
-#[derive(Clone, Copy, Debug)]
-pub enum BlockCipherMode {
+pub type BlockCipherMode = Enumeration<0x420011>;
+
+/// The numbers of `BlockCipherMode` that have a name.
+pub mod block_cipher_mode {
+    use super::BlockCipherMode;
+
     /// Cipher block chaining.
-    Cbc,
+    pub const CBC: BlockCipherMode = BlockCipherMode { number: 0x00000001 };
     /// Electronic code book.
-    Ecb,
+    pub const ECB: BlockCipherMode = BlockCipherMode { number: 0x00000002 };
     /// Propagating cipher block chaining.
-    Pcbc,
+    pub const PCBC: BlockCipherMode = BlockCipherMode { number: 0x00000003 };
     /// Cipher feedback.
-    Cfb,
+    pub const CFB: BlockCipherMode = BlockCipherMode { number: 0x00000004 };
     /// Output feedback.
-    Ofb,
+    pub const OFB: BlockCipherMode = BlockCipherMode { number: 0x00000005 };
     /// Counter.
-    Ctr,
+    pub const CTR: BlockCipherMode = BlockCipherMode { number: 0x00000006 };
     /// The authentication code CMAC.
-    Cmac,
+    pub const CMAC: BlockCipherMode = BlockCipherMode { number: 0x00000007 };
     /// Counter with CBC-MAC.
-    Ccm,
+    pub const CCM: BlockCipherMode = BlockCipherMode { number: 0x00000008 };
     /// Galois and counter.
-    Gcm,
+    pub const GCM: BlockCipherMode = BlockCipherMode { number: 0x00000009 };
     /// The authentication code CBC-MAC.
-    CbcMac,
+    pub const CBC_MAC: BlockCipherMode = BlockCipherMode { number: 0x0000000A };
     /// Tweaked code book with ciphertext stealing.
-    Xts,
+    pub const XTS: BlockCipherMode = BlockCipherMode { number: 0x0000000B };
     /// AES key wrap with padding.
-    AesKeyWrapPadding,
+    pub const AES_KEY_WRAP_PADDING: BlockCipherMode = BlockCipherMode { number: 0x0000000C };
     /// AES key wrap of NIST.
-    NistKeyWrap,
+    pub const NIST_KEY_WRAP: BlockCipherMode = BlockCipherMode { number: 0x0000000D };
     /// AESKW of X9.102.
-    X9102Aeskw,
+    pub const X9102_AESKW: BlockCipherMode = BlockCipherMode { number: 0x0000000E };
     /// TDKW of X9.102.
-    X9102Tdkw,
+    pub const X9102_TDKW: BlockCipherMode = BlockCipherMode { number: 0x0000000F };
     /// AKW1 of X9.102.
-    X9102Akw1,
+    pub const X9102_AKW1: BlockCipherMode = BlockCipherMode { number: 0x00000010 };
     /// AKW2 of X9.102.
-    X9102Akw2,
-    /// Any other number. One that has a name is encoded as it is, and decoded by its name, to which it is equal.
-    Other(u32),
-}
-
-impl BlockCipherMode {
-    /// Its number.
-    pub fn number(self) -> u32
-        ensures { result ≡ block_cipher_mode_number self }
-    {
-        match self {
-            BlockCipherMode::Cbc => 0x00000001,
-            BlockCipherMode::Ecb => 0x00000002,
-            BlockCipherMode::Pcbc => 0x00000003,
-            BlockCipherMode::Cfb => 0x00000004,
-            BlockCipherMode::Ofb => 0x00000005,
-            BlockCipherMode::Ctr => 0x00000006,
-            BlockCipherMode::Cmac => 0x00000007,
-            BlockCipherMode::Ccm => 0x00000008,
-            BlockCipherMode::Gcm => 0x00000009,
-            BlockCipherMode::CbcMac => 0x0000000A,
-            BlockCipherMode::Xts => 0x0000000B,
-            BlockCipherMode::AesKeyWrapPadding => 0x0000000C,
-            BlockCipherMode::NistKeyWrap => 0x0000000D,
-            BlockCipherMode::X9102Aeskw => 0x0000000E,
-            BlockCipherMode::X9102Tdkw => 0x0000000F,
-            BlockCipherMode::X9102Akw1 => 0x00000010,
-            BlockCipherMode::X9102Akw2 => 0x00000011,
-            BlockCipherMode::Other(number) => number,
-        }
-    }
-
-    /// The one of a number: by its name, if it has one.
-    pub fn from_number(number: u32) -> BlockCipherMode
-        ensures { block_cipher_mode_read_number result ≡ Some number }
-    {
-        match number {
-            0x00000001 => BlockCipherMode::Cbc,
-            0x00000002 => BlockCipherMode::Ecb,
-            0x00000003 => BlockCipherMode::Pcbc,
-            0x00000004 => BlockCipherMode::Cfb,
-            0x00000005 => BlockCipherMode::Ofb,
-            0x00000006 => BlockCipherMode::Ctr,
-            0x00000007 => BlockCipherMode::Cmac,
-            0x00000008 => BlockCipherMode::Ccm,
-            0x00000009 => BlockCipherMode::Gcm,
-            0x0000000A => BlockCipherMode::CbcMac,
-            0x0000000B => BlockCipherMode::Xts,
-            0x0000000C => BlockCipherMode::AesKeyWrapPadding,
-            0x0000000D => BlockCipherMode::NistKeyWrap,
-            0x0000000E => BlockCipherMode::X9102Aeskw,
-            0x0000000F => BlockCipherMode::X9102Tdkw,
-            0x00000010 => BlockCipherMode::X9102Akw1,
-            0x00000011 => BlockCipherMode::X9102Akw2,
-            _ => BlockCipherMode::Other(number),
-        }
-    }
-}
-
-/// By their numbers.
-impl PartialEq for BlockCipherMode {
-    ghost eq = { on block_cipher_mode_number ◌==◌ };
-
-    ghost laws = { Prim.search (comparing, rules) };
-
-    fn eq(&self, other: &BlockCipherMode) -> bool {
-        self.number() == other.number()
-    }
-}
-
-impl Eq for BlockCipherMode {
-    ghost laws = { Prim.search (comparing, rules) };
-}
-
-impl Serialize for BlockCipherMode {
-    ghost stated = { written_block_cipher_mode };
-
-    #[tactic(auto, unfolding(crate::specs::Values::written_block_cipher_mode))]
-    fn visit<V: Visitor>(&self, visitor: &mut V) -> Result<(), AllocError> {
-        writing::enumeration(visitor, "Transparent:0x420011", self.number())
-    }
-}
-
-impl<A: Allocator + Copy> reader::ReadItem<A> for BlockCipherMode {
-    ghost form = { block_cipher_mode_form };
-
-    ghost value = { read_block_cipher_mode };
-
-    ghost plain = { (refl, refl) };
-
-    #[tactic(auto, unfolding(kmip_ttlv_types::specs::Digits::six_digits, crate::specs::Values::read_block_cipher_mode))]
-    fn read_item<'b>(
-        scope: &reader::Scope<'b, A>,
-        cursor: &mut reader::Cursor<'b, A>,
-    ) -> reader::Step<Self, A> {
-        let number: u32 = cursor.wrapped_leaf(scope, 0x420011)?;
-        Ok(BlockCipherMode::from_number(number))
-    }
+    pub const X9102_AKW2: BlockCipherMode = BlockCipherMode { number: 0x00000011 };
 }
 
 /// How content is filled up to whole blocks (KMIP 1.0, section 9.1.3.2.14).
-#[derive(Clone, Copy, Debug)]
-pub enum PaddingMethod {
+pub type PaddingMethod = Enumeration<0x42005F>;
+
+/// The numbers of `PaddingMethod` that have a name.
+pub mod padding_method {
+    use super::PaddingMethod;
+
     /// It isn't.
-    NoPadding,
+    pub const NO_PADDING: PaddingMethod = PaddingMethod { number: 0x00000001 };
     /// OAEP.
-    Oaep,
+    pub const OAEP: PaddingMethod = PaddingMethod { number: 0x00000002 };
     /// PKCS #5.
-    Pkcs5,
+    pub const PKCS5: PaddingMethod = PaddingMethod { number: 0x00000003 };
     /// SSL 3.
-    Ssl3,
+    pub const SSL3: PaddingMethod = PaddingMethod { number: 0x00000004 };
     /// By zeros.
-    Zeros,
+    pub const ZEROS: PaddingMethod = PaddingMethod { number: 0x00000005 };
     /// ANSI X9.23.
-    AnsiX923,
+    pub const ANSI_X923: PaddingMethod = PaddingMethod { number: 0x00000006 };
     /// ISO 10126.
-    Iso10126,
+    pub const ISO10126: PaddingMethod = PaddingMethod { number: 0x00000007 };
     /// PKCS #1, version 1.5.
-    Pkcs1V15,
+    pub const PKCS1_V15: PaddingMethod = PaddingMethod { number: 0x00000008 };
     /// X9.31.
-    X931,
+    pub const X931: PaddingMethod = PaddingMethod { number: 0x00000009 };
     /// PSS.
-    Pss,
-    /// Any other number. One that has a name is encoded as it is, and decoded by its name, to which it is equal.
-    Other(u32),
-}
-
-impl PaddingMethod {
-    /// Its number.
-    pub fn number(self) -> u32
-        ensures { result ≡ padding_method_number self }
-    {
-        match self {
-            PaddingMethod::NoPadding => 0x00000001,
-            PaddingMethod::Oaep => 0x00000002,
-            PaddingMethod::Pkcs5 => 0x00000003,
-            PaddingMethod::Ssl3 => 0x00000004,
-            PaddingMethod::Zeros => 0x00000005,
-            PaddingMethod::AnsiX923 => 0x00000006,
-            PaddingMethod::Iso10126 => 0x00000007,
-            PaddingMethod::Pkcs1V15 => 0x00000008,
-            PaddingMethod::X931 => 0x00000009,
-            PaddingMethod::Pss => 0x0000000A,
-            PaddingMethod::Other(number) => number,
-        }
-    }
-
-    /// The one of a number: by its name, if it has one.
-    pub fn from_number(number: u32) -> PaddingMethod
-        ensures { padding_method_read_number result ≡ Some number }
-    {
-        match number {
-            0x00000001 => PaddingMethod::NoPadding,
-            0x00000002 => PaddingMethod::Oaep,
-            0x00000003 => PaddingMethod::Pkcs5,
-            0x00000004 => PaddingMethod::Ssl3,
-            0x00000005 => PaddingMethod::Zeros,
-            0x00000006 => PaddingMethod::AnsiX923,
-            0x00000007 => PaddingMethod::Iso10126,
-            0x00000008 => PaddingMethod::Pkcs1V15,
-            0x00000009 => PaddingMethod::X931,
-            0x0000000A => PaddingMethod::Pss,
-            _ => PaddingMethod::Other(number),
-        }
-    }
-}
-
-/// By their numbers.
-impl PartialEq for PaddingMethod {
-    ghost eq = { on padding_method_number ◌==◌ };
-
-    ghost laws = { Prim.search (comparing, rules) };
-
-    fn eq(&self, other: &PaddingMethod) -> bool {
-        self.number() == other.number()
-    }
-}
-
-impl Eq for PaddingMethod {
-    ghost laws = { Prim.search (comparing, rules) };
-}
-
-impl Serialize for PaddingMethod {
-    ghost stated = { written_padding_method };
-
-    #[tactic(auto, unfolding(crate::specs::Values::written_padding_method))]
-    fn visit<V: Visitor>(&self, visitor: &mut V) -> Result<(), AllocError> {
-        writing::enumeration(visitor, "Transparent:0x42005F", self.number())
-    }
-}
-
-impl<A: Allocator + Copy> reader::ReadItem<A> for PaddingMethod {
-    ghost form = { padding_method_form };
-
-    ghost value = { read_padding_method };
-
-    ghost plain = { (refl, refl) };
-
-    #[tactic(auto, unfolding(kmip_ttlv_types::specs::Digits::six_digits, crate::specs::Values::read_padding_method))]
-    fn read_item<'b>(
-        scope: &reader::Scope<'b, A>,
-        cursor: &mut reader::Cursor<'b, A>,
-    ) -> reader::Step<Self, A> {
-        let number: u32 = cursor.wrapped_leaf(scope, 0x42005F)?;
-        Ok(PaddingMethod::from_number(number))
-    }
+    pub const PSS: PaddingMethod = PaddingMethod { number: 0x0000000A };
 }
 
 /// What makes a hash (KMIP 1.0, section 9.1.3.2.15).
-#[derive(Clone, Copy, Debug)]
-pub enum HashingAlgorithm {
+pub type HashingAlgorithm = Enumeration<0x420038>;
+
+/// The numbers of `HashingAlgorithm` that have a name.
+pub mod hashing_algorithm {
+    use super::HashingAlgorithm;
+
     /// MD2.
-    Md2,
+    pub const MD2: HashingAlgorithm = HashingAlgorithm { number: 0x00000001 };
     /// MD4.
-    Md4,
+    pub const MD4: HashingAlgorithm = HashingAlgorithm { number: 0x00000002 };
     /// MD5.
-    Md5,
+    pub const MD5: HashingAlgorithm = HashingAlgorithm { number: 0x00000003 };
     /// SHA-1.
-    Sha1,
+    pub const SHA1: HashingAlgorithm = HashingAlgorithm { number: 0x00000004 };
     /// SHA-224.
-    Sha224,
+    pub const SHA224: HashingAlgorithm = HashingAlgorithm { number: 0x00000005 };
     /// SHA-256.
-    Sha256,
+    pub const SHA256: HashingAlgorithm = HashingAlgorithm { number: 0x00000006 };
     /// SHA-384.
-    Sha384,
+    pub const SHA384: HashingAlgorithm = HashingAlgorithm { number: 0x00000007 };
     /// SHA-512.
-    Sha512,
-    /// Any other number. One that has a name is encoded as it is, and decoded by its name, to which it is equal.
-    Other(u32),
-}
-
-impl HashingAlgorithm {
-    /// Its number.
-    pub fn number(self) -> u32
-        ensures { result ≡ hashing_algorithm_number self }
-    {
-        match self {
-            HashingAlgorithm::Md2 => 0x00000001,
-            HashingAlgorithm::Md4 => 0x00000002,
-            HashingAlgorithm::Md5 => 0x00000003,
-            HashingAlgorithm::Sha1 => 0x00000004,
-            HashingAlgorithm::Sha224 => 0x00000005,
-            HashingAlgorithm::Sha256 => 0x00000006,
-            HashingAlgorithm::Sha384 => 0x00000007,
-            HashingAlgorithm::Sha512 => 0x00000008,
-            HashingAlgorithm::Other(number) => number,
-        }
-    }
-
-    /// The one of a number: by its name, if it has one.
-    pub fn from_number(number: u32) -> HashingAlgorithm
-        ensures { hashing_algorithm_read_number result ≡ Some number }
-    {
-        match number {
-            0x00000001 => HashingAlgorithm::Md2,
-            0x00000002 => HashingAlgorithm::Md4,
-            0x00000003 => HashingAlgorithm::Md5,
-            0x00000004 => HashingAlgorithm::Sha1,
-            0x00000005 => HashingAlgorithm::Sha224,
-            0x00000006 => HashingAlgorithm::Sha256,
-            0x00000007 => HashingAlgorithm::Sha384,
-            0x00000008 => HashingAlgorithm::Sha512,
-            _ => HashingAlgorithm::Other(number),
-        }
-    }
-}
-
-/// By their numbers.
-impl PartialEq for HashingAlgorithm {
-    ghost eq = { on hashing_algorithm_number ◌==◌ };
-
-    ghost laws = { Prim.search (comparing, rules) };
-
-    fn eq(&self, other: &HashingAlgorithm) -> bool {
-        self.number() == other.number()
-    }
-}
-
-impl Eq for HashingAlgorithm {
-    ghost laws = { Prim.search (comparing, rules) };
-}
-
-impl Serialize for HashingAlgorithm {
-    ghost stated = { written_hashing_algorithm };
-
-    #[tactic(auto, unfolding(crate::specs::Values::written_hashing_algorithm))]
-    fn visit<V: Visitor>(&self, visitor: &mut V) -> Result<(), AllocError> {
-        writing::enumeration(visitor, "Transparent:0x420038", self.number())
-    }
-}
-
-impl<A: Allocator + Copy> reader::ReadItem<A> for HashingAlgorithm {
-    ghost form = { hashing_algorithm_form };
-
-    ghost value = { read_hashing_algorithm };
-
-    ghost plain = { (refl, refl) };
-
-    #[tactic(auto, unfolding(kmip_ttlv_types::specs::Digits::six_digits, crate::specs::Values::read_hashing_algorithm))]
-    fn read_item<'b>(
-        scope: &reader::Scope<'b, A>,
-        cursor: &mut reader::Cursor<'b, A>,
-    ) -> reader::Step<Self, A> {
-        let number: u32 = cursor.wrapped_leaf(scope, 0x420038)?;
-        Ok(HashingAlgorithm::from_number(number))
-    }
+    pub const SHA512: HashingAlgorithm = HashingAlgorithm { number: 0x00000008 };
 }
 
 /// What a key is for, by the names of ANSI X9 TR-31 (KMIP 1.0, section 9.1.3.2.16).
-#[derive(Clone, Copy, Debug)]
-pub enum KeyRoleType {
+pub type KeyRoleType = Enumeration<0x420083>;
+
+/// The numbers of `KeyRoleType` that have a name.
+pub mod key_role_type {
+    use super::KeyRoleType;
+
     /// A base derivation key.
-    Bdk,
+    pub const BDK: KeyRoleType = KeyRoleType { number: 0x00000001 };
     /// It verifies cards.
-    Cvk,
+    pub const CVK: KeyRoleType = KeyRoleType { number: 0x00000002 };
     /// It encrypts data.
-    Dek,
+    pub const DEK: KeyRoleType = KeyRoleType { number: 0x00000003 };
     /// An EMV master key for application cryptograms.
-    Mkac,
+    pub const MKAC: KeyRoleType = KeyRoleType { number: 0x00000004 };
     /// An EMV master key for secure messaging, secret.
-    Mksmc,
+    pub const MKSMC: KeyRoleType = KeyRoleType { number: 0x00000005 };
     /// An EMV master key for secure messaging, intact.
-    Mksmi,
+    pub const MKSMI: KeyRoleType = KeyRoleType { number: 0x00000006 };
     /// An EMV master key for data authentication codes.
-    Mkdac,
+    pub const MKDAC: KeyRoleType = KeyRoleType { number: 0x00000007 };
     /// An EMV master key for dynamic numbers.
-    Mkdn,
+    pub const MKDN: KeyRoleType = KeyRoleType { number: 0x00000008 };
     /// An EMV master key for personalizing cards.
-    Mkcp,
+    pub const MKCP: KeyRoleType = KeyRoleType { number: 0x00000009 };
     /// Another EMV master key.
-    Mkoth,
+    pub const MKOTH: KeyRoleType = KeyRoleType { number: 0x0000000A };
     /// It encrypts keys.
-    Kek,
+    pub const KEK: KeyRoleType = KeyRoleType { number: 0x0000000B };
     /// A key of ISO 16609.
-    Mac16609,
+    pub const MAC16609: KeyRoleType = KeyRoleType { number: 0x0000000C };
     /// A key of ISO 9797-1, algorithm 1.
-    Mac97971,
+    pub const MAC97971: KeyRoleType = KeyRoleType { number: 0x0000000D };
     /// A key of ISO 9797-1, algorithm 2.
-    Mac97972,
+    pub const MAC97972: KeyRoleType = KeyRoleType { number: 0x0000000E };
     /// A key of ISO 9797-1, algorithm 3.
-    Mac97973,
+    pub const MAC97973: KeyRoleType = KeyRoleType { number: 0x0000000F };
     /// A key of ISO 9797-1, algorithm 4.
-    Mac97974,
+    pub const MAC97974: KeyRoleType = KeyRoleType { number: 0x00000010 };
     /// A key of ISO 9797-1, algorithm 5.
-    Mac97975,
+    pub const MAC97975: KeyRoleType = KeyRoleType { number: 0x00000011 };
     /// It encrypts PINs.
-    Zpk,
+    pub const ZPK: KeyRoleType = KeyRoleType { number: 0x00000012 };
     /// It verifies PINs as IBM 3624 says.
-    Pvkibm,
+    pub const PVKIBM: KeyRoleType = KeyRoleType { number: 0x00000013 };
     /// It verifies PINs by a PIN verification value.
-    Pvkpvv,
+    pub const PVKPVV: KeyRoleType = KeyRoleType { number: 0x00000014 };
     /// It verifies PINs otherwise.
-    Pvkoth,
-    /// Any other number. One that has a name is encoded as it is, and decoded by its name, to which it is equal.
-    Other(u32),
-}
-
-impl KeyRoleType {
-    /// Its number.
-    pub fn number(self) -> u32
-        ensures { result ≡ key_role_type_number self }
-    {
-        match self {
-            KeyRoleType::Bdk => 0x00000001,
-            KeyRoleType::Cvk => 0x00000002,
-            KeyRoleType::Dek => 0x00000003,
-            KeyRoleType::Mkac => 0x00000004,
-            KeyRoleType::Mksmc => 0x00000005,
-            KeyRoleType::Mksmi => 0x00000006,
-            KeyRoleType::Mkdac => 0x00000007,
-            KeyRoleType::Mkdn => 0x00000008,
-            KeyRoleType::Mkcp => 0x00000009,
-            KeyRoleType::Mkoth => 0x0000000A,
-            KeyRoleType::Kek => 0x0000000B,
-            KeyRoleType::Mac16609 => 0x0000000C,
-            KeyRoleType::Mac97971 => 0x0000000D,
-            KeyRoleType::Mac97972 => 0x0000000E,
-            KeyRoleType::Mac97973 => 0x0000000F,
-            KeyRoleType::Mac97974 => 0x00000010,
-            KeyRoleType::Mac97975 => 0x00000011,
-            KeyRoleType::Zpk => 0x00000012,
-            KeyRoleType::Pvkibm => 0x00000013,
-            KeyRoleType::Pvkpvv => 0x00000014,
-            KeyRoleType::Pvkoth => 0x00000015,
-            KeyRoleType::Other(number) => number,
-        }
-    }
-
-    /// The one of a number: by its name, if it has one.
-    pub fn from_number(number: u32) -> KeyRoleType
-        ensures { key_role_type_read_number result ≡ Some number }
-    {
-        match number {
-            0x00000001 => KeyRoleType::Bdk,
-            0x00000002 => KeyRoleType::Cvk,
-            0x00000003 => KeyRoleType::Dek,
-            0x00000004 => KeyRoleType::Mkac,
-            0x00000005 => KeyRoleType::Mksmc,
-            0x00000006 => KeyRoleType::Mksmi,
-            0x00000007 => KeyRoleType::Mkdac,
-            0x00000008 => KeyRoleType::Mkdn,
-            0x00000009 => KeyRoleType::Mkcp,
-            0x0000000A => KeyRoleType::Mkoth,
-            0x0000000B => KeyRoleType::Kek,
-            0x0000000C => KeyRoleType::Mac16609,
-            0x0000000D => KeyRoleType::Mac97971,
-            0x0000000E => KeyRoleType::Mac97972,
-            0x0000000F => KeyRoleType::Mac97973,
-            0x00000010 => KeyRoleType::Mac97974,
-            0x00000011 => KeyRoleType::Mac97975,
-            0x00000012 => KeyRoleType::Zpk,
-            0x00000013 => KeyRoleType::Pvkibm,
-            0x00000014 => KeyRoleType::Pvkpvv,
-            0x00000015 => KeyRoleType::Pvkoth,
-            _ => KeyRoleType::Other(number),
-        }
-    }
-}
-
-/// By their numbers.
-impl PartialEq for KeyRoleType {
-    ghost eq = { on key_role_type_number ◌==◌ };
-
-    ghost laws = { Prim.search (comparing, rules) };
-
-    fn eq(&self, other: &KeyRoleType) -> bool {
-        self.number() == other.number()
-    }
-}
-
-impl Eq for KeyRoleType {
-    ghost laws = { Prim.search (comparing, rules) };
-}
-
-impl Serialize for KeyRoleType {
-    ghost stated = { written_key_role_type };
-
-    #[tactic(auto, unfolding(crate::specs::Values::written_key_role_type))]
-    fn visit<V: Visitor>(&self, visitor: &mut V) -> Result<(), AllocError> {
-        writing::enumeration(visitor, "Transparent:0x420083", self.number())
-    }
-}
-
-impl<A: Allocator + Copy> reader::ReadItem<A> for KeyRoleType {
-    ghost form = { key_role_type_form };
-
-    ghost value = { read_key_role_type };
-
-    ghost plain = { (refl, refl) };
-
-    #[tactic(auto, unfolding(kmip_ttlv_types::specs::Digits::six_digits, crate::specs::Values::read_key_role_type))]
-    fn read_item<'b>(
-        scope: &reader::Scope<'b, A>,
-        cursor: &mut reader::Cursor<'b, A>,
-    ) -> reader::Step<Self, A> {
-        let number: u32 = cursor.wrapped_leaf(scope, 0x420083)?;
-        Ok(KeyRoleType::from_number(number))
-    }
+    pub const PVKOTH: KeyRoleType = KeyRoleType { number: 0x00000015 };
 }
 
 /// An elliptic curve (KMIP 1.0, section 9.1.3.2.5).
-#[derive(Clone, Copy, Debug)]
-pub enum RecommendedCurve {
+pub type RecommendedCurve = Enumeration<0x420075>;
+
+/// The numbers of `RecommendedCurve` that have a name.
+pub mod recommended_curve {
+    use super::RecommendedCurve;
+
     /// P-192.
-    P192,
+    pub const P192: RecommendedCurve = RecommendedCurve { number: 0x00000001 };
     /// K-163.
-    K163,
+    pub const K163: RecommendedCurve = RecommendedCurve { number: 0x00000002 };
     /// B-163.
-    B163,
+    pub const B163: RecommendedCurve = RecommendedCurve { number: 0x00000003 };
     /// P-224.
-    P224,
+    pub const P224: RecommendedCurve = RecommendedCurve { number: 0x00000004 };
     /// K-233.
-    K233,
+    pub const K233: RecommendedCurve = RecommendedCurve { number: 0x00000005 };
     /// B-233.
-    B233,
+    pub const B233: RecommendedCurve = RecommendedCurve { number: 0x00000006 };
     /// P-256.
-    P256,
+    pub const P256: RecommendedCurve = RecommendedCurve { number: 0x00000007 };
     /// K-283.
-    K283,
+    pub const K283: RecommendedCurve = RecommendedCurve { number: 0x00000008 };
     /// B-283.
-    B283,
+    pub const B283: RecommendedCurve = RecommendedCurve { number: 0x00000009 };
     /// P-384.
-    P384,
+    pub const P384: RecommendedCurve = RecommendedCurve { number: 0x0000000A };
     /// K-409.
-    K409,
+    pub const K409: RecommendedCurve = RecommendedCurve { number: 0x0000000B };
     /// B-409.
-    B409,
+    pub const B409: RecommendedCurve = RecommendedCurve { number: 0x0000000C };
     /// P-521.
-    P521,
+    pub const P521: RecommendedCurve = RecommendedCurve { number: 0x0000000D };
     /// K-571.
-    K571,
+    pub const K571: RecommendedCurve = RecommendedCurve { number: 0x0000000E };
     /// B-571.
-    B571,
-    /// Any other number. One that has a name is encoded as it is, and decoded by its name, to which it is equal.
-    Other(u32),
-}
-
-impl RecommendedCurve {
-    /// Its number.
-    pub fn number(self) -> u32
-        ensures { result ≡ recommended_curve_number self }
-    {
-        match self {
-            RecommendedCurve::P192 => 0x00000001,
-            RecommendedCurve::K163 => 0x00000002,
-            RecommendedCurve::B163 => 0x00000003,
-            RecommendedCurve::P224 => 0x00000004,
-            RecommendedCurve::K233 => 0x00000005,
-            RecommendedCurve::B233 => 0x00000006,
-            RecommendedCurve::P256 => 0x00000007,
-            RecommendedCurve::K283 => 0x00000008,
-            RecommendedCurve::B283 => 0x00000009,
-            RecommendedCurve::P384 => 0x0000000A,
-            RecommendedCurve::K409 => 0x0000000B,
-            RecommendedCurve::B409 => 0x0000000C,
-            RecommendedCurve::P521 => 0x0000000D,
-            RecommendedCurve::K571 => 0x0000000E,
-            RecommendedCurve::B571 => 0x0000000F,
-            RecommendedCurve::Other(number) => number,
-        }
-    }
-
-    /// The one of a number: by its name, if it has one.
-    pub fn from_number(number: u32) -> RecommendedCurve
-        ensures { recommended_curve_read_number result ≡ Some number }
-    {
-        match number {
-            0x00000001 => RecommendedCurve::P192,
-            0x00000002 => RecommendedCurve::K163,
-            0x00000003 => RecommendedCurve::B163,
-            0x00000004 => RecommendedCurve::P224,
-            0x00000005 => RecommendedCurve::K233,
-            0x00000006 => RecommendedCurve::B233,
-            0x00000007 => RecommendedCurve::P256,
-            0x00000008 => RecommendedCurve::K283,
-            0x00000009 => RecommendedCurve::B283,
-            0x0000000A => RecommendedCurve::P384,
-            0x0000000B => RecommendedCurve::K409,
-            0x0000000C => RecommendedCurve::B409,
-            0x0000000D => RecommendedCurve::P521,
-            0x0000000E => RecommendedCurve::K571,
-            0x0000000F => RecommendedCurve::B571,
-            _ => RecommendedCurve::Other(number),
-        }
-    }
-}
-
-/// By their numbers.
-impl PartialEq for RecommendedCurve {
-    ghost eq = { on recommended_curve_number ◌==◌ };
-
-    ghost laws = { Prim.search (comparing, rules) };
-
-    fn eq(&self, other: &RecommendedCurve) -> bool {
-        self.number() == other.number()
-    }
-}
-
-impl Eq for RecommendedCurve {
-    ghost laws = { Prim.search (comparing, rules) };
-}
-
-impl Serialize for RecommendedCurve {
-    ghost stated = { written_recommended_curve };
-
-    #[tactic(auto, unfolding(crate::specs::Values::written_recommended_curve))]
-    fn visit<V: Visitor>(&self, visitor: &mut V) -> Result<(), AllocError> {
-        writing::enumeration(visitor, "Transparent:0x420075", self.number())
-    }
-}
-
-impl<A: Allocator + Copy> reader::ReadItem<A> for RecommendedCurve {
-    ghost form = { recommended_curve_form };
-
-    ghost value = { read_recommended_curve };
-
-    ghost plain = { (refl, refl) };
-
-    #[tactic(auto, unfolding(kmip_ttlv_types::specs::Digits::six_digits, crate::specs::Values::read_recommended_curve))]
-    fn read_item<'b>(
-        scope: &reader::Scope<'b, A>,
-        cursor: &mut reader::Cursor<'b, A>,
-    ) -> reader::Step<Self, A> {
-        let number: u32 = cursor.wrapped_leaf(scope, 0x420075)?;
-        Ok(RecommendedCurve::from_number(number))
-    }
+    pub const B571: RecommendedCurve = RecommendedCurve { number: 0x0000000F };
 }
 
 /// How the bytes of a key are to be read (KMIP 1.0, section 9.1.3.2.3).
-#[derive(Clone, Copy, Debug)]
-pub enum KeyFormatType {
+pub type KeyFormatType = Enumeration<0x420042>;
+
+/// The numbers of `KeyFormatType` that have a name.
+pub mod key_format_type {
+    use super::KeyFormatType;
+
     /// As they are.
-    Raw,
+    pub const RAW: KeyFormatType = KeyFormatType { number: 0x00000001 };
     /// As the server doesn't know.
-    Opaque,
+    pub const OPAQUE: KeyFormatType = KeyFormatType { number: 0x00000002 };
     /// As PKCS #1 says.
-    Pkcs1,
+    pub const PKCS1: KeyFormatType = KeyFormatType { number: 0x00000003 };
     /// As PKCS #8 says.
-    Pkcs8,
+    pub const PKCS8: KeyFormatType = KeyFormatType { number: 0x00000004 };
     /// As X.509 says.
-    X509,
+    pub const X509: KeyFormatType = KeyFormatType { number: 0x00000005 };
     /// As SEC 1 says.
-    EcPrivateKey,
+    pub const EC_PRIVATE_KEY: KeyFormatType = KeyFormatType { number: 0x00000006 };
     /// As a structure of a symmetric key.
-    TransparentSymmetricKey,
-    /// Any other number. One that has a name is encoded as it is, and decoded by its name, to which it is equal.
-    Other(u32),
-}
-
-impl KeyFormatType {
-    /// Its number.
-    pub fn number(self) -> u32
-        ensures { result ≡ key_format_type_number self }
-    {
-        match self {
-            KeyFormatType::Raw => 0x00000001,
-            KeyFormatType::Opaque => 0x00000002,
-            KeyFormatType::Pkcs1 => 0x00000003,
-            KeyFormatType::Pkcs8 => 0x00000004,
-            KeyFormatType::X509 => 0x00000005,
-            KeyFormatType::EcPrivateKey => 0x00000006,
-            KeyFormatType::TransparentSymmetricKey => 0x00000007,
-            KeyFormatType::Other(number) => number,
-        }
-    }
-
-    /// The one of a number: by its name, if it has one.
-    pub fn from_number(number: u32) -> KeyFormatType
-        ensures { key_format_type_read_number result ≡ Some number }
-    {
-        match number {
-            0x00000001 => KeyFormatType::Raw,
-            0x00000002 => KeyFormatType::Opaque,
-            0x00000003 => KeyFormatType::Pkcs1,
-            0x00000004 => KeyFormatType::Pkcs8,
-            0x00000005 => KeyFormatType::X509,
-            0x00000006 => KeyFormatType::EcPrivateKey,
-            0x00000007 => KeyFormatType::TransparentSymmetricKey,
-            _ => KeyFormatType::Other(number),
-        }
-    }
-}
-
-/// By their numbers.
-impl PartialEq for KeyFormatType {
-    ghost eq = { on key_format_type_number ◌==◌ };
-
-    ghost laws = { Prim.search (comparing, rules) };
-
-    fn eq(&self, other: &KeyFormatType) -> bool {
-        self.number() == other.number()
-    }
-}
-
-impl Eq for KeyFormatType {
-    ghost laws = { Prim.search (comparing, rules) };
-}
-
-impl Serialize for KeyFormatType {
-    ghost stated = { written_key_format_type };
-
-    #[tactic(auto, unfolding(crate::specs::Values::written_key_format_type))]
-    fn visit<V: Visitor>(&self, visitor: &mut V) -> Result<(), AllocError> {
-        writing::enumeration(visitor, "Transparent:0x420042", self.number())
-    }
-}
-
-impl<A: Allocator + Copy> reader::ReadItem<A> for KeyFormatType {
-    ghost form = { key_format_type_form };
-
-    ghost value = { read_key_format_type };
-
-    ghost plain = { (refl, refl) };
-
-    #[tactic(auto, unfolding(kmip_ttlv_types::specs::Digits::six_digits, crate::specs::Values::read_key_format_type))]
-    fn read_item<'b>(
-        scope: &reader::Scope<'b, A>,
-        cursor: &mut reader::Cursor<'b, A>,
-    ) -> reader::Step<Self, A> {
-        let number: u32 = cursor.wrapped_leaf(scope, 0x420042)?;
-        Ok(KeyFormatType::from_number(number))
-    }
+    pub const TRANSPARENT_SYMMETRIC_KEY: KeyFormatType = KeyFormatType { number: 0x00000007 };
 }
 
 /// What is counted of an object's use (KMIP 1.0, section 9.1.3.2.30).
-#[derive(Clone, Copy, Debug)]
-pub enum UsageLimitsUnit {
+pub type UsageLimitsUnit = Enumeration<0x420098>;
+
+/// The numbers of `UsageLimitsUnit` that have a name.
+pub mod usage_limits_unit {
+    use super::UsageLimitsUnit;
+
     /// Bytes.
-    Byte,
+    pub const BYTE: UsageLimitsUnit = UsageLimitsUnit { number: 0x00000001 };
     /// Objects.
-    Object,
-    /// Any other number. One that has a name is encoded as it is, and decoded by its name, to which it is equal.
-    Other(u32),
-}
-
-impl UsageLimitsUnit {
-    /// Its number.
-    pub fn number(self) -> u32
-        ensures { result ≡ usage_limits_unit_number self }
-    {
-        match self {
-            UsageLimitsUnit::Byte => 0x00000001,
-            UsageLimitsUnit::Object => 0x00000002,
-            UsageLimitsUnit::Other(number) => number,
-        }
-    }
-
-    /// The one of a number: by its name, if it has one.
-    pub fn from_number(number: u32) -> UsageLimitsUnit
-        ensures { usage_limits_unit_read_number result ≡ Some number }
-    {
-        match number {
-            0x00000001 => UsageLimitsUnit::Byte,
-            0x00000002 => UsageLimitsUnit::Object,
-            _ => UsageLimitsUnit::Other(number),
-        }
-    }
-}
-
-/// By their numbers.
-impl PartialEq for UsageLimitsUnit {
-    ghost eq = { on usage_limits_unit_number ◌==◌ };
-
-    ghost laws = { Prim.search (comparing, rules) };
-
-    fn eq(&self, other: &UsageLimitsUnit) -> bool {
-        self.number() == other.number()
-    }
-}
-
-impl Eq for UsageLimitsUnit {
-    ghost laws = { Prim.search (comparing, rules) };
-}
-
-impl Serialize for UsageLimitsUnit {
-    ghost stated = { written_usage_limits_unit };
-
-    #[tactic(auto, unfolding(crate::specs::Values::written_usage_limits_unit))]
-    fn visit<V: Visitor>(&self, visitor: &mut V) -> Result<(), AllocError> {
-        writing::enumeration(visitor, "Transparent:0x420098", self.number())
-    }
-}
-
-impl<A: Allocator + Copy> reader::ReadItem<A> for UsageLimitsUnit {
-    ghost form = { usage_limits_unit_form };
-
-    ghost value = { read_usage_limits_unit };
-
-    ghost plain = { (refl, refl) };
-
-    #[tactic(auto, unfolding(kmip_ttlv_types::specs::Digits::six_digits, crate::specs::Values::read_usage_limits_unit))]
-    fn read_item<'b>(
-        scope: &reader::Scope<'b, A>,
-        cursor: &mut reader::Cursor<'b, A>,
-    ) -> reader::Step<Self, A> {
-        let number: u32 = cursor.wrapped_leaf(scope, 0x420098)?;
-        Ok(UsageLimitsUnit::from_number(number))
-    }
+    pub const OBJECT: UsageLimitsUnit = UsageLimitsUnit { number: 0x00000002 };
 }
 
 /// Why an object is revoked (KMIP 1.0, section 9.1.3.2.18).
-#[derive(Clone, Copy, Debug)]
-pub enum RevocationReasonCode {
+pub type RevocationReasonCode = Enumeration<0x420082>;
+
+/// The numbers of `RevocationReasonCode` that have a name.
+pub mod revocation_reason_code {
+    use super::RevocationReasonCode;
+
     /// No reason is given.
-    Unspecified,
+    pub const UNSPECIFIED: RevocationReasonCode = RevocationReasonCode { number: 0x00000001 };
     /// Others may know the key.
-    KeyCompromise,
+    pub const KEY_COMPROMISE: RevocationReasonCode = RevocationReasonCode { number: 0x00000002 };
     /// Others may know the authority's key.
-    CaCompromise,
+    pub const CA_COMPROMISE: RevocationReasonCode = RevocationReasonCode { number: 0x00000003 };
     /// Its owner belongs elsewhere.
-    AffiliationChanged,
+    pub const AFFILIATION_CHANGED: RevocationReasonCode = RevocationReasonCode {
+        number: 0x00000004,
+    };
     /// Another is in its place.
-    Superseded,
+    pub const SUPERSEDED: RevocationReasonCode = RevocationReasonCode { number: 0x00000005 };
     /// It isn't needed any more.
-    CessationOfOperation,
+    pub const CESSATION_OF_OPERATION: RevocationReasonCode = RevocationReasonCode {
+        number: 0x00000006,
+    };
     /// Its owner has lost the right to it.
-    PrivilegeWithdrawn,
-    /// Any other number. One that has a name is encoded as it is, and decoded by its name, to which it is equal.
-    Other(u32),
-}
-
-impl RevocationReasonCode {
-    /// Its number.
-    pub fn number(self) -> u32
-        ensures { result ≡ revocation_reason_code_number self }
-    {
-        match self {
-            RevocationReasonCode::Unspecified => 0x00000001,
-            RevocationReasonCode::KeyCompromise => 0x00000002,
-            RevocationReasonCode::CaCompromise => 0x00000003,
-            RevocationReasonCode::AffiliationChanged => 0x00000004,
-            RevocationReasonCode::Superseded => 0x00000005,
-            RevocationReasonCode::CessationOfOperation => 0x00000006,
-            RevocationReasonCode::PrivilegeWithdrawn => 0x00000007,
-            RevocationReasonCode::Other(number) => number,
-        }
-    }
-
-    /// The one of a number: by its name, if it has one.
-    pub fn from_number(number: u32) -> RevocationReasonCode
-        ensures { revocation_reason_code_read_number result ≡ Some number }
-    {
-        match number {
-            0x00000001 => RevocationReasonCode::Unspecified,
-            0x00000002 => RevocationReasonCode::KeyCompromise,
-            0x00000003 => RevocationReasonCode::CaCompromise,
-            0x00000004 => RevocationReasonCode::AffiliationChanged,
-            0x00000005 => RevocationReasonCode::Superseded,
-            0x00000006 => RevocationReasonCode::CessationOfOperation,
-            0x00000007 => RevocationReasonCode::PrivilegeWithdrawn,
-            _ => RevocationReasonCode::Other(number),
-        }
-    }
-}
-
-/// By their numbers.
-impl PartialEq for RevocationReasonCode {
-    ghost eq = { on revocation_reason_code_number ◌==◌ };
-
-    ghost laws = { Prim.search (comparing, rules) };
-
-    fn eq(&self, other: &RevocationReasonCode) -> bool {
-        self.number() == other.number()
-    }
-}
-
-impl Eq for RevocationReasonCode {
-    ghost laws = { Prim.search (comparing, rules) };
-}
-
-impl Serialize for RevocationReasonCode {
-    ghost stated = { written_revocation_reason_code };
-
-    #[tactic(auto, unfolding(crate::specs::Values::written_revocation_reason_code))]
-    fn visit<V: Visitor>(&self, visitor: &mut V) -> Result<(), AllocError> {
-        writing::enumeration(visitor, "Transparent:0x420082", self.number())
-    }
-}
-
-impl<A: Allocator + Copy> reader::ReadItem<A> for RevocationReasonCode {
-    ghost form = { revocation_reason_code_form };
-
-    ghost value = { read_revocation_reason_code };
-
-    ghost plain = { (refl, refl) };
-
-    #[tactic(auto, unfolding(kmip_ttlv_types::specs::Digits::six_digits, crate::specs::Values::read_revocation_reason_code))]
-    fn read_item<'b>(
-        scope: &reader::Scope<'b, A>,
-        cursor: &mut reader::Cursor<'b, A>,
-    ) -> reader::Step<Self, A> {
-        let number: u32 = cursor.wrapped_leaf(scope, 0x420082)?;
-        Ok(RevocationReasonCode::from_number(number))
-    }
+    pub const PRIVILEGE_WITHDRAWN: RevocationReasonCode = RevocationReasonCode {
+        number: 0x00000007,
+    };
 }
 
 /// How two objects belong together (KMIP 1.0, section 9.1.3.2.19).
-#[derive(Clone, Copy, Debug)]
-pub enum LinkType {
+pub type LinkType = Enumeration<0x42004B>;
+
+/// The numbers of `LinkType` that have a name.
+pub mod link_type {
+    use super::LinkType;
+
     /// The certificate of a public key.
-    CertificateLink,
+    pub const CERTIFICATE_LINK: LinkType = LinkType { number: 0x00000101 };
     /// The public key of a private key or of a certificate.
-    PublicKeyLink,
+    pub const PUBLIC_KEY_LINK: LinkType = LinkType { number: 0x00000102 };
     /// The private key of a public key.
-    PrivateKeyLink,
+    pub const PRIVATE_KEY_LINK: LinkType = LinkType { number: 0x00000103 };
     /// What it was derived from.
-    DerivationBaseObjectLink,
+    pub const DERIVATION_BASE_OBJECT_LINK: LinkType = LinkType { number: 0x00000104 };
     /// What was derived from it.
-    DerivedKeyLink,
+    pub const DERIVED_KEY_LINK: LinkType = LinkType { number: 0x00000105 };
     /// What is in its place.
-    ReplacementObjectLink,
+    pub const REPLACEMENT_OBJECT_LINK: LinkType = LinkType { number: 0x00000106 };
     /// In whose place it is.
-    ReplacedObjectLink,
-    /// Any other number. One that has a name is encoded as it is, and decoded by its name, to which it is equal.
-    Other(u32),
-}
-
-impl LinkType {
-    /// Its number.
-    pub fn number(self) -> u32
-        ensures { result ≡ link_type_number self }
-    {
-        match self {
-            LinkType::CertificateLink => 0x00000101,
-            LinkType::PublicKeyLink => 0x00000102,
-            LinkType::PrivateKeyLink => 0x00000103,
-            LinkType::DerivationBaseObjectLink => 0x00000104,
-            LinkType::DerivedKeyLink => 0x00000105,
-            LinkType::ReplacementObjectLink => 0x00000106,
-            LinkType::ReplacedObjectLink => 0x00000107,
-            LinkType::Other(number) => number,
-        }
-    }
-
-    /// The one of a number: by its name, if it has one.
-    pub fn from_number(number: u32) -> LinkType
-        ensures { link_type_read_number result ≡ Some number }
-    {
-        match number {
-            0x00000101 => LinkType::CertificateLink,
-            0x00000102 => LinkType::PublicKeyLink,
-            0x00000103 => LinkType::PrivateKeyLink,
-            0x00000104 => LinkType::DerivationBaseObjectLink,
-            0x00000105 => LinkType::DerivedKeyLink,
-            0x00000106 => LinkType::ReplacementObjectLink,
-            0x00000107 => LinkType::ReplacedObjectLink,
-            _ => LinkType::Other(number),
-        }
-    }
-}
-
-/// By their numbers.
-impl PartialEq for LinkType {
-    ghost eq = { on link_type_number ◌==◌ };
-
-    ghost laws = { Prim.search (comparing, rules) };
-
-    fn eq(&self, other: &LinkType) -> bool {
-        self.number() == other.number()
-    }
-}
-
-impl Eq for LinkType {
-    ghost laws = { Prim.search (comparing, rules) };
-}
-
-impl Serialize for LinkType {
-    ghost stated = { written_link_type };
-
-    #[tactic(auto, unfolding(crate::specs::Values::written_link_type))]
-    fn visit<V: Visitor>(&self, visitor: &mut V) -> Result<(), AllocError> {
-        writing::enumeration(visitor, "Transparent:0x42004B", self.number())
-    }
-}
-
-impl<A: Allocator + Copy> reader::ReadItem<A> for LinkType {
-    ghost form = { link_type_form };
-
-    ghost value = { read_link_type };
-
-    ghost plain = { (refl, refl) };
-
-    #[tactic(auto, unfolding(kmip_ttlv_types::specs::Digits::six_digits, crate::specs::Values::read_link_type))]
-    fn read_item<'b>(
-        scope: &reader::Scope<'b, A>,
-        cursor: &mut reader::Cursor<'b, A>,
-    ) -> reader::Step<Self, A> {
-        let number: u32 = cursor.wrapped_leaf(scope, 0x42004B)?;
-        Ok(LinkType::from_number(number))
-    }
+    pub const REPLACED_OBJECT_LINK: LinkType = LinkType { number: 0x00000107 };
 }

@@ -1,16 +1,13 @@
 // Written by codegen from types.table: change that, and run codegen/codegen.
 //! What messages begin with (KMIP 1.0, section 6).
 
-ghost use Rattle.std.specs.Prelude.{◌≡◌, ◌↔◌, ◌==◌, refl, IsTrue, Some, codes, false, true};
-ghost use Rattle.std.proofs.Common.{rules};
-ghost use Rattle.std.specs.Cmp.Rules.{comparing};
-ghost use Rattle.std.specs.Ordering.{on};
-ghost use Rattle.kmip_headers.specs.Headers.{protocol_version_form, protocol_version_value, credential_type_form, written_credential_type, read_credential_type, credential_type_number, credential_type_read_number, username_and_password_form, written_username_and_password, read_username_and_password, device_form, written_device, read_device, credential_value_form, written_credential_value, read_credential_value, ChoosesCredentialValue, ChoosesCredentialValueNumber, credential_form, written_credential, read_credential, authentication_form, written_authentication, read_authentication, batch_error_continuation_option_form, written_batch_error_continuation_option, read_batch_error_continuation_option, batch_error_continuation_option_number, batch_error_continuation_option_read_number, maximum_response_size_form, maximum_response_size_value, time_stamp_form, time_stamp_value, batch_count_form, batch_count_value, request_header_form, written_request_header, read_request_header, response_header_form, response_header_value, operation_form, written_operation, read_operation, operation_number, operation_read_number, message_extension_form, message_extension_value};
+ghost use Rattle.std.specs.Prelude.{◌↔◌, refl, IsTrue, codes, false, true};
+ghost use Rattle.kmip_headers.specs.Headers.{protocol_version_form, protocol_version_value, username_and_password_form, written_username_and_password, read_username_and_password, device_form, written_device, read_device, credential_value_form, written_credential_value, read_credential_value, ChoosesCredentialValue, ChoosesCredentialValueNumber, credential_form, written_credential, read_credential, authentication_form, written_authentication, read_authentication, maximum_response_size_form, maximum_response_size_value, time_stamp_form, time_stamp_value, batch_count_form, batch_count_value, request_header_form, written_request_header, read_request_header, response_header_form, response_header_value, message_extension_form, message_extension_value};
 
-use kmip_ttlv::messages::writing;
-use kmip_ttlv::reader;
-use kmip_ttlv::shape::Serialize;
-use kmip_ttlv::visit::Visitor;
+use kmip_ttlv_parts::messages::writing;
+use kmip_ttlv_parts::shape::Serialize;
+use kmip_ttlv_parts::visit::{Leaf, Visitor};
+use kmip_ttlv_parts::{Enumeration, reader};
 use std::alloc::{AllocError, Allocator, Global};
 
 /// The version of the protocol (section 6.1).
@@ -26,10 +23,10 @@ impl Serialize for ProtocolVersion {
     ghost stated = { protocol_version_value };
 
     fn visit<V: Visitor>(&self, visitor: &mut V) -> Result<(), AllocError> {
-        writing::begin_struct(visitor, "0x420069")?;
-        writing::integer(visitor, "Transparent:0x42006A", self.major)?;
-        writing::integer(visitor, "Transparent:0x42006B", self.minor)?;
-        writing::end_struct(visitor, "0x420069")?;
+        writing::begin_structure(visitor, 0x420069)?;
+        writing::tagged(visitor, 0x42006A, Leaf::I32(self.major))?;
+        writing::tagged(visitor, 0x42006B, Leaf::I32(self.minor))?;
+        writing::end_structure(visitor, 0x420069)?;
         Ok(())
     }
 }
@@ -49,10 +46,9 @@ impl<A: Allocator + Copy> reader::ReadStructure<A> for ProtocolVersion {
 
     const DENIES_UNKNOWN: bool = true;
 
-    #[tactic(auto, unfolding(kmip_ttlv_types::specs::Digits::six_digits))]
     fn has_form() {}
 
-    #[tactic(auto, unfolding(kmip_ttlv_types::specs::Digits::six_digits, crate::specs::Headers::protocol_version_value))]
+    #[tactic(auto, unfolding(crate::specs::Headers::protocol_version_value))]
     fn from_fields(fields: (i32, i32)) -> Self {
         let (major, minor) = fields;
         ProtocolVersion { major, minor }
@@ -79,79 +75,16 @@ impl<A: Allocator + Copy> reader::ReadNested<A> for ProtocolVersion {
 }
 
 /// What a client proves who it is by (section 9.1.3.2.1).
-#[derive(Clone, Copy, Debug)]
-pub enum CredentialType {
+pub type CredentialType = Enumeration<0x420024>;
+
+/// The numbers of `CredentialType` that have a name.
+pub mod credential_type {
+    use super::CredentialType;
+
     /// A name, and a password.
-    UsernameAndPassword,
+    pub const USERNAME_AND_PASSWORD: CredentialType = CredentialType { number: 0x00000001 };
     /// What a device knows of itself (KMIP 1.1).
-    Device,
-    /// Any other number. One that has a name is encoded as it is, and decoded by its name, to which it is equal.
-    Other(u32),
-}
-
-impl CredentialType {
-    /// Its number.
-    pub fn number(self) -> u32
-        ensures { result ≡ credential_type_number self }
-    {
-        match self {
-            CredentialType::UsernameAndPassword => 0x00000001,
-            CredentialType::Device => 0x00000002,
-            CredentialType::Other(number) => number,
-        }
-    }
-
-    /// The one of a number: by its name, if it has one.
-    pub fn from_number(number: u32) -> CredentialType
-        ensures { credential_type_read_number result ≡ Some number }
-    {
-        match number {
-            0x00000001 => CredentialType::UsernameAndPassword,
-            0x00000002 => CredentialType::Device,
-            _ => CredentialType::Other(number),
-        }
-    }
-}
-
-/// By their numbers.
-impl PartialEq for CredentialType {
-    ghost eq = { on credential_type_number ◌==◌ };
-
-    ghost laws = { Prim.search (comparing, rules) };
-
-    fn eq(&self, other: &CredentialType) -> bool {
-        self.number() == other.number()
-    }
-}
-
-impl Eq for CredentialType {
-    ghost laws = { Prim.search (comparing, rules) };
-}
-
-impl Serialize for CredentialType {
-    ghost stated = { written_credential_type };
-
-    #[tactic(auto, unfolding(crate::specs::Headers::written_credential_type))]
-    fn visit<V: Visitor>(&self, visitor: &mut V) -> Result<(), AllocError> {
-        writing::enumeration(visitor, "Transparent:0x420024", self.number())
-    }
-}
-
-impl<A: Allocator + Copy> reader::ReadItem<A> for CredentialType {
-    ghost form = { credential_type_form };
-
-    ghost value = { read_credential_type };
-
-    ghost plain = { (refl, refl) };
-
-    #[tactic(auto, unfolding(kmip_ttlv_types::specs::Digits::six_digits, crate::specs::Headers::read_credential_type))]
-    fn read_item<'b>(
-        scope: &reader::Scope<'b, A>,
-        cursor: &mut reader::Cursor<'b, A>,
-    ) -> reader::Step<Self, A> {
-        let number: u32 = cursor.wrapped_leaf(scope, 0x420024)?;
-        Ok(CredentialType::from_number(number))
-    }
+    pub const DEVICE: CredentialType = CredentialType { number: 0x00000002 };
 }
 
 /// A name, and a password (section 2.1.2).
@@ -168,10 +101,10 @@ impl<B: Allocator> Serialize for UsernameAndPassword<B> {
     ghost stated = { written_username_and_password };
 
     fn visit<V: Visitor>(&self, visitor: &mut V) -> Result<(), AllocError> {
-        writing::begin_struct(visitor, "0x420025")?;
-        writing::string(visitor, "Transparent:0x420099", &self.username)?;
-        writing::optional_text_string(visitor, "Transparent:0x4200A1", &self.password)?;
-        writing::end_struct(visitor, "0x420025")?;
+        writing::begin_structure(visitor, 0x420025)?;
+        writing::string(visitor, 0x420099, &self.username)?;
+        writing::optional_text_string(visitor, 0x4200A1, &self.password)?;
+        writing::end_structure(visitor, 0x420025)?;
         Ok(())
     }
 }
@@ -194,10 +127,9 @@ impl<A: Allocator + Copy> reader::ReadStructure<A> for UsernameAndPassword<A> {
 
     const DENIES_UNKNOWN: bool = true;
 
-    #[tactic(auto, unfolding(kmip_ttlv_types::specs::Digits::six_digits))]
     fn has_form() {}
 
-    #[tactic(auto, unfolding(kmip_ttlv_types::specs::Digits::six_digits, crate::specs::Headers::read_username_and_password))]
+    #[tactic(auto, unfolding(crate::specs::Headers::read_username_and_password))]
     fn from_fields(fields: (String<A>, Option<String<A>>)) -> Self {
         let (username, password) = fields;
         UsernameAndPassword { username, password }
@@ -245,14 +177,14 @@ impl<B: Allocator> Serialize for Device<B> {
     ghost stated = { written_device };
 
     fn visit<V: Visitor>(&self, visitor: &mut V) -> Result<(), AllocError> {
-        writing::begin_struct(visitor, "0x420025")?;
-        writing::optional_text_string(visitor, "Transparent:0x4200B0", &self.device_serial_number)?;
-        writing::optional_text_string(visitor, "Transparent:0x4200A1", &self.password)?;
-        writing::optional_text_string(visitor, "Transparent:0x4200A2", &self.device_identifier)?;
-        writing::optional_text_string(visitor, "Transparent:0x4200AB", &self.network_identifier)?;
-        writing::optional_text_string(visitor, "Transparent:0x4200A9", &self.machine_identifier)?;
-        writing::optional_text_string(visitor, "Transparent:0x4200AA", &self.media_identifier)?;
-        writing::end_struct(visitor, "0x420025")?;
+        writing::begin_structure(visitor, 0x420025)?;
+        writing::optional_text_string(visitor, 0x4200B0, &self.device_serial_number)?;
+        writing::optional_text_string(visitor, 0x4200A1, &self.password)?;
+        writing::optional_text_string(visitor, 0x4200A2, &self.device_identifier)?;
+        writing::optional_text_string(visitor, 0x4200AB, &self.network_identifier)?;
+        writing::optional_text_string(visitor, 0x4200A9, &self.machine_identifier)?;
+        writing::optional_text_string(visitor, 0x4200AA, &self.media_identifier)?;
+        writing::end_structure(visitor, 0x420025)?;
         Ok(())
     }
 }
@@ -281,10 +213,9 @@ impl<A: Allocator + Copy> reader::ReadStructure<A> for Device<A> {
 
     const DENIES_UNKNOWN: bool = true;
 
-    #[tactic(auto, unfolding(kmip_ttlv_types::specs::Digits::six_digits))]
     fn has_form() {}
 
-    #[tactic(auto, unfolding(kmip_ttlv_types::specs::Digits::six_digits, crate::specs::Headers::read_device))]
+    #[tactic(auto, unfolding(crate::specs::Headers::read_device))]
     fn from_fields(
         fields: (
             Option<String<A>>,
@@ -399,7 +330,7 @@ impl<A: Allocator + Copy> reader::VariantOf<
     CredentialValue<A>,
     A,
 > for CredentialValueUsernameAndPasswordRule {
-    #[tactic(auto, unfolding(kmip_ttlv_types::specs::Digits::six_digits, crate::specs::Headers::read_credential_value))]
+    #[tactic(auto, unfolding(crate::specs::Headers::read_credential_value))]
     fn from_content(inner: UsernameAndPassword<A>) -> CredentialValue<A> {
         CredentialValue::UsernameAndPassword(inner)
     }
@@ -429,7 +360,7 @@ impl<A: Allocator + Copy> reader::VariantOf<
     CredentialValue<A>,
     A,
 > for CredentialValueDeviceRule {
-    #[tactic(auto, unfolding(kmip_ttlv_types::specs::Digits::six_digits, crate::specs::Headers::read_credential_value))]
+    #[tactic(auto, unfolding(crate::specs::Headers::read_credential_value))]
     fn from_content(inner: Device<A>) -> CredentialValue<A> {
         CredentialValue::Device(inner)
     }
@@ -455,7 +386,6 @@ impl<A: Allocator + Copy> reader::Choice<A> for CredentialValue<A> {
         ),
     );
 
-    #[tactic(auto, unfolding(kmip_ttlv_types::specs::Digits::six_digits))]
     fn has_form() {}
 }
 
@@ -489,10 +419,10 @@ impl<B: Allocator> Serialize for Credential<B> {
 
     #[tactic(auto, unfolding(crate::specs::Headers::written_credential))]
     fn visit<V: Visitor>(&self, visitor: &mut V) -> Result<(), AllocError> {
-        writing::begin_struct(visitor, "0x420023")?;
+        writing::begin_structure(visitor, 0x420023)?;
         self.credential_type.visit(visitor)?;
         self.credential_value.visit(visitor)?;
-        writing::end_struct(visitor, "0x420023")?;
+        writing::end_structure(visitor, 0x420023)?;
         Ok(())
     }
 }
@@ -515,10 +445,9 @@ impl<A: Allocator + Copy> reader::ReadStructure<A> for Credential<A> {
 
     const DENIES_UNKNOWN: bool = true;
 
-    #[tactic(auto, unfolding(kmip_ttlv_types::specs::Digits::six_digits))]
     fn has_form() {}
 
-    #[tactic(auto, unfolding(kmip_ttlv_types::specs::Digits::six_digits, crate::specs::Headers::read_credential))]
+    #[tactic(auto, unfolding(crate::specs::Headers::read_credential))]
     fn from_fields(fields: (CredentialType, CredentialValue<A>)) -> Self {
         let (credential_type, credential_value) = fields;
         Credential {
@@ -560,9 +489,9 @@ impl<B: Allocator> Serialize for Authentication<B> {
 
     #[tactic(auto, unfolding(crate::specs::Headers::written_authentication))]
     fn visit<V: Visitor>(&self, visitor: &mut V) -> Result<(), AllocError> {
-        writing::begin_struct(visitor, "0x42000C")?;
+        writing::begin_structure(visitor, 0x42000C)?;
         writing::several(visitor, &self.credentials)?;
-        writing::end_struct(visitor, "0x42000C")?;
+        writing::end_structure(visitor, 0x42000C)?;
         Ok(())
     }
 }
@@ -582,10 +511,9 @@ impl<A: Allocator + Copy> reader::ReadStructure<A> for Authentication<A> {
 
     const DENIES_UNKNOWN: bool = true;
 
-    #[tactic(auto, unfolding(kmip_ttlv_types::specs::Digits::six_digits))]
     fn has_form() {}
 
-    #[tactic(auto, unfolding(kmip_ttlv_types::specs::Digits::six_digits, crate::specs::Headers::read_authentication))]
+    #[tactic(auto, unfolding(crate::specs::Headers::read_authentication))]
     fn from_fields(fields: (Vec<Credential<A>, A>,)) -> Self {
         let (credentials,) = fields;
         Authentication { credentials }
@@ -612,83 +540,24 @@ impl<A: Allocator + Copy> reader::ReadNested<A> for Authentication<A> {
 }
 
 /// What a server does after an item that failed (section 9.1.3.2.29).
-#[derive(Clone, Copy, Debug)]
-pub enum BatchErrorContinuationOption {
+pub type BatchErrorContinuationOption = Enumeration<0x42000E>;
+
+/// The numbers of `BatchErrorContinuationOption` that have a name.
+pub mod batch_error_continuation_option {
+    use super::BatchErrorContinuationOption;
+
     /// It goes on.
-    Continue,
+    pub const CONTINUE: BatchErrorContinuationOption = BatchErrorContinuationOption {
+        number: 0x00000001,
+    };
     /// It stops.
-    Stop,
+    pub const STOP: BatchErrorContinuationOption = BatchErrorContinuationOption {
+        number: 0x00000002,
+    };
     /// It undoes what it did.
-    Undo,
-    /// Any other number. One that has a name is encoded as it is, and decoded by its name, to which it is equal.
-    Other(u32),
-}
-
-impl BatchErrorContinuationOption {
-    /// Its number.
-    pub fn number(self) -> u32
-        ensures { result ≡ batch_error_continuation_option_number self }
-    {
-        match self {
-            BatchErrorContinuationOption::Continue => 0x00000001,
-            BatchErrorContinuationOption::Stop => 0x00000002,
-            BatchErrorContinuationOption::Undo => 0x00000003,
-            BatchErrorContinuationOption::Other(number) => number,
-        }
-    }
-
-    /// The one of a number: by its name, if it has one.
-    pub fn from_number(number: u32) -> BatchErrorContinuationOption
-        ensures { batch_error_continuation_option_read_number result ≡ Some number }
-    {
-        match number {
-            0x00000001 => BatchErrorContinuationOption::Continue,
-            0x00000002 => BatchErrorContinuationOption::Stop,
-            0x00000003 => BatchErrorContinuationOption::Undo,
-            _ => BatchErrorContinuationOption::Other(number),
-        }
-    }
-}
-
-/// By their numbers.
-impl PartialEq for BatchErrorContinuationOption {
-    ghost eq = { on batch_error_continuation_option_number ◌==◌ };
-
-    ghost laws = { Prim.search (comparing, rules) };
-
-    fn eq(&self, other: &BatchErrorContinuationOption) -> bool {
-        self.number() == other.number()
-    }
-}
-
-impl Eq for BatchErrorContinuationOption {
-    ghost laws = { Prim.search (comparing, rules) };
-}
-
-impl Serialize for BatchErrorContinuationOption {
-    ghost stated = { written_batch_error_continuation_option };
-
-    #[tactic(auto, unfolding(crate::specs::Headers::written_batch_error_continuation_option))]
-    fn visit<V: Visitor>(&self, visitor: &mut V) -> Result<(), AllocError> {
-        writing::enumeration(visitor, "Transparent:0x42000E", self.number())
-    }
-}
-
-impl<A: Allocator + Copy> reader::ReadItem<A> for BatchErrorContinuationOption {
-    ghost form = { batch_error_continuation_option_form };
-
-    ghost value = { read_batch_error_continuation_option };
-
-    ghost plain = { (refl, refl) };
-
-    #[tactic(auto, unfolding(kmip_ttlv_types::specs::Digits::six_digits, crate::specs::Headers::read_batch_error_continuation_option))]
-    fn read_item<'b>(
-        scope: &reader::Scope<'b, A>,
-        cursor: &mut reader::Cursor<'b, A>,
-    ) -> reader::Step<Self, A> {
-        let number: u32 = cursor.wrapped_leaf(scope, 0x42000E)?;
-        Ok(BatchErrorContinuationOption::from_number(number))
-    }
+    pub const UNDO: BatchErrorContinuationOption = BatchErrorContinuationOption {
+        number: 0x00000003,
+    };
 }
 
 /// How many bytes a response may have.
@@ -702,7 +571,7 @@ impl Serialize for MaximumResponseSize {
     ghost stated = { maximum_response_size_value };
 
     fn visit<V: Visitor>(&self, visitor: &mut V) -> Result<(), AllocError> {
-        writing::integer(visitor, "Transparent:0x420050", self.bytes)?;
+        writing::tagged(visitor, 0x420050, Leaf::I32(self.bytes))?;
         Ok(())
     }
 }
@@ -714,7 +583,6 @@ impl<A: Allocator + Copy> reader::ReadItem<A> for MaximumResponseSize {
 
     ghost plain = { (refl, refl) };
 
-    #[tactic(auto, unfolding(kmip_ttlv_types::specs::Digits::six_digits))]
     fn read_item<'b>(
         scope: &reader::Scope<'b, A>,
         cursor: &mut reader::Cursor<'b, A>,
@@ -735,7 +603,7 @@ impl Serialize for TimeStamp {
     ghost stated = { time_stamp_value };
 
     fn visit<V: Visitor>(&self, visitor: &mut V) -> Result<(), AllocError> {
-        writing::date_time(visitor, "Transparent:0x420092", self.seconds)?;
+        writing::tagged(visitor, 0x420092, Leaf::DateTime(self.seconds))?;
         Ok(())
     }
 }
@@ -747,7 +615,6 @@ impl<A: Allocator + Copy> reader::ReadItem<A> for TimeStamp {
 
     ghost plain = { (refl, refl) };
 
-    #[tactic(auto, unfolding(kmip_ttlv_types::specs::Digits::six_digits))]
     fn read_item<'b>(
         scope: &reader::Scope<'b, A>,
         cursor: &mut reader::Cursor<'b, A>,
@@ -768,7 +635,7 @@ impl Serialize for BatchCount {
     ghost stated = { batch_count_value };
 
     fn visit<V: Visitor>(&self, visitor: &mut V) -> Result<(), AllocError> {
-        writing::integer(visitor, "Transparent:0x42000D", self.count)?;
+        writing::tagged(visitor, 0x42000D, Leaf::I32(self.count))?;
         Ok(())
     }
 }
@@ -780,7 +647,6 @@ impl<A: Allocator + Copy> reader::ReadItem<A> for BatchCount {
 
     ghost plain = { (refl, refl) };
 
-    #[tactic(auto, unfolding(kmip_ttlv_types::specs::Digits::six_digits))]
     fn read_item<'b>(
         scope: &reader::Scope<'b, A>,
         cursor: &mut reader::Cursor<'b, A>,
@@ -816,20 +682,16 @@ impl<B: Allocator> Serialize for RequestHeader<B> {
     ghost stated = { written_request_header };
 
     fn visit<V: Visitor>(&self, visitor: &mut V) -> Result<(), AllocError> {
-        writing::begin_struct(visitor, "0x420077")?;
+        writing::begin_structure(visitor, 0x420077)?;
         self.version.visit(visitor)?;
         writing::option(visitor, &self.maximum_response_size)?;
-        writing::optional_boolean(
-            visitor,
-            "Transparent:0x420007",
-            &self.asynchronous_indicator,
-        )?;
+        writing::optional_boolean(visitor, 0x420007, &self.asynchronous_indicator)?;
         writing::option(visitor, &self.authentication)?;
         writing::option(visitor, &self.batch_error_continuation_option)?;
-        writing::optional_boolean(visitor, "Transparent:0x420010", &self.batch_order_option)?;
+        writing::optional_boolean(visitor, 0x420010, &self.batch_order_option)?;
         writing::option(visitor, &self.time_stamp)?;
         self.batch_count.visit(visitor)?;
-        writing::end_struct(visitor, "0x420077")?;
+        writing::end_structure(visitor, 0x420077)?;
         Ok(())
     }
 }
@@ -860,10 +722,9 @@ impl<A: Allocator + Copy> reader::ReadStructure<A> for RequestHeader<A> {
 
     const DENIES_UNKNOWN: bool = true;
 
-    #[tactic(auto, unfolding(kmip_ttlv_types::specs::Digits::six_digits))]
     fn has_form() {}
 
-    #[tactic(auto, unfolding(kmip_ttlv_types::specs::Digits::six_digits, crate::specs::Headers::read_request_header))]
+    #[tactic(auto, unfolding(crate::specs::Headers::read_request_header))]
     fn from_fields(
         fields: (
             ProtocolVersion,
@@ -932,11 +793,11 @@ impl Serialize for ResponseHeader {
     ghost stated = { response_header_value };
 
     fn visit<V: Visitor>(&self, visitor: &mut V) -> Result<(), AllocError> {
-        writing::begin_struct(visitor, "0x42007A")?;
+        writing::begin_structure(visitor, 0x42007A)?;
         self.version.visit(visitor)?;
-        writing::date_time(visitor, "Transparent:0x420092", self.time_stamp)?;
-        writing::integer(visitor, "Transparent:0x42000D", self.batch_count)?;
-        writing::end_struct(visitor, "0x42007A")?;
+        writing::tagged(visitor, 0x420092, Leaf::DateTime(self.time_stamp))?;
+        writing::tagged(visitor, 0x42000D, Leaf::I32(self.batch_count))?;
+        writing::end_structure(visitor, 0x42007A)?;
         Ok(())
     }
 }
@@ -960,10 +821,9 @@ impl<A: Allocator + Copy> reader::ReadStructure<A> for ResponseHeader {
 
     const DENIES_UNKNOWN: bool = true;
 
-    #[tactic(auto, unfolding(kmip_ttlv_types::specs::Digits::six_digits))]
     fn has_form() {}
 
-    #[tactic(auto, unfolding(kmip_ttlv_types::specs::Digits::six_digits, crate::specs::Headers::response_header_value))]
+    #[tactic(auto, unfolding(crate::specs::Headers::response_header_value))]
     fn from_fields(fields: (ProtocolVersion, reader::DateTime, i32)) -> Self {
         let (version, time_stamp, batch_count) = fields;
         ResponseHeader {
@@ -994,187 +854,70 @@ impl<A: Allocator + Copy> reader::ReadNested<A> for ResponseHeader {
 }
 
 /// What an item asks for (section 9.1.3.2.26).
-#[derive(Clone, Copy, Debug)]
-pub enum Operation {
+pub type Operation = Enumeration<0x42005C>;
+
+/// The numbers of `Operation` that have a name.
+pub mod operation {
+    use super::Operation;
+
     /// To make a symmetric key.
-    Create,
+    pub const CREATE: Operation = Operation { number: 0x00000001 };
     /// To make a public and a private key.
-    CreateKeyPair,
+    pub const CREATE_KEY_PAIR: Operation = Operation { number: 0x00000002 };
     /// To keep an object.
-    Register,
+    pub const REGISTER: Operation = Operation { number: 0x00000003 };
     /// To make a key in place of another.
-    ReKey,
+    pub const RE_KEY: Operation = Operation { number: 0x00000004 };
     /// To make a key of others.
-    DeriveKey,
+    pub const DERIVE_KEY: Operation = Operation { number: 0x00000005 };
     /// To make a certificate.
-    Certify,
+    pub const CERTIFY: Operation = Operation { number: 0x00000006 };
     /// To make a certificate in place of another.
-    ReCertify,
+    pub const RE_CERTIFY: Operation = Operation { number: 0x00000007 };
     /// To find objects.
-    Locate,
+    pub const LOCATE: Operation = Operation { number: 0x00000008 };
     /// To say whether an object may be used.
-    Check,
+    pub const CHECK: Operation = Operation { number: 0x00000009 };
     /// To get an object.
-    Get,
+    pub const GET: Operation = Operation { number: 0x0000000A };
     /// To get what is known of it.
-    GetAttributes,
+    pub const GET_ATTRIBUTES: Operation = Operation { number: 0x0000000B };
     /// To get the names of what is known.
-    GetAttributeList,
+    pub const GET_ATTRIBUTE_LIST: Operation = Operation { number: 0x0000000C };
     /// To add an attribute.
-    AddAttribute,
+    pub const ADD_ATTRIBUTE: Operation = Operation { number: 0x0000000D };
     /// To change one.
-    ModifyAttribute,
+    pub const MODIFY_ATTRIBUTE: Operation = Operation { number: 0x0000000E };
     /// To delete one.
-    DeleteAttribute,
+    pub const DELETE_ATTRIBUTE: Operation = Operation { number: 0x0000000F };
     /// To use an object for a time.
-    ObtainLease,
+    pub const OBTAIN_LEASE: Operation = Operation { number: 0x00000010 };
     /// To use it for an amount.
-    GetUsageAllocation,
+    pub const GET_USAGE_ALLOCATION: Operation = Operation { number: 0x00000011 };
     /// To have it in use.
-    Activate,
+    pub const ACTIVATE: Operation = Operation { number: 0x00000012 };
     /// To have it no longer in use.
-    Revoke,
+    pub const REVOKE: Operation = Operation { number: 0x00000013 };
     /// To have it destroyed.
-    Destroy,
+    pub const DESTROY: Operation = Operation { number: 0x00000014 };
     /// To put it away.
-    Archive,
+    pub const ARCHIVE: Operation = Operation { number: 0x00000015 };
     /// To bring it back.
-    Recover,
+    pub const RECOVER: Operation = Operation { number: 0x00000016 };
     /// To say whether certificates are valid.
-    Validate,
+    pub const VALIDATE: Operation = Operation { number: 0x00000017 };
     /// To say what the server can do.
-    Query,
+    pub const QUERY: Operation = Operation { number: 0x00000018 };
     /// To give up an operation.
-    Cancel,
+    pub const CANCEL: Operation = Operation { number: 0x00000019 };
     /// To ask for the response of one.
-    Poll,
+    pub const POLL: Operation = Operation { number: 0x0000001A };
     /// To tell a client what has changed.
-    Notify,
+    pub const NOTIFY: Operation = Operation { number: 0x0000001B };
     /// To give a client an object.
-    Put,
+    pub const PUT: Operation = Operation { number: 0x0000001C };
     /// To say which versions the server has (KMIP 1.1).
-    DiscoverVersions,
-    /// Any other number. One that has a name is encoded as it is, and decoded by its name, to which it is equal.
-    Other(u32),
-}
-
-impl Operation {
-    /// Its number.
-    pub fn number(self) -> u32
-        ensures { result ≡ operation_number self }
-    {
-        match self {
-            Operation::Create => 0x00000001,
-            Operation::CreateKeyPair => 0x00000002,
-            Operation::Register => 0x00000003,
-            Operation::ReKey => 0x00000004,
-            Operation::DeriveKey => 0x00000005,
-            Operation::Certify => 0x00000006,
-            Operation::ReCertify => 0x00000007,
-            Operation::Locate => 0x00000008,
-            Operation::Check => 0x00000009,
-            Operation::Get => 0x0000000A,
-            Operation::GetAttributes => 0x0000000B,
-            Operation::GetAttributeList => 0x0000000C,
-            Operation::AddAttribute => 0x0000000D,
-            Operation::ModifyAttribute => 0x0000000E,
-            Operation::DeleteAttribute => 0x0000000F,
-            Operation::ObtainLease => 0x00000010,
-            Operation::GetUsageAllocation => 0x00000011,
-            Operation::Activate => 0x00000012,
-            Operation::Revoke => 0x00000013,
-            Operation::Destroy => 0x00000014,
-            Operation::Archive => 0x00000015,
-            Operation::Recover => 0x00000016,
-            Operation::Validate => 0x00000017,
-            Operation::Query => 0x00000018,
-            Operation::Cancel => 0x00000019,
-            Operation::Poll => 0x0000001A,
-            Operation::Notify => 0x0000001B,
-            Operation::Put => 0x0000001C,
-            Operation::DiscoverVersions => 0x0000001E,
-            Operation::Other(number) => number,
-        }
-    }
-
-    /// The one of a number: by its name, if it has one.
-    pub fn from_number(number: u32) -> Operation
-        ensures { operation_read_number result ≡ Some number }
-    {
-        match number {
-            0x00000001 => Operation::Create,
-            0x00000002 => Operation::CreateKeyPair,
-            0x00000003 => Operation::Register,
-            0x00000004 => Operation::ReKey,
-            0x00000005 => Operation::DeriveKey,
-            0x00000006 => Operation::Certify,
-            0x00000007 => Operation::ReCertify,
-            0x00000008 => Operation::Locate,
-            0x00000009 => Operation::Check,
-            0x0000000A => Operation::Get,
-            0x0000000B => Operation::GetAttributes,
-            0x0000000C => Operation::GetAttributeList,
-            0x0000000D => Operation::AddAttribute,
-            0x0000000E => Operation::ModifyAttribute,
-            0x0000000F => Operation::DeleteAttribute,
-            0x00000010 => Operation::ObtainLease,
-            0x00000011 => Operation::GetUsageAllocation,
-            0x00000012 => Operation::Activate,
-            0x00000013 => Operation::Revoke,
-            0x00000014 => Operation::Destroy,
-            0x00000015 => Operation::Archive,
-            0x00000016 => Operation::Recover,
-            0x00000017 => Operation::Validate,
-            0x00000018 => Operation::Query,
-            0x00000019 => Operation::Cancel,
-            0x0000001A => Operation::Poll,
-            0x0000001B => Operation::Notify,
-            0x0000001C => Operation::Put,
-            0x0000001E => Operation::DiscoverVersions,
-            _ => Operation::Other(number),
-        }
-    }
-}
-
-/// By their numbers.
-impl PartialEq for Operation {
-    ghost eq = { on operation_number ◌==◌ };
-
-    ghost laws = { Prim.search (comparing, rules) };
-
-    fn eq(&self, other: &Operation) -> bool {
-        self.number() == other.number()
-    }
-}
-
-impl Eq for Operation {
-    ghost laws = { Prim.search (comparing, rules) };
-}
-
-impl Serialize for Operation {
-    ghost stated = { written_operation };
-
-    #[tactic(auto, unfolding(crate::specs::Headers::written_operation))]
-    fn visit<V: Visitor>(&self, visitor: &mut V) -> Result<(), AllocError> {
-        writing::enumeration(visitor, "Transparent:0x42005C", self.number())
-    }
-}
-
-impl<A: Allocator + Copy> reader::ReadItem<A> for Operation {
-    ghost form = { operation_form };
-
-    ghost value = { read_operation };
-
-    ghost plain = { (refl, refl) };
-
-    #[tactic(auto, unfolding(kmip_ttlv_types::specs::Digits::six_digits, crate::specs::Headers::read_operation))]
-    fn read_item<'b>(
-        scope: &reader::Scope<'b, A>,
-        cursor: &mut reader::Cursor<'b, A>,
-    ) -> reader::Step<Self, A> {
-        let number: u32 = cursor.wrapped_leaf(scope, 0x42005C)?;
-        Ok(Operation::from_number(number))
-    }
+    pub const DISCOVER_VERSIONS: Operation = Operation { number: 0x0000001E };
 }
 
 /// What a vendor adds (section 6.16). Its Vendor Extension is ignored, and lost when it is encoded again.
@@ -1192,10 +935,10 @@ impl<B: Allocator> Serialize for MessageExtension<B> {
 
     #[tactic(auto, unfolding(crate::specs::Headers::message_extension_value))]
     fn visit<V: Visitor>(&self, visitor: &mut V) -> Result<(), AllocError> {
-        writing::begin_struct(visitor, "0x420051")?;
-        writing::string(visitor, "Transparent:0x42009D", &self.vendor_identification)?;
-        writing::boolean(visitor, "Transparent:0x420026", self.criticality_indicator)?;
-        writing::end_struct(visitor, "0x420051")?;
+        writing::begin_structure(visitor, 0x420051)?;
+        writing::string(visitor, 0x42009D, &self.vendor_identification)?;
+        writing::tagged(visitor, 0x420026, Leaf::Bool(self.criticality_indicator))?;
+        writing::end_structure(visitor, 0x420051)?;
         Ok(())
     }
 }
@@ -1218,10 +961,9 @@ impl<A: Allocator + Copy> reader::ReadStructure<A> for MessageExtension<A> {
 
     const DENIES_UNKNOWN: bool = false;
 
-    #[tactic(auto, unfolding(kmip_ttlv_types::specs::Digits::six_digits))]
     fn has_form() {}
 
-    #[tactic(auto, unfolding(kmip_ttlv_types::specs::Digits::six_digits, crate::specs::Headers::message_extension_value))]
+    #[tactic(auto, unfolding(crate::specs::Headers::message_extension_value))]
     fn from_fields(fields: (String<A>, bool)) -> Self {
         let (vendor_identification, criticality_indicator) = fields;
         MessageExtension {

@@ -1,35 +1,32 @@
 // Written by codegen from types.table: change that, and run codegen/codegen.
-//! What was written is read back: the laws of `kmip_ttlv::laws`, at these messages.
+//! What was written is read back: the laws of `kmip_ttlv_parts::laws`, at these messages.
 
 ghost use Rattle.std.specs.Prelude.{◌≡◌};
-ghost use Rattle.kmip_ttlv.specs.Equal.{AreEqual, ReturnsEqual};
-ghost use Rattle.kmip_headers.specs.Headers.{protocol_version_value, written_credential_type, read_credential_type, read_username_and_password, read_device, read_credential_value, returned_credential, read_credential, returned_authentication, read_authentication, written_batch_error_continuation_option, read_batch_error_continuation_option, maximum_response_size_value, time_stamp_value, batch_count_value, returned_request_header, read_request_header, response_header_value, written_operation, read_operation, message_extension_value};
-ghost use Rattle.kmip_headers.specs.Soundness.{IsProtocolVersion, IsCredentialType, IsCredential, IsAuthentication, IsBatchErrorContinuationOption, IsMaximumResponseSize, IsTimeStamp, IsBatchCount, IsRequestHeader, IsResponseHeader, IsOperation};
+ghost use Rattle.kmip_ttlv_parts.specs.Equal.{AreEqual};
+ghost use Rattle.kmip_headers.specs.Headers.{protocol_version_value, read_username_and_password, read_device, read_credential_value, read_credential, read_authentication, maximum_response_size_value, time_stamp_value, batch_count_value, read_request_header, response_header_value, message_extension_value};
+ghost use Rattle.kmip_headers.specs.Soundness.{IsProtocolVersion, IsCredential, IsAuthentication, IsMaximumResponseSize, IsTimeStamp, IsBatchCount, IsRequestHeader, IsResponseHeader};
 
 use crate::header::{
-    Authentication, BatchCount, BatchErrorContinuationOption, Credential, CredentialType,
-    CredentialValue, Device, MaximumResponseSize, MessageExtension, Operation, ProtocolVersion,
-    RequestHeader, ResponseHeader, TimeStamp, UsernameAndPassword,
+    Authentication, BatchCount, Credential, CredentialValue, Device, MaximumResponseSize,
+    MessageExtension, ProtocolVersion, RequestHeader, ResponseHeader, TimeStamp,
+    UsernameAndPassword,
 };
-use kmip_ttlv::laws::Sound;
+use kmip_ttlv_parts::laws::Sound;
 use std::alloc::Allocator;
 
 /// Values of a type are equal if they stand for the same: no type loses a part of what it is decoded from.
 pub fn equal_values<A: Allocator>()
     ensures protocol_version { AreEqual protocol_version_value ⟦<ProtocolVersion as PartialEq>⟧.eq }
-    ensures credential_type { ReturnsEqual written_credential_type read_credential_type ⟦<CredentialType as PartialEq>⟧.eq }
     ensures username_and_password { AreEqual read_username_and_password ⟦<UsernameAndPassword<A> as PartialEq>⟧.eq }
     ensures device { AreEqual read_device ⟦<Device<A> as PartialEq>⟧.eq }
     ensures credential_value { AreEqual read_credential_value ⟦<CredentialValue<A> as PartialEq>⟧.eq }
-    ensures credential { ReturnsEqual returned_credential read_credential ⟦<Credential<A> as PartialEq>⟧.eq }
-    ensures authentication { ReturnsEqual returned_authentication read_authentication ⟦<Authentication<A> as PartialEq>⟧.eq }
-    ensures batch_error_continuation_option { ReturnsEqual written_batch_error_continuation_option read_batch_error_continuation_option ⟦<BatchErrorContinuationOption as PartialEq>⟧.eq }
+    ensures credential { AreEqual read_credential ⟦<Credential<A> as PartialEq>⟧.eq }
+    ensures authentication { AreEqual read_authentication ⟦<Authentication<A> as PartialEq>⟧.eq }
     ensures maximum_response_size { AreEqual maximum_response_size_value ⟦<MaximumResponseSize as PartialEq>⟧.eq }
     ensures time_stamp { AreEqual time_stamp_value ⟦<TimeStamp as PartialEq>⟧.eq }
     ensures batch_count { AreEqual batch_count_value ⟦<BatchCount as PartialEq>⟧.eq }
-    ensures request_header { ReturnsEqual returned_request_header read_request_header ⟦<RequestHeader<A> as PartialEq>⟧.eq }
+    ensures request_header { AreEqual read_request_header ⟦<RequestHeader<A> as PartialEq>⟧.eq }
     ensures response_header { AreEqual response_header_value ⟦<ResponseHeader as PartialEq>⟧.eq }
-    ensures operation { ReturnsEqual written_operation read_operation ⟦<Operation as PartialEq>⟧.eq }
     ensures message_extension { AreEqual message_extension_value ⟦<MessageExtension<A> as PartialEq>⟧.eq }
 {}
 
@@ -41,14 +38,6 @@ impl Sound for ProtocolVersion {
     }
 }
 
-impl Sound for CredentialType {
-    ghost IsSound = { IsCredentialType };
-
-    fn is_sound(&self) -> bool {
-        self.number().is_sound()
-    }
-}
-
 impl<A: Allocator> Sound for Credential<A> {
     ghost IsSound = { IsCredential };
 
@@ -56,7 +45,7 @@ impl<A: Allocator> Sound for Credential<A> {
         self.credential_type.is_sound()
             && self
                 .credential_value
-                .is_chosen_by_number(self.credential_type.number())
+                .is_chosen_by_number(self.credential_type.number)
     }
 }
 
@@ -65,14 +54,6 @@ impl<A: Allocator> Sound for Authentication<A> {
 
     fn is_sound(&self) -> bool {
         !self.credentials.is_empty() && self.credentials.is_sound()
-    }
-}
-
-impl Sound for BatchErrorContinuationOption {
-    ghost IsSound = { IsBatchErrorContinuationOption };
-
-    fn is_sound(&self) -> bool {
-        self.number().is_sound()
     }
 }
 
@@ -118,13 +99,5 @@ impl Sound for ResponseHeader {
 
     fn is_sound(&self) -> bool {
         self.version.is_sound() && self.time_stamp.is_sound() && self.batch_count.is_sound()
-    }
-}
-
-impl Sound for Operation {
-    ghost IsSound = { IsOperation };
-
-    fn is_sound(&self) -> bool {
-        self.number().is_sound()
     }
 }

@@ -4,15 +4,14 @@
 ghost use Rattle.std.specs.Prelude.{◌≡◌, IfSome, IsTrue, ◌↔◌};
 ghost use Rattle.std.specs.Option.{IsSomeAnd};
 ghost use Rattle.kmip_responses.specs.ResponsePayloads.{ChoosesResponsePayloadNumber};
-ghost use Rattle.kmip_headers.specs.Headers.{operation_number};
-ghost use Rattle.kmip_ttlv.specs.Equal.{ReturnsEqual};
-ghost use Rattle.kmip_messages.specs.Requests.{returned_request_item, read_request_item, returned_request, read_request};
-ghost use Rattle.kmip_messages.specs.Responses.{written_result_status, read_result_status, written_result_reason, read_result_reason, returned_response_item, read_response_item, returned_response, read_response};
-ghost use Rattle.kmip_messages.specs.Soundness.{IsRequestItem, IsRequest, IsResultStatus, IsResultReason, IsResponseItem, IsResponse};
+ghost use Rattle.kmip_ttlv.specs.Equal.{AreEqual};
+ghost use Rattle.kmip_messages.specs.Requests.{read_request_item, read_request};
+ghost use Rattle.kmip_messages.specs.Responses.{read_response_item, read_response};
+ghost use Rattle.kmip_messages.specs.Soundness.{IsRequestItem, IsRequest, IsResponseItem, IsResponse};
 ghost use Rattle.kmip_messages.specs.Laws.{RequestsComeBack, ResponsesComeBack};
 
 use crate::request::{Request, RequestItem};
-use crate::response::{Response, ResponseItem, ResultReason, ResultStatus};
+use crate::response::{Response, ResponseItem};
 use kmip_ttlv::laws::{Message, Sound, agreeing_values_come_back};
 use std::alloc::Allocator;
 
@@ -34,12 +33,10 @@ pub fn responses_come_back<A: Allocator>()
 
 /// Values of a type are equal if they stand for the same: no type loses a part of what it is decoded from.
 pub fn equal_values<A: Allocator>()
-    ensures request_item { ReturnsEqual returned_request_item read_request_item ⟦<RequestItem<A> as PartialEq>⟧.eq }
-    ensures request { ReturnsEqual returned_request read_request ⟦<Request<A> as PartialEq>⟧.eq }
-    ensures result_status { ReturnsEqual written_result_status read_result_status ⟦<ResultStatus as PartialEq>⟧.eq }
-    ensures result_reason { ReturnsEqual written_result_reason read_result_reason ⟦<ResultReason as PartialEq>⟧.eq }
-    ensures response_item { ReturnsEqual returned_response_item read_response_item ⟦<ResponseItem<A> as PartialEq>⟧.eq }
-    ensures response { ReturnsEqual returned_response read_response ⟦<Response<A> as PartialEq>⟧.eq }
+    ensures request_item { AreEqual read_request_item ⟦<RequestItem<A> as PartialEq>⟧.eq }
+    ensures request { AreEqual read_request ⟦<Request<A> as PartialEq>⟧.eq }
+    ensures response_item { AreEqual read_response_item ⟦<ResponseItem<A> as PartialEq>⟧.eq }
+    ensures response { AreEqual read_response ⟦<Response<A> as PartialEq>⟧.eq }
 {
     kmip_headers::laws::equal_values::<A>();
     kmip_requests::laws::equal_values::<A>();
@@ -51,7 +48,7 @@ impl<A: Allocator> Sound for RequestItem<A> {
 
     fn is_sound(&self) -> bool {
         self.operation.is_sound()
-            && self.payload.is_chosen_by_number(self.operation.number())
+            && self.payload.is_chosen_by_number(self.operation.number)
             && self.payload.is_sound()
     }
 }
@@ -64,29 +61,13 @@ impl<A: Allocator> Sound for Request<A> {
     }
 }
 
-impl Sound for ResultStatus {
-    ghost IsSound = { IsResultStatus };
-
-    fn is_sound(&self) -> bool {
-        self.number().is_sound()
-    }
-}
-
-impl Sound for ResultReason {
-    ghost IsSound = { IsResultReason };
-
-    fn is_sound(&self) -> bool {
-        self.number().is_sound()
-    }
-}
-
 impl<A: Allocator> ResponseItem<A> {
     // Whether `operation` chooses `payload`, if that is there.
     fn is_payload_chosen(&self) -> bool
-        ensures { IsTrue result ↔ IfSome self.now.payload (λ y. IsSomeAnd self.now.operation (λ z. ChoosesResponsePayloadNumber (operation_number z) y)) }
+        ensures { IsTrue result ↔ IfSome self.now.payload (λ y. IsSomeAnd self.now.operation (λ z. ChoosesResponsePayloadNumber z.number y)) }
     {
         match (&self.operation, &self.payload) {
-            (Some(said), Some(inner)) => inner.is_chosen_by_number(said.number()),
+            (Some(said), Some(inner)) => inner.is_chosen_by_number(said.number),
             (None, Some(_)) => false,
             (_, None) => true,
         }

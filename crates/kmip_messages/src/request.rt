@@ -30,12 +30,12 @@ impl<B: Allocator> Serialize for RequestItem<B> {
     ghost stated = { written_request_item };
 
     fn visit<V: Visitor>(&self, visitor: &mut V) -> Result<(), AllocError> {
-        writing::begin_struct(visitor, "0x42000F")?;
+        writing::begin_structure(visitor, 0x42000F)?;
         self.operation.visit(visitor)?;
-        writing::optional_byte_string(visitor, "Transparent:0x420093", &self.unique_batch_item_id)?;
+        writing::optional_byte_string(visitor, 0x420093, &self.unique_batch_item_id)?;
         self.payload.visit(visitor)?;
         writing::option(visitor, &self.message_extension)?;
-        writing::end_struct(visitor, "0x42000F")?;
+        writing::end_structure(visitor, 0x42000F)?;
         Ok(())
     }
 }
@@ -60,10 +60,9 @@ impl<A: Allocator + Copy> reader::ReadStructure<A> for RequestItem<A> {
 
     const DENIES_UNKNOWN: bool = true;
 
-    #[tactic(auto, unfolding(kmip_ttlv_types::specs::Digits::six_digits))]
     fn has_form() {}
 
-    #[tactic(auto, unfolding(kmip_ttlv_types::specs::Digits::six_digits, crate::specs::Requests::read_request_item))]
+    #[tactic(auto, unfolding(crate::specs::Requests::read_request_item))]
     fn from_fields(
         fields: (
             Operation,
@@ -116,10 +115,10 @@ impl<B: Allocator> Serialize for Request<B> {
 
     #[tactic(auto, unfolding(crate::specs::Requests::written_request))]
     fn visit<V: Visitor>(&self, visitor: &mut V) -> Result<(), AllocError> {
-        writing::begin_struct(visitor, "0x420078")?;
+        writing::begin_structure(visitor, 0x420078)?;
         self.header.visit(visitor)?;
         writing::several(visitor, &self.items)?;
-        writing::end_struct(visitor, "0x420078")?;
+        writing::end_structure(visitor, 0x420078)?;
         Ok(())
     }
 }
@@ -142,10 +141,9 @@ impl<A: Allocator + Copy> reader::ReadStructure<A> for Request<A> {
 
     const DENIES_UNKNOWN: bool = true;
 
-    #[tactic(auto, unfolding(kmip_ttlv_types::specs::Digits::six_digits))]
     fn has_form() {}
 
-    #[tactic(auto, unfolding(kmip_ttlv_types::specs::Digits::six_digits, crate::specs::Requests::read_request))]
+    #[tactic(auto, unfolding(crate::specs::Requests::read_request))]
     fn from_fields(fields: (RequestHeader<A>, Vec<RequestItem<A>, A>)) -> Self {
         let (header, items) = fields;
         Request { header, items }

@@ -1,47 +1,28 @@
 -- Written by codegen from types.table: change that, and run codegen/codegen.
 -- Which values of each type are sound: what was encoded of them is decoded again.
-use Rattle.kmip_ttlv.specs.Boxes.{IsBoxed}
+use Rattle.kmip_ttlv_parts.specs.Boxes.{IsBoxed}
+use Rattle.kmip_ttlv_parts.specs.Enumerations.{IsEnumeration}
 use Rattle.std.specs.Int.{w32}
-use Rattle.std.specs.Prelude.{All, FitsSigned, IfSome, length, ◌%◌, ◌<◌, ◌^◌, ◌≡◌}
-use Rattle.kmip_objects.specs.declared.key.{KeyCompressionType.KeyCompressionType, WrappingMethod.WrappingMethod, EncodingOption.EncodingOption}
+use Rattle.std.specs.Prelude.{All, FitsSigned, IfSome, length, ◌%◌, ◌<◌, ◌≡◌}
 use Rattle.kmip_objects.specs.declared.key.{WrappingParameters.WrappingParameters, EncryptionKeyInformation.EncryptionKeyInformation}
 use Rattle.kmip_objects.specs.declared.key.{MacSignatureKeyInformation.MacSignatureKeyInformation, KeyWrappingData.KeyWrappingData, PlainKeyValue.PlainKeyValue}
 use Rattle.kmip_objects.specs.declared.key.{KeyValue.KeyValue, CryptographicLength.CryptographicLength, KeyBlock.KeyBlock}
 use Rattle.kmip_objects.specs.declared.key.KeyValue.TheVariants as key_value
 use Rattle.kmip_objects.specs.declared.object.{Certificate.Certificate, SymmetricKey.SymmetricKey, PublicKey.PublicKey, PrivateKey.PrivateKey}
-use Rattle.kmip_objects.specs.declared.object.{SplitKeyMethod.SplitKeyMethod, SplitKeyParts.SplitKeyParts, KeyPartIdentifier.KeyPartIdentifier}
-use Rattle.kmip_objects.specs.declared.object.{SplitKeyThreshold.SplitKeyThreshold, SplitKey.SplitKey, Template.Template, SecretDataType.SecretDataType}
-use Rattle.kmip_objects.specs.declared.object.{SecretData.SecretData, OpaqueDataType.OpaqueDataType, OpaqueObject.OpaqueObject}
+use Rattle.kmip_objects.specs.declared.object.{SplitKeyParts.SplitKeyParts, KeyPartIdentifier.KeyPartIdentifier, SplitKeyThreshold.SplitKeyThreshold}
+use Rattle.kmip_objects.specs.declared.object.{SplitKey.SplitKey, Template.Template, SecretData.SecretData, OpaqueObject.OpaqueObject}
 use Rattle.kmip_objects.specs.declared.template.{TemplateName.TemplateName, TemplateAttribute.TemplateAttribute}
 use Rattle.kmip_objects.specs.declared.template.{CommonTemplateAttribute.CommonTemplateAttribute, PrivateKeyTemplateAttribute.PrivateKeyTemplateAttribute}
 use Rattle.kmip_objects.specs.declared.template.{PublicKeyTemplateAttribute.PublicKeyTemplateAttribute}
-use Rattle.kmip_objects.specs.Keys.{key_compression_type_number, wrapping_method_number, encoding_option_number}
-use Rattle.kmip_attributes.specs.Soundness.{IsBlockCipherMode, IsPaddingMethod, IsHashingAlgorithm, IsKeyRoleType, IsAttribute, IsKeyFormatType}
-use Rattle.kmip_attributes.specs.Soundness.{IsCryptographicAlgorithm, IsCertificateType, IsNameType}
-use Rattle.kmip_objects.specs.Objects.{split_key_method_number, secret_data_type_number, opaque_data_type_number}
-
--- which values of `KeyCompressionType` are sound
-abbrev pub IsKeyCompressionType : KeyCompressionType → Type 0
-IsKeyCompressionType x =
-    (key_compression_type_number x < 2 ^ 32)
-
--- which values of `WrappingMethod` are sound
-abbrev pub IsWrappingMethod : WrappingMethod → Type 0
-IsWrappingMethod x =
-    (wrapping_method_number x < 2 ^ 32)
-
--- which values of `EncodingOption` are sound
-abbrev pub IsEncodingOption : EncodingOption → Type 0
-IsEncodingOption x =
-    (encoding_option_number x < 2 ^ 32)
+use Rattle.kmip_attributes.specs.Soundness.{IsAttribute}
 
 -- which values of `WrappingParameters` are sound
 abbrev pub IsWrappingParameters : WrappingParameters → Type 0
 IsWrappingParameters x =
-    IfSome x.block_cipher_mode IsBlockCipherMode
-    × IfSome x.padding_method IsPaddingMethod
-    × IfSome x.hashing_algorithm IsHashingAlgorithm
-    × IfSome x.key_role_type IsKeyRoleType
+    IfSome x.block_cipher_mode IsEnumeration
+    × IfSome x.padding_method IsEnumeration
+    × IfSome x.hashing_algorithm IsEnumeration
+    × IfSome x.key_role_type IsEnumeration
 
 -- which values of `EncryptionKeyInformation` are sound
 abbrev pub IsEncryptionKeyInformation : {A : Type 0} → EncryptionKeyInformation A → Type 0
@@ -56,10 +37,10 @@ IsMacSignatureKeyInformation x =
 -- which values of `KeyWrappingData` are sound
 abbrev pub IsKeyWrappingData : {A : Type 0} → KeyWrappingData A → Type 0
 IsKeyWrappingData x =
-    IsWrappingMethod x.wrapping_method
+    IsEnumeration x.wrapping_method
     × IfSome x.encryption_key_information IsEncryptionKeyInformation
     × IfSome x.mac_signature_key_information IsMacSignatureKeyInformation
-    × IfSome x.encoding_option IsEncodingOption
+    × IfSome x.encoding_option IsEnumeration
 
 -- which values of `PlainKeyValue` are sound
 abbrev pub IsPlainKeyValue : {A : Type 0} → PlainKeyValue A → Type 0
@@ -79,17 +60,17 @@ IsCryptographicLength x =
 -- which values of `KeyBlock` are sound
 abbrev pub IsKeyBlock : {A : Type 0} → KeyBlock A → Type 0
 IsKeyBlock x =
-    IsKeyFormatType x.key_format_type
-    × IfSome x.key_compression_type IsKeyCompressionType
+    IsEnumeration x.key_format_type
+    × IfSome x.key_compression_type IsEnumeration
     × IsKeyValue x.key_value
-    × IfSome x.cryptographic_algorithm IsCryptographicAlgorithm
+    × IfSome x.cryptographic_algorithm IsEnumeration
     × IfSome x.cryptographic_length IsCryptographicLength
     × IfSome x.key_wrapping_data (IsBoxed IsKeyWrappingData)
 
 -- which values of `Certificate` are sound
 abbrev pub IsCertificate : {A : Type 0} → Certificate A → Type 0
 IsCertificate x =
-    IsCertificateType x.certificate_type
+    IsEnumeration x.certificate_type
 
 -- which values of `SymmetricKey` are sound
 abbrev pub IsSymmetricKey : {A : Type 0} → SymmetricKey A → Type 0
@@ -105,11 +86,6 @@ IsPublicKey x =
 abbrev pub IsPrivateKey : {A : Type 0} → PrivateKey A → Type 0
 IsPrivateKey x =
     IsKeyBlock x.key_block
-
--- which values of `SplitKeyMethod` are sound
-abbrev pub IsSplitKeyMethod : SplitKeyMethod → Type 0
-IsSplitKeyMethod x =
-    (split_key_method_number x < 2 ^ 32)
 
 -- which values of `SplitKeyParts` are sound
 abbrev pub IsSplitKeyParts : SplitKeyParts → Type 0
@@ -132,7 +108,7 @@ IsSplitKey x =
     IsSplitKeyParts x.split_key_parts
     × IsKeyPartIdentifier x.key_part_identifier
     × IsSplitKeyThreshold x.split_key_threshold
-    × IsSplitKeyMethod x.split_key_method
+    × IsEnumeration x.split_key_method
     × IfSome x.prime_field_size (λ y. (length y.items % 8 ≡ 0))
     × IsKeyBlock x.key_block
 
@@ -142,31 +118,21 @@ IsTemplate x =
     (0 < length x.attributes.items)
     × All IsAttribute x.attributes.items
 
--- which values of `SecretDataType` are sound
-abbrev pub IsSecretDataType : SecretDataType → Type 0
-IsSecretDataType x =
-    (secret_data_type_number x < 2 ^ 32)
-
 -- which values of `SecretData` are sound
 abbrev pub IsSecretData : {A : Type 0} → SecretData A → Type 0
 IsSecretData x =
-    IsSecretDataType x.secret_data_type
+    IsEnumeration x.secret_data_type
     × IsKeyBlock x.key_block
-
--- which values of `OpaqueDataType` are sound
-abbrev pub IsOpaqueDataType : OpaqueDataType → Type 0
-IsOpaqueDataType x =
-    (opaque_data_type_number x < 2 ^ 32)
 
 -- which values of `OpaqueObject` are sound
 abbrev pub IsOpaqueObject : {A : Type 0} → OpaqueObject A → Type 0
 IsOpaqueObject x =
-    IsOpaqueDataType x.opaque_data_type
+    IsEnumeration x.opaque_data_type
 
 -- which values of `TemplateName` are sound
 abbrev pub IsTemplateName : {A : Type 0} → TemplateName A → Type 0
 IsTemplateName x =
-    IsNameType x.name_type
+    IsEnumeration x.name_type
 
 -- which values of `TemplateAttribute` are sound
 abbrev pub IsTemplateAttribute : {A : Type 0} → TemplateAttribute A → Type 0

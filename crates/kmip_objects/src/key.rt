@@ -1,23 +1,20 @@
 // Written by codegen from types.table: change that, and run codegen/codegen.
 //! A key: its bytes, and how they are wrapped (KMIP 1.0, sections 2.1.3 to 2.1.5).
 
-ghost use Rattle.std.specs.Prelude.{◌≡◌, ◌==◌, refl, OnErr, OnOk, Some, codes, true};
-ghost use Rattle.std.proofs.Common.{rules};
-ghost use Rattle.std.specs.Cmp.Rules.{comparing};
-ghost use Rattle.std.specs.Ordering.{on};
-ghost use Rattle.kmip_ttlv.specs.Visits.{Receives};
-ghost use Rattle.kmip_objects.specs.Keys.{unique_identifier_form, unique_identifier_value, key_compression_type_form, written_key_compression_type, read_key_compression_type, key_compression_type_number, key_compression_type_read_number, wrapping_method_form, written_wrapping_method, read_wrapping_method, wrapping_method_number, wrapping_method_read_number, encoding_option_form, written_encoding_option, read_encoding_option, encoding_option_number, encoding_option_read_number, wrapping_parameters_form, written_wrapping_parameters, read_wrapping_parameters, encryption_key_information_form, written_encryption_key_information, read_encryption_key_information, mac_signature_key_information_form, written_mac_signature_key_information, read_mac_signature_key_information, key_wrapping_data_form, written_key_wrapping_data, read_key_wrapping_data, key_bytes_form, key_bytes_value, transparent_symmetric_key_form, transparent_symmetric_key_value, key_material_form, written_key_material, read_key_material, key_material_content, plain_key_value_form, written_plain_key_value, read_plain_key_value, wrapped_key_value_form, wrapped_key_value_value, key_value_form, written_key_value, read_key_value, key_value_content, cryptographic_length_form, cryptographic_length_value, key_block_form, written_key_block, read_key_block};
+ghost use Rattle.std.specs.Prelude.{refl, OnErr, OnOk, codes, true};
+ghost use Rattle.kmip_ttlv_parts.specs.Visits.{Receives};
+ghost use Rattle.kmip_objects.specs.Keys.{unique_identifier_form, unique_identifier_value, wrapping_parameters_form, written_wrapping_parameters, read_wrapping_parameters, encryption_key_information_form, written_encryption_key_information, read_encryption_key_information, mac_signature_key_information_form, written_mac_signature_key_information, read_mac_signature_key_information, key_wrapping_data_form, written_key_wrapping_data, read_key_wrapping_data, key_bytes_form, key_bytes_value, transparent_symmetric_key_form, transparent_symmetric_key_value, key_material_form, written_key_material, read_key_material, key_material_content, plain_key_value_form, written_plain_key_value, read_plain_key_value, wrapped_key_value_form, wrapped_key_value_value, key_value_form, written_key_value, read_key_value, key_value_content, cryptographic_length_form, cryptographic_length_value, key_block_form, written_key_block, read_key_block};
 
 use kmip_attributes::attribute::Attribute;
 use kmip_attributes::values::{
     BlockCipherMode, CryptographicAlgorithm, HashingAlgorithm, KeyFormatType, KeyRoleType,
     PaddingMethod,
 };
-use kmip_ttlv::messages::writing;
-use kmip_ttlv::shape::Serialize;
-use kmip_ttlv::types::TtlvType;
-use kmip_ttlv::visit::Visitor;
-use kmip_ttlv::{Boxed, reader};
+use kmip_ttlv_parts::messages::writing;
+use kmip_ttlv_parts::shape::Serialize;
+use kmip_ttlv_parts::types::TtlvType;
+use kmip_ttlv_parts::visit::{Leaf, Visitor};
+use kmip_ttlv_parts::{Boxed, Enumeration, reader};
 use std::alloc::{AllocError, Allocator, Global};
 
 /// What names an object.
@@ -32,7 +29,7 @@ impl<B: Allocator> Serialize for UniqueIdentifier<B> {
     ghost stated = { unique_identifier_value };
 
     fn visit<V: Visitor>(&self, visitor: &mut V) -> Result<(), AllocError> {
-        writing::string(visitor, "Transparent:0x420094", &self.text)
+        writing::string(visitor, 0x420094, &self.text)
     }
 }
 
@@ -43,7 +40,6 @@ impl<A: Allocator + Copy> reader::ReadItem<A> for UniqueIdentifier<A> {
 
     ghost plain = { (refl, refl) };
 
-    #[tactic(auto, unfolding(kmip_ttlv_types::specs::Digits::six_digits))]
     fn read_item<'b>(
         scope: &reader::Scope<'b, A>,
         cursor: &mut reader::Cursor<'b, A>,
@@ -54,251 +50,60 @@ impl<A: Allocator + Copy> reader::ReadItem<A> for UniqueIdentifier<A> {
 }
 
 /// How the point of an elliptic curve is written (KMIP 1.0, section 9.1.3.2.2).
-#[derive(Clone, Copy, Debug)]
-pub enum KeyCompressionType {
+pub type KeyCompressionType = Enumeration<0x420041>;
+
+/// The numbers of `KeyCompressionType` that have a name.
+pub mod key_compression_type {
+    use super::KeyCompressionType;
+
     /// With both coordinates.
-    EcPublicKeyTypeUncompressed,
+    pub const EC_PUBLIC_KEY_TYPE_UNCOMPRESSED: KeyCompressionType = KeyCompressionType {
+        number: 0x00000001,
+    };
     /// Compressed, over a prime field.
-    EcPublicKeyTypeX962CompressedPrime,
+    pub const EC_PUBLIC_KEY_TYPE_X962_COMPRESSED_PRIME: KeyCompressionType = KeyCompressionType {
+        number: 0x00000002,
+    };
     /// Compressed, over a field of characteristic 2.
-    EcPublicKeyTypeX962CompressedChar2,
+    pub const EC_PUBLIC_KEY_TYPE_X962_COMPRESSED_CHAR2: KeyCompressionType = KeyCompressionType {
+        number: 0x00000003,
+    };
     /// Both ways.
-    EcPublicKeyTypeX962Hybrid,
-    /// Any other number. One that has a name is encoded as it is, and decoded by its name, to which it is equal.
-    Other(u32),
-}
-
-impl KeyCompressionType {
-    /// Its number.
-    pub fn number(self) -> u32
-        ensures { result ≡ key_compression_type_number self }
-    {
-        match self {
-            KeyCompressionType::EcPublicKeyTypeUncompressed => 0x00000001,
-            KeyCompressionType::EcPublicKeyTypeX962CompressedPrime => 0x00000002,
-            KeyCompressionType::EcPublicKeyTypeX962CompressedChar2 => 0x00000003,
-            KeyCompressionType::EcPublicKeyTypeX962Hybrid => 0x00000004,
-            KeyCompressionType::Other(number) => number,
-        }
-    }
-
-    /// The one of a number: by its name, if it has one.
-    pub fn from_number(number: u32) -> KeyCompressionType
-        ensures { key_compression_type_read_number result ≡ Some number }
-    {
-        match number {
-            0x00000001 => KeyCompressionType::EcPublicKeyTypeUncompressed,
-            0x00000002 => KeyCompressionType::EcPublicKeyTypeX962CompressedPrime,
-            0x00000003 => KeyCompressionType::EcPublicKeyTypeX962CompressedChar2,
-            0x00000004 => KeyCompressionType::EcPublicKeyTypeX962Hybrid,
-            _ => KeyCompressionType::Other(number),
-        }
-    }
-}
-
-/// By their numbers.
-impl PartialEq for KeyCompressionType {
-    ghost eq = { on key_compression_type_number ◌==◌ };
-
-    ghost laws = { Prim.search (comparing, rules) };
-
-    fn eq(&self, other: &KeyCompressionType) -> bool {
-        self.number() == other.number()
-    }
-}
-
-impl Eq for KeyCompressionType {
-    ghost laws = { Prim.search (comparing, rules) };
-}
-
-impl Serialize for KeyCompressionType {
-    ghost stated = { written_key_compression_type };
-
-    #[tactic(auto, unfolding(crate::specs::Keys::written_key_compression_type))]
-    fn visit<V: Visitor>(&self, visitor: &mut V) -> Result<(), AllocError> {
-        writing::enumeration(visitor, "Transparent:0x420041", self.number())
-    }
-}
-
-impl<A: Allocator + Copy> reader::ReadItem<A> for KeyCompressionType {
-    ghost form = { key_compression_type_form };
-
-    ghost value = { read_key_compression_type };
-
-    ghost plain = { (refl, refl) };
-
-    #[tactic(auto, unfolding(kmip_ttlv_types::specs::Digits::six_digits, crate::specs::Keys::read_key_compression_type))]
-    fn read_item<'b>(
-        scope: &reader::Scope<'b, A>,
-        cursor: &mut reader::Cursor<'b, A>,
-    ) -> reader::Step<Self, A> {
-        let number: u32 = cursor.wrapped_leaf(scope, 0x420041)?;
-        Ok(KeyCompressionType::from_number(number))
-    }
+    pub const EC_PUBLIC_KEY_TYPE_X962_HYBRID: KeyCompressionType = KeyCompressionType {
+        number: 0x00000004,
+    };
 }
 
 /// What was done to wrap a key (KMIP 1.0, section 9.1.3.2.4).
-#[derive(Clone, Copy, Debug)]
-pub enum WrappingMethod {
+pub type WrappingMethod = Enumeration<0x42009E>;
+
+/// The numbers of `WrappingMethod` that have a name.
+pub mod wrapping_method {
+    use super::WrappingMethod;
+
     /// It was encrypted.
-    Encrypt,
+    pub const ENCRYPT: WrappingMethod = WrappingMethod { number: 0x00000001 };
     /// A MAC or a signature was made of it.
-    MacSign,
+    pub const MAC_SIGN: WrappingMethod = WrappingMethod { number: 0x00000002 };
     /// It was encrypted, and a MAC or a signature was made of what came out.
-    EncryptThenMacSign,
+    pub const ENCRYPT_THEN_MAC_SIGN: WrappingMethod = WrappingMethod { number: 0x00000003 };
     /// A MAC or a signature was made of it, and both were encrypted.
-    MacSignThenEncrypt,
+    pub const MAC_SIGN_THEN_ENCRYPT: WrappingMethod = WrappingMethod { number: 0x00000004 };
     /// It was wrapped as TR-31 says.
-    Tr31,
-    /// Any other number. One that has a name is encoded as it is, and decoded by its name, to which it is equal.
-    Other(u32),
-}
-
-impl WrappingMethod {
-    /// Its number.
-    pub fn number(self) -> u32
-        ensures { result ≡ wrapping_method_number self }
-    {
-        match self {
-            WrappingMethod::Encrypt => 0x00000001,
-            WrappingMethod::MacSign => 0x00000002,
-            WrappingMethod::EncryptThenMacSign => 0x00000003,
-            WrappingMethod::MacSignThenEncrypt => 0x00000004,
-            WrappingMethod::Tr31 => 0x00000005,
-            WrappingMethod::Other(number) => number,
-        }
-    }
-
-    /// The one of a number: by its name, if it has one.
-    pub fn from_number(number: u32) -> WrappingMethod
-        ensures { wrapping_method_read_number result ≡ Some number }
-    {
-        match number {
-            0x00000001 => WrappingMethod::Encrypt,
-            0x00000002 => WrappingMethod::MacSign,
-            0x00000003 => WrappingMethod::EncryptThenMacSign,
-            0x00000004 => WrappingMethod::MacSignThenEncrypt,
-            0x00000005 => WrappingMethod::Tr31,
-            _ => WrappingMethod::Other(number),
-        }
-    }
-}
-
-/// By their numbers.
-impl PartialEq for WrappingMethod {
-    ghost eq = { on wrapping_method_number ◌==◌ };
-
-    ghost laws = { Prim.search (comparing, rules) };
-
-    fn eq(&self, other: &WrappingMethod) -> bool {
-        self.number() == other.number()
-    }
-}
-
-impl Eq for WrappingMethod {
-    ghost laws = { Prim.search (comparing, rules) };
-}
-
-impl Serialize for WrappingMethod {
-    ghost stated = { written_wrapping_method };
-
-    #[tactic(auto, unfolding(crate::specs::Keys::written_wrapping_method))]
-    fn visit<V: Visitor>(&self, visitor: &mut V) -> Result<(), AllocError> {
-        writing::enumeration(visitor, "Transparent:0x42009E", self.number())
-    }
-}
-
-impl<A: Allocator + Copy> reader::ReadItem<A> for WrappingMethod {
-    ghost form = { wrapping_method_form };
-
-    ghost value = { read_wrapping_method };
-
-    ghost plain = { (refl, refl) };
-
-    #[tactic(auto, unfolding(kmip_ttlv_types::specs::Digits::six_digits, crate::specs::Keys::read_wrapping_method))]
-    fn read_item<'b>(
-        scope: &reader::Scope<'b, A>,
-        cursor: &mut reader::Cursor<'b, A>,
-    ) -> reader::Step<Self, A> {
-        let number: u32 = cursor.wrapped_leaf(scope, 0x42009E)?;
-        Ok(WrappingMethod::from_number(number))
-    }
+    pub const TR31: WrappingMethod = WrappingMethod { number: 0x00000005 };
 }
 
 /// What was encrypted of a key (KMIP 1.1, section 9.1.3.2.32).
-#[derive(Clone, Copy, Debug)]
-pub enum EncodingOption {
+pub type EncodingOption = Enumeration<0x4200A3>;
+
+/// The numbers of `EncodingOption` that have a name.
+pub mod encoding_option {
+    use super::EncodingOption;
+
     /// Its bytes alone.
-    NoEncoding,
+    pub const NO_ENCODING: EncodingOption = EncodingOption { number: 0x00000001 };
     /// The Key Value as it is encoded.
-    TtlvEncoding,
-    /// Any other number. One that has a name is encoded as it is, and decoded by its name, to which it is equal.
-    Other(u32),
-}
-
-impl EncodingOption {
-    /// Its number.
-    pub fn number(self) -> u32
-        ensures { result ≡ encoding_option_number self }
-    {
-        match self {
-            EncodingOption::NoEncoding => 0x00000001,
-            EncodingOption::TtlvEncoding => 0x00000002,
-            EncodingOption::Other(number) => number,
-        }
-    }
-
-    /// The one of a number: by its name, if it has one.
-    pub fn from_number(number: u32) -> EncodingOption
-        ensures { encoding_option_read_number result ≡ Some number }
-    {
-        match number {
-            0x00000001 => EncodingOption::NoEncoding,
-            0x00000002 => EncodingOption::TtlvEncoding,
-            _ => EncodingOption::Other(number),
-        }
-    }
-}
-
-/// By their numbers.
-impl PartialEq for EncodingOption {
-    ghost eq = { on encoding_option_number ◌==◌ };
-
-    ghost laws = { Prim.search (comparing, rules) };
-
-    fn eq(&self, other: &EncodingOption) -> bool {
-        self.number() == other.number()
-    }
-}
-
-impl Eq for EncodingOption {
-    ghost laws = { Prim.search (comparing, rules) };
-}
-
-impl Serialize for EncodingOption {
-    ghost stated = { written_encoding_option };
-
-    #[tactic(auto, unfolding(crate::specs::Keys::written_encoding_option))]
-    fn visit<V: Visitor>(&self, visitor: &mut V) -> Result<(), AllocError> {
-        writing::enumeration(visitor, "Transparent:0x4200A3", self.number())
-    }
-}
-
-impl<A: Allocator + Copy> reader::ReadItem<A> for EncodingOption {
-    ghost form = { encoding_option_form };
-
-    ghost value = { read_encoding_option };
-
-    ghost plain = { (refl, refl) };
-
-    #[tactic(auto, unfolding(kmip_ttlv_types::specs::Digits::six_digits, crate::specs::Keys::read_encoding_option))]
-    fn read_item<'b>(
-        scope: &reader::Scope<'b, A>,
-        cursor: &mut reader::Cursor<'b, A>,
-    ) -> reader::Step<Self, A> {
-        let number: u32 = cursor.wrapped_leaf(scope, 0x4200A3)?;
-        Ok(EncodingOption::from_number(number))
-    }
+    pub const TTLV_ENCODING: EncodingOption = EncodingOption { number: 0x00000002 };
 }
 
 /// How the key that wraps is used (KMIP 1.0, section 3.6).
@@ -318,12 +123,12 @@ impl Serialize for WrappingParameters {
     ghost stated = { written_wrapping_parameters };
 
     fn visit<V: Visitor>(&self, visitor: &mut V) -> Result<(), AllocError> {
-        writing::begin_struct(visitor, "0x42002B")?;
+        writing::begin_structure(visitor, 0x42002B)?;
         writing::option(visitor, &self.block_cipher_mode)?;
         writing::option(visitor, &self.padding_method)?;
         writing::option(visitor, &self.hashing_algorithm)?;
         writing::option(visitor, &self.key_role_type)?;
-        writing::end_struct(visitor, "0x42002B")?;
+        writing::end_structure(visitor, 0x42002B)?;
         Ok(())
     }
 }
@@ -348,10 +153,9 @@ impl<A: Allocator + Copy> reader::ReadStructure<A> for WrappingParameters {
 
     const DENIES_UNKNOWN: bool = true;
 
-    #[tactic(auto, unfolding(kmip_ttlv_types::specs::Digits::six_digits))]
     fn has_form() {}
 
-    #[tactic(auto, unfolding(kmip_ttlv_types::specs::Digits::six_digits, crate::specs::Keys::read_wrapping_parameters))]
+    #[tactic(auto, unfolding(crate::specs::Keys::read_wrapping_parameters))]
     fn from_fields(
         fields: (
             Option<BlockCipherMode>,
@@ -403,10 +207,10 @@ impl<B: Allocator> Serialize for EncryptionKeyInformation<B> {
     ghost stated = { written_encryption_key_information };
 
     fn visit<V: Visitor>(&self, visitor: &mut V) -> Result<(), AllocError> {
-        writing::begin_struct(visitor, "0x420036")?;
-        writing::string(visitor, "Transparent:0x420094", &self.unique_identifier)?;
+        writing::begin_structure(visitor, 0x420036)?;
+        writing::string(visitor, 0x420094, &self.unique_identifier)?;
         writing::option(visitor, &self.cryptographic_parameters)?;
-        writing::end_struct(visitor, "0x420036")?;
+        writing::end_structure(visitor, 0x420036)?;
         Ok(())
     }
 }
@@ -429,10 +233,9 @@ impl<A: Allocator + Copy> reader::ReadStructure<A> for EncryptionKeyInformation<
 
     const DENIES_UNKNOWN: bool = true;
 
-    #[tactic(auto, unfolding(kmip_ttlv_types::specs::Digits::six_digits))]
     fn has_form() {}
 
-    #[tactic(auto, unfolding(kmip_ttlv_types::specs::Digits::six_digits, crate::specs::Keys::read_encryption_key_information))]
+    #[tactic(auto, unfolding(crate::specs::Keys::read_encryption_key_information))]
     fn from_fields(fields: (String<A>, Option<WrappingParameters>)) -> Self {
         let (unique_identifier, cryptographic_parameters) = fields;
         EncryptionKeyInformation {
@@ -475,10 +278,10 @@ impl<B: Allocator> Serialize for MacSignatureKeyInformation<B> {
     ghost stated = { written_mac_signature_key_information };
 
     fn visit<V: Visitor>(&self, visitor: &mut V) -> Result<(), AllocError> {
-        writing::begin_struct(visitor, "0x42004E")?;
-        writing::string(visitor, "Transparent:0x420094", &self.unique_identifier)?;
+        writing::begin_structure(visitor, 0x42004E)?;
+        writing::string(visitor, 0x420094, &self.unique_identifier)?;
         writing::option(visitor, &self.cryptographic_parameters)?;
-        writing::end_struct(visitor, "0x42004E")?;
+        writing::end_structure(visitor, 0x42004E)?;
         Ok(())
     }
 }
@@ -501,10 +304,9 @@ impl<A: Allocator + Copy> reader::ReadStructure<A> for MacSignatureKeyInformatio
 
     const DENIES_UNKNOWN: bool = true;
 
-    #[tactic(auto, unfolding(kmip_ttlv_types::specs::Digits::six_digits))]
     fn has_form() {}
 
-    #[tactic(auto, unfolding(kmip_ttlv_types::specs::Digits::six_digits, crate::specs::Keys::read_mac_signature_key_information))]
+    #[tactic(auto, unfolding(crate::specs::Keys::read_mac_signature_key_information))]
     fn from_fields(fields: (String<A>, Option<WrappingParameters>)) -> Self {
         let (unique_identifier, cryptographic_parameters) = fields;
         MacSignatureKeyInformation {
@@ -555,14 +357,14 @@ impl<B: Allocator> Serialize for KeyWrappingData<B> {
     ghost stated = { written_key_wrapping_data };
 
     fn visit<V: Visitor>(&self, visitor: &mut V) -> Result<(), AllocError> {
-        writing::begin_struct(visitor, "0x420046")?;
+        writing::begin_structure(visitor, 0x420046)?;
         self.wrapping_method.visit(visitor)?;
         writing::option(visitor, &self.encryption_key_information)?;
         writing::option(visitor, &self.mac_signature_key_information)?;
-        writing::optional_byte_string(visitor, "Transparent:0x42004D", &self.mac_signature)?;
-        writing::optional_byte_string(visitor, "Transparent:0x42003D", &self.iv_counter_nonce)?;
+        writing::optional_byte_string(visitor, 0x42004D, &self.mac_signature)?;
+        writing::optional_byte_string(visitor, 0x42003D, &self.iv_counter_nonce)?;
         writing::option(visitor, &self.encoding_option)?;
-        writing::end_struct(visitor, "0x420046")?;
+        writing::end_structure(visitor, 0x420046)?;
         Ok(())
     }
 }
@@ -591,10 +393,9 @@ impl<A: Allocator + Copy> reader::ReadStructure<A> for KeyWrappingData<A> {
 
     const DENIES_UNKNOWN: bool = true;
 
-    #[tactic(auto, unfolding(kmip_ttlv_types::specs::Digits::six_digits))]
     fn has_form() {}
 
-    #[tactic(auto, unfolding(kmip_ttlv_types::specs::Digits::six_digits, crate::specs::Keys::read_key_wrapping_data))]
+    #[tactic(auto, unfolding(crate::specs::Keys::read_key_wrapping_data))]
     fn from_fields(
         fields: (
             WrappingMethod,
@@ -653,7 +454,7 @@ impl<B: Allocator> Serialize for KeyBytes<B> {
     ghost stated = { key_bytes_value };
 
     fn visit<V: Visitor>(&self, visitor: &mut V) -> Result<(), AllocError> {
-        writing::bytes(visitor, "Transparent:0x420043", &self.bytes)
+        writing::bytes(visitor, 0x420043, &self.bytes)
     }
 }
 
@@ -664,7 +465,6 @@ impl<A: Allocator + Copy> reader::ReadItem<A> for KeyBytes<A> {
 
     ghost plain = { (refl, refl) };
 
-    #[tactic(auto, unfolding(kmip_ttlv_types::specs::Digits::six_digits))]
     fn read_item<'b>(
         scope: &reader::Scope<'b, A>,
         cursor: &mut reader::Cursor<'b, A>,
@@ -687,9 +487,9 @@ impl<B: Allocator> Serialize for TransparentSymmetricKey<B> {
 
     #[tactic(auto, unfolding(crate::specs::Keys::transparent_symmetric_key_value))]
     fn visit<V: Visitor>(&self, visitor: &mut V) -> Result<(), AllocError> {
-        writing::begin_struct(visitor, "0x420043")?;
-        writing::bytes(visitor, "Transparent:0x42003F", &self.key)?;
-        writing::end_struct(visitor, "0x420043")?;
+        writing::begin_structure(visitor, 0x420043)?;
+        writing::bytes(visitor, 0x42003F, &self.key)?;
+        writing::end_structure(visitor, 0x420043)?;
         Ok(())
     }
 }
@@ -709,10 +509,9 @@ impl<A: Allocator + Copy> reader::ReadStructure<A> for TransparentSymmetricKey<A
 
     const DENIES_UNKNOWN: bool = true;
 
-    #[tactic(auto, unfolding(kmip_ttlv_types::specs::Digits::six_digits))]
     fn has_form() {}
 
-    #[tactic(auto, unfolding(kmip_ttlv_types::specs::Digits::six_digits, crate::specs::Keys::transparent_symmetric_key_value))]
+    #[tactic(auto, unfolding(crate::specs::Keys::transparent_symmetric_key_value))]
     fn from_fields(fields: (Vec<u8, A>,)) -> Self {
         let (key,) = fields;
         TransparentSymmetricKey { key }
@@ -791,7 +590,7 @@ impl reader::Rule for KeyMaterialBytesRule {
 
 impl<A: Allocator + Copy> reader::VariantOf<reader::ItemElement<KeyBytes<A>>, KeyMaterial<A>, A>
     for KeyMaterialBytesRule {
-    #[tactic(auto, unfolding(kmip_ttlv_types::specs::Digits::six_digits, crate::specs::Keys::read_key_material))]
+    #[tactic(auto, unfolding(crate::specs::Keys::read_key_material))]
     fn from_content(inner: KeyBytes<A>) -> KeyMaterial<A> {
         KeyMaterial::Bytes(inner)
     }
@@ -818,7 +617,7 @@ impl<A: Allocator + Copy> reader::VariantOf<
     KeyMaterial<A>,
     A,
 > for KeyMaterialTransparentSymmetricKeyRule {
-    #[tactic(auto, unfolding(kmip_ttlv_types::specs::Digits::six_digits, crate::specs::Keys::read_key_material))]
+    #[tactic(auto, unfolding(crate::specs::Keys::read_key_material))]
     fn from_content(inner: TransparentSymmetricKey<A>) -> KeyMaterial<A> {
         KeyMaterial::TransparentSymmetricKey(inner)
     }
@@ -844,7 +643,6 @@ impl<A: Allocator + Copy> reader::Choice<A> for KeyMaterial<A> {
         ),
     );
 
-    #[tactic(auto, unfolding(kmip_ttlv_types::specs::Digits::six_digits))]
     fn has_form() {}
 }
 
@@ -878,10 +676,10 @@ impl<B: Allocator> Serialize for PlainKeyValue<B> {
 
     #[tactic(auto, unfolding(crate::specs::Keys::written_plain_key_value))]
     fn visit<V: Visitor>(&self, visitor: &mut V) -> Result<(), AllocError> {
-        writing::begin_struct(visitor, "0x420045")?;
+        writing::begin_structure(visitor, 0x420045)?;
         self.key_material.visit(visitor)?;
         writing::several(visitor, &self.attributes)?;
-        writing::end_struct(visitor, "0x420045")?;
+        writing::end_structure(visitor, 0x420045)?;
         Ok(())
     }
 }
@@ -904,10 +702,9 @@ impl<A: Allocator + Copy> reader::ReadStructure<A> for PlainKeyValue<A> {
 
     const DENIES_UNKNOWN: bool = true;
 
-    #[tactic(auto, unfolding(kmip_ttlv_types::specs::Digits::six_digits))]
     fn has_form() {}
 
-    #[tactic(auto, unfolding(kmip_ttlv_types::specs::Digits::six_digits, crate::specs::Keys::read_plain_key_value))]
+    #[tactic(auto, unfolding(crate::specs::Keys::read_plain_key_value))]
     fn from_fields(fields: (KeyMaterial<A>, Vec<Attribute<A>, A>)) -> Self {
         let (key_material, attributes) = fields;
         PlainKeyValue {
@@ -948,7 +745,7 @@ impl<B: Allocator> Serialize for WrappedKeyValue<B> {
     ghost stated = { wrapped_key_value_value };
 
     fn visit<V: Visitor>(&self, visitor: &mut V) -> Result<(), AllocError> {
-        writing::bytes(visitor, "Transparent:0x420045", &self.bytes)
+        writing::bytes(visitor, 0x420045, &self.bytes)
     }
 }
 
@@ -959,7 +756,6 @@ impl<A: Allocator + Copy> reader::ReadItem<A> for WrappedKeyValue<A> {
 
     ghost plain = { (refl, refl) };
 
-    #[tactic(auto, unfolding(kmip_ttlv_types::specs::Digits::six_digits))]
     fn read_item<'b>(
         scope: &reader::Scope<'b, A>,
         cursor: &mut reader::Cursor<'b, A>,
@@ -1025,7 +821,7 @@ impl<A: Allocator + Copy> reader::VariantOf<
     KeyValue<A>,
     A,
 > for KeyValuePlainRule {
-    #[tactic(auto, unfolding(kmip_ttlv_types::specs::Digits::six_digits, crate::specs::Keys::read_key_value))]
+    #[tactic(auto, unfolding(crate::specs::Keys::read_key_value))]
     fn from_content(inner: PlainKeyValue<A>) -> KeyValue<A> {
         KeyValue::Plain(inner)
     }
@@ -1049,7 +845,7 @@ impl reader::Rule for KeyValueWrappedRule {
 
 impl<A: Allocator + Copy> reader::VariantOf<reader::ItemElement<WrappedKeyValue<A>>, KeyValue<A>, A>
     for KeyValueWrappedRule {
-    #[tactic(auto, unfolding(kmip_ttlv_types::specs::Digits::six_digits, crate::specs::Keys::read_key_value))]
+    #[tactic(auto, unfolding(crate::specs::Keys::read_key_value))]
     fn from_content(inner: WrappedKeyValue<A>) -> KeyValue<A> {
         KeyValue::Wrapped(inner)
     }
@@ -1072,7 +868,6 @@ impl<A: Allocator + Copy> reader::Choice<A> for KeyValue<A> {
         ),
     );
 
-    #[tactic(auto, unfolding(kmip_ttlv_types::specs::Digits::six_digits))]
     fn has_form() {}
 }
 
@@ -1102,7 +897,7 @@ impl Serialize for CryptographicLength {
     ghost stated = { cryptographic_length_value };
 
     fn visit<V: Visitor>(&self, visitor: &mut V) -> Result<(), AllocError> {
-        writing::integer(visitor, "Transparent:0x42002A", self.bits)?;
+        writing::tagged(visitor, 0x42002A, Leaf::I32(self.bits))?;
         Ok(())
     }
 }
@@ -1114,7 +909,6 @@ impl<A: Allocator + Copy> reader::ReadItem<A> for CryptographicLength {
 
     ghost plain = { (refl, refl) };
 
-    #[tactic(auto, unfolding(kmip_ttlv_types::specs::Digits::six_digits))]
     fn read_item<'b>(
         scope: &reader::Scope<'b, A>,
         cursor: &mut reader::Cursor<'b, A>,
@@ -1146,14 +940,14 @@ impl<B: Allocator> Serialize for KeyBlock<B> {
     ghost stated = { written_key_block };
 
     fn visit<V: Visitor>(&self, visitor: &mut V) -> Result<(), AllocError> {
-        writing::begin_struct(visitor, "0x420040")?;
+        writing::begin_structure(visitor, 0x420040)?;
         self.key_format_type.visit(visitor)?;
         writing::option(visitor, &self.key_compression_type)?;
         self.key_value.visit(visitor)?;
         writing::option(visitor, &self.cryptographic_algorithm)?;
         writing::option(visitor, &self.cryptographic_length)?;
         writing::option(visitor, &self.key_wrapping_data)?;
-        writing::end_struct(visitor, "0x420040")?;
+        writing::end_structure(visitor, 0x420040)?;
         Ok(())
     }
 }
@@ -1182,10 +976,9 @@ impl<A: Allocator + Copy> reader::ReadStructure<A> for KeyBlock<A> {
 
     const DENIES_UNKNOWN: bool = true;
 
-    #[tactic(auto, unfolding(kmip_ttlv_types::specs::Digits::six_digits))]
     fn has_form() {}
 
-    #[tactic(auto, unfolding(kmip_ttlv_types::specs::Digits::six_digits, crate::specs::Keys::read_key_block))]
+    #[tactic(auto, unfolding(crate::specs::Keys::read_key_block))]
     fn from_fields(
         fields: (
             KeyFormatType,

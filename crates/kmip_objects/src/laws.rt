@@ -1,94 +1,62 @@
 // Written by codegen from types.table: change that, and run codegen/codegen.
-//! What was written is read back: the laws of `kmip_ttlv::laws`, at these messages.
+//! What was written is read back: the laws of `kmip_ttlv_parts::laws`, at these messages.
 
 ghost use Rattle.std.specs.Prelude.{◌≡◌};
-ghost use Rattle.kmip_ttlv.specs.Equal.{AreEqual, ReturnsEqual};
-ghost use Rattle.kmip_objects.specs.Keys.{unique_identifier_value, written_key_compression_type, read_key_compression_type, written_wrapping_method, read_wrapping_method, written_encoding_option, read_encoding_option, returned_wrapping_parameters, read_wrapping_parameters, returned_encryption_key_information, read_encryption_key_information, returned_mac_signature_key_information, read_mac_signature_key_information, returned_key_wrapping_data, read_key_wrapping_data, key_bytes_value, transparent_symmetric_key_value, read_key_material, returned_plain_key_value, read_plain_key_value, wrapped_key_value_value, returned_key_value, read_key_value, cryptographic_length_value, returned_key_block, read_key_block};
-ghost use Rattle.kmip_objects.specs.Objects.{returned_certificate, read_certificate, returned_symmetric_key, read_symmetric_key, returned_public_key, read_public_key, returned_private_key, read_private_key, written_split_key_method, read_split_key_method, split_key_parts_value, key_part_identifier_value, split_key_threshold_value, returned_split_key, read_split_key, returned_template, read_template, written_secret_data_type, read_secret_data_type, returned_secret_data, read_secret_data, written_opaque_data_type, read_opaque_data_type, returned_opaque_object, read_opaque_object};
-ghost use Rattle.kmip_objects.specs.Templates.{returned_template_name, read_template_name, returned_template_attribute, read_template_attribute, returned_common_template_attribute, read_common_template_attribute, returned_private_key_template_attribute, read_private_key_template_attribute, returned_public_key_template_attribute, read_public_key_template_attribute};
-ghost use Rattle.kmip_objects.specs.Soundness.{IsKeyCompressionType, IsWrappingMethod, IsEncodingOption, IsWrappingParameters, IsEncryptionKeyInformation, IsMacSignatureKeyInformation, IsKeyWrappingData, IsPlainKeyValue, IsKeyValue, IsCryptographicLength, IsKeyBlock, IsCertificate, IsSymmetricKey, IsPublicKey, IsPrivateKey, IsSplitKeyMethod, IsSplitKeyParts, IsKeyPartIdentifier, IsSplitKeyThreshold, IsSplitKey, IsTemplate, IsSecretDataType, IsSecretData, IsOpaqueDataType, IsOpaqueObject, IsTemplateName, IsTemplateAttribute, IsCommonTemplateAttribute, IsPrivateKeyTemplateAttribute, IsPublicKeyTemplateAttribute};
+ghost use Rattle.kmip_ttlv_parts.specs.Equal.{AreEqual};
+ghost use Rattle.kmip_objects.specs.Keys.{unique_identifier_value, read_wrapping_parameters, read_encryption_key_information, read_mac_signature_key_information, read_key_wrapping_data, key_bytes_value, transparent_symmetric_key_value, read_key_material, read_plain_key_value, wrapped_key_value_value, read_key_value, cryptographic_length_value, read_key_block};
+ghost use Rattle.kmip_objects.specs.Objects.{certificate_value, read_symmetric_key, read_public_key, read_private_key, split_key_parts_value, key_part_identifier_value, split_key_threshold_value, read_split_key, read_template, read_secret_data, opaque_object_value};
+ghost use Rattle.kmip_objects.specs.Templates.{template_name_value, read_template_attribute, read_common_template_attribute, read_private_key_template_attribute, read_public_key_template_attribute};
+ghost use Rattle.kmip_objects.specs.Soundness.{IsWrappingParameters, IsEncryptionKeyInformation, IsMacSignatureKeyInformation, IsKeyWrappingData, IsPlainKeyValue, IsKeyValue, IsCryptographicLength, IsKeyBlock, IsCertificate, IsSymmetricKey, IsPublicKey, IsPrivateKey, IsSplitKeyParts, IsKeyPartIdentifier, IsSplitKeyThreshold, IsSplitKey, IsTemplate, IsSecretData, IsOpaqueObject, IsTemplateName, IsTemplateAttribute, IsCommonTemplateAttribute, IsPrivateKeyTemplateAttribute, IsPublicKeyTemplateAttribute};
 
 use crate::key::{
-    CryptographicLength, EncodingOption, EncryptionKeyInformation, KeyBlock, KeyBytes,
-    KeyCompressionType, KeyMaterial, KeyValue, KeyWrappingData, MacSignatureKeyInformation,
-    PlainKeyValue, TransparentSymmetricKey, UniqueIdentifier, WrappedKeyValue, WrappingMethod,
-    WrappingParameters,
+    CryptographicLength, EncryptionKeyInformation, KeyBlock, KeyBytes, KeyMaterial, KeyValue,
+    KeyWrappingData, MacSignatureKeyInformation, PlainKeyValue, TransparentSymmetricKey,
+    UniqueIdentifier, WrappedKeyValue, WrappingParameters,
 };
 use crate::object::{
-    Certificate, KeyPartIdentifier, OpaqueDataType, OpaqueObject, PrivateKey, PublicKey,
-    SecretData, SecretDataType, SplitKey, SplitKeyMethod, SplitKeyParts, SplitKeyThreshold,
-    SymmetricKey, Template,
+    Certificate, KeyPartIdentifier, OpaqueObject, PrivateKey, PublicKey, SecretData, SplitKey,
+    SplitKeyParts, SplitKeyThreshold, SymmetricKey, Template,
 };
 use crate::template::{
     CommonTemplateAttribute, PrivateKeyTemplateAttribute, PublicKeyTemplateAttribute,
     TemplateAttribute, TemplateName,
 };
-use kmip_ttlv::laws::{Sound, is_absent_or_whole};
+use kmip_ttlv_parts::laws::{Sound, is_absent_or_whole};
 use std::alloc::Allocator;
 
 /// Values of a type are equal if they stand for the same: no type loses a part of what it is decoded from.
 pub fn equal_values<A: Allocator>()
     ensures unique_identifier { AreEqual unique_identifier_value ⟦<UniqueIdentifier<A> as PartialEq>⟧.eq }
-    ensures key_compression_type { ReturnsEqual written_key_compression_type read_key_compression_type ⟦<KeyCompressionType as PartialEq>⟧.eq }
-    ensures wrapping_method { ReturnsEqual written_wrapping_method read_wrapping_method ⟦<WrappingMethod as PartialEq>⟧.eq }
-    ensures encoding_option { ReturnsEqual written_encoding_option read_encoding_option ⟦<EncodingOption as PartialEq>⟧.eq }
-    ensures wrapping_parameters { ReturnsEqual returned_wrapping_parameters read_wrapping_parameters ⟦<WrappingParameters as PartialEq>⟧.eq }
-    ensures encryption_key_information { ReturnsEqual returned_encryption_key_information read_encryption_key_information ⟦<EncryptionKeyInformation<A> as PartialEq>⟧.eq }
-    ensures mac_signature_key_information { ReturnsEqual returned_mac_signature_key_information read_mac_signature_key_information ⟦<MacSignatureKeyInformation<A> as PartialEq>⟧.eq }
-    ensures key_wrapping_data { ReturnsEqual returned_key_wrapping_data read_key_wrapping_data ⟦<KeyWrappingData<A> as PartialEq>⟧.eq }
+    ensures wrapping_parameters { AreEqual read_wrapping_parameters ⟦<WrappingParameters as PartialEq>⟧.eq }
+    ensures encryption_key_information { AreEqual read_encryption_key_information ⟦<EncryptionKeyInformation<A> as PartialEq>⟧.eq }
+    ensures mac_signature_key_information { AreEqual read_mac_signature_key_information ⟦<MacSignatureKeyInformation<A> as PartialEq>⟧.eq }
+    ensures key_wrapping_data { AreEqual read_key_wrapping_data ⟦<KeyWrappingData<A> as PartialEq>⟧.eq }
     ensures key_bytes { AreEqual key_bytes_value ⟦<KeyBytes<A> as PartialEq>⟧.eq }
     ensures transparent_symmetric_key { AreEqual transparent_symmetric_key_value ⟦<TransparentSymmetricKey<A> as PartialEq>⟧.eq }
     ensures key_material { AreEqual read_key_material ⟦<KeyMaterial<A> as PartialEq>⟧.eq }
-    ensures plain_key_value { ReturnsEqual returned_plain_key_value read_plain_key_value ⟦<PlainKeyValue<A> as PartialEq>⟧.eq }
+    ensures plain_key_value { AreEqual read_plain_key_value ⟦<PlainKeyValue<A> as PartialEq>⟧.eq }
     ensures wrapped_key_value { AreEqual wrapped_key_value_value ⟦<WrappedKeyValue<A> as PartialEq>⟧.eq }
-    ensures key_value { ReturnsEqual returned_key_value read_key_value ⟦<KeyValue<A> as PartialEq>⟧.eq }
+    ensures key_value { AreEqual read_key_value ⟦<KeyValue<A> as PartialEq>⟧.eq }
     ensures cryptographic_length { AreEqual cryptographic_length_value ⟦<CryptographicLength as PartialEq>⟧.eq }
-    ensures key_block { ReturnsEqual returned_key_block read_key_block ⟦<KeyBlock<A> as PartialEq>⟧.eq }
-    ensures certificate { ReturnsEqual returned_certificate read_certificate ⟦<Certificate<A> as PartialEq>⟧.eq }
-    ensures symmetric_key { ReturnsEqual returned_symmetric_key read_symmetric_key ⟦<SymmetricKey<A> as PartialEq>⟧.eq }
-    ensures public_key { ReturnsEqual returned_public_key read_public_key ⟦<PublicKey<A> as PartialEq>⟧.eq }
-    ensures private_key { ReturnsEqual returned_private_key read_private_key ⟦<PrivateKey<A> as PartialEq>⟧.eq }
-    ensures split_key_method { ReturnsEqual written_split_key_method read_split_key_method ⟦<SplitKeyMethod as PartialEq>⟧.eq }
+    ensures key_block { AreEqual read_key_block ⟦<KeyBlock<A> as PartialEq>⟧.eq }
+    ensures certificate { AreEqual certificate_value ⟦<Certificate<A> as PartialEq>⟧.eq }
+    ensures symmetric_key { AreEqual read_symmetric_key ⟦<SymmetricKey<A> as PartialEq>⟧.eq }
+    ensures public_key { AreEqual read_public_key ⟦<PublicKey<A> as PartialEq>⟧.eq }
+    ensures private_key { AreEqual read_private_key ⟦<PrivateKey<A> as PartialEq>⟧.eq }
     ensures split_key_parts { AreEqual split_key_parts_value ⟦<SplitKeyParts as PartialEq>⟧.eq }
     ensures key_part_identifier { AreEqual key_part_identifier_value ⟦<KeyPartIdentifier as PartialEq>⟧.eq }
     ensures split_key_threshold { AreEqual split_key_threshold_value ⟦<SplitKeyThreshold as PartialEq>⟧.eq }
-    ensures split_key { ReturnsEqual returned_split_key read_split_key ⟦<SplitKey<A> as PartialEq>⟧.eq }
-    ensures template { ReturnsEqual returned_template read_template ⟦<Template<A> as PartialEq>⟧.eq }
-    ensures secret_data_type { ReturnsEqual written_secret_data_type read_secret_data_type ⟦<SecretDataType as PartialEq>⟧.eq }
-    ensures secret_data { ReturnsEqual returned_secret_data read_secret_data ⟦<SecretData<A> as PartialEq>⟧.eq }
-    ensures opaque_data_type { ReturnsEqual written_opaque_data_type read_opaque_data_type ⟦<OpaqueDataType as PartialEq>⟧.eq }
-    ensures opaque_object { ReturnsEqual returned_opaque_object read_opaque_object ⟦<OpaqueObject<A> as PartialEq>⟧.eq }
-    ensures template_name { ReturnsEqual returned_template_name read_template_name ⟦<TemplateName<A> as PartialEq>⟧.eq }
-    ensures template_attribute { ReturnsEqual returned_template_attribute read_template_attribute ⟦<TemplateAttribute<A> as PartialEq>⟧.eq }
-    ensures common_template_attribute { ReturnsEqual returned_common_template_attribute read_common_template_attribute ⟦<CommonTemplateAttribute<A> as PartialEq>⟧.eq }
-    ensures private_key_template_attribute { ReturnsEqual returned_private_key_template_attribute read_private_key_template_attribute ⟦<PrivateKeyTemplateAttribute<A> as PartialEq>⟧.eq }
-    ensures public_key_template_attribute { ReturnsEqual returned_public_key_template_attribute read_public_key_template_attribute ⟦<PublicKeyTemplateAttribute<A> as PartialEq>⟧.eq }
+    ensures split_key { AreEqual read_split_key ⟦<SplitKey<A> as PartialEq>⟧.eq }
+    ensures template { AreEqual read_template ⟦<Template<A> as PartialEq>⟧.eq }
+    ensures secret_data { AreEqual read_secret_data ⟦<SecretData<A> as PartialEq>⟧.eq }
+    ensures opaque_object { AreEqual opaque_object_value ⟦<OpaqueObject<A> as PartialEq>⟧.eq }
+    ensures template_name { AreEqual template_name_value ⟦<TemplateName<A> as PartialEq>⟧.eq }
+    ensures template_attribute { AreEqual read_template_attribute ⟦<TemplateAttribute<A> as PartialEq>⟧.eq }
+    ensures common_template_attribute { AreEqual read_common_template_attribute ⟦<CommonTemplateAttribute<A> as PartialEq>⟧.eq }
+    ensures private_key_template_attribute { AreEqual read_private_key_template_attribute ⟦<PrivateKeyTemplateAttribute<A> as PartialEq>⟧.eq }
+    ensures public_key_template_attribute { AreEqual read_public_key_template_attribute ⟦<PublicKeyTemplateAttribute<A> as PartialEq>⟧.eq }
 {
     kmip_attributes::laws::equal_values::<A>();
-}
-
-impl Sound for KeyCompressionType {
-    ghost IsSound = { IsKeyCompressionType };
-
-    fn is_sound(&self) -> bool {
-        self.number().is_sound()
-    }
-}
-
-impl Sound for WrappingMethod {
-    ghost IsSound = { IsWrappingMethod };
-
-    fn is_sound(&self) -> bool {
-        self.number().is_sound()
-    }
-}
-
-impl Sound for EncodingOption {
-    ghost IsSound = { IsEncodingOption };
-
-    fn is_sound(&self) -> bool {
-        self.number().is_sound()
-    }
 }
 
 impl Sound for WrappingParameters {
@@ -201,14 +169,6 @@ impl<A: Allocator> Sound for PrivateKey<A> {
     }
 }
 
-impl Sound for SplitKeyMethod {
-    ghost IsSound = { IsSplitKeyMethod };
-
-    fn is_sound(&self) -> bool {
-        self.number().is_sound()
-    }
-}
-
 impl Sound for SplitKeyParts {
     ghost IsSound = { IsSplitKeyParts };
 
@@ -254,27 +214,11 @@ impl<A: Allocator> Sound for Template<A> {
     }
 }
 
-impl Sound for SecretDataType {
-    ghost IsSound = { IsSecretDataType };
-
-    fn is_sound(&self) -> bool {
-        self.number().is_sound()
-    }
-}
-
 impl<A: Allocator> Sound for SecretData<A> {
     ghost IsSound = { IsSecretData };
 
     fn is_sound(&self) -> bool {
         self.secret_data_type.is_sound() && self.key_block.is_sound()
-    }
-}
-
-impl Sound for OpaqueDataType {
-    ghost IsSound = { IsOpaqueDataType };
-
-    fn is_sound(&self) -> bool {
-        self.number().is_sound()
     }
 }
 

@@ -1,19 +1,16 @@
 // Written by codegen from types.table: change that, and run codegen/codegen.
 //! What a server keeps (KMIP 1.0, section 2.2).
 
-ghost use Rattle.std.specs.Prelude.{◌≡◌, ◌==◌, refl, Some, true};
-ghost use Rattle.std.proofs.Common.{rules};
-ghost use Rattle.std.specs.Cmp.Rules.{comparing};
-ghost use Rattle.std.specs.Ordering.{on};
-ghost use Rattle.kmip_objects.specs.Objects.{certificate_form, written_certificate, read_certificate, symmetric_key_form, written_symmetric_key, read_symmetric_key, public_key_form, written_public_key, read_public_key, private_key_form, written_private_key, read_private_key, split_key_method_form, written_split_key_method, read_split_key_method, split_key_method_number, split_key_method_read_number, split_key_parts_form, split_key_parts_value, key_part_identifier_form, key_part_identifier_value, split_key_threshold_form, split_key_threshold_value, split_key_form, written_split_key, read_split_key, template_form, written_template, read_template, secret_data_type_form, written_secret_data_type, read_secret_data_type, secret_data_type_number, secret_data_type_read_number, secret_data_form, written_secret_data, read_secret_data, opaque_data_type_form, written_opaque_data_type, read_opaque_data_type, opaque_data_type_number, opaque_data_type_read_number, opaque_object_form, written_opaque_object, read_opaque_object};
+ghost use Rattle.std.specs.Prelude.{refl, true};
+ghost use Rattle.kmip_objects.specs.Objects.{certificate_form, certificate_value, symmetric_key_form, written_symmetric_key, read_symmetric_key, public_key_form, written_public_key, read_public_key, private_key_form, written_private_key, read_private_key, split_key_parts_form, split_key_parts_value, key_part_identifier_form, key_part_identifier_value, split_key_threshold_form, split_key_threshold_value, split_key_form, written_split_key, read_split_key, template_form, written_template, read_template, secret_data_form, written_secret_data, read_secret_data, opaque_object_form, opaque_object_value};
 
 use crate::key::KeyBlock;
 use kmip_attributes::attribute::Attribute;
 use kmip_attributes::values::CertificateType;
-use kmip_ttlv::messages::writing;
-use kmip_ttlv::reader;
-use kmip_ttlv::shape::Serialize;
-use kmip_ttlv::visit::Visitor;
+use kmip_ttlv_parts::messages::writing;
+use kmip_ttlv_parts::shape::Serialize;
+use kmip_ttlv_parts::visit::{Leaf, Visitor};
+use kmip_ttlv_parts::{Enumeration, reader};
 use std::alloc::{AllocError, Allocator, Global};
 
 /// A certificate.
@@ -27,14 +24,14 @@ pub struct Certificate<A: Allocator = Global> {
 }
 
 impl<B: Allocator> Serialize for Certificate<B> {
-    ghost stated = { written_certificate };
+    ghost stated = { certificate_value };
 
-    #[tactic(auto, unfolding(crate::specs::Objects::written_certificate))]
+    #[tactic(auto, unfolding(crate::specs::Objects::certificate_value))]
     fn visit<V: Visitor>(&self, visitor: &mut V) -> Result<(), AllocError> {
-        writing::begin_struct(visitor, "0x420013")?;
+        writing::begin_structure(visitor, 0x420013)?;
         self.certificate_type.visit(visitor)?;
-        writing::bytes(visitor, "Transparent:0x42001E", &self.certificate_value)?;
-        writing::end_struct(visitor, "0x420013")?;
+        writing::bytes(visitor, 0x42001E, &self.certificate_value)?;
+        writing::end_structure(visitor, 0x420013)?;
         Ok(())
     }
 }
@@ -42,7 +39,7 @@ impl<B: Allocator> Serialize for Certificate<B> {
 impl<A: Allocator + Copy> reader::ReadStructure<A> for Certificate<A> {
     ghost form = { certificate_form };
 
-    ghost value = { read_certificate };
+    ghost value = { certificate_value };
 
     ghost TAG = { 0x420013 };
 
@@ -57,10 +54,9 @@ impl<A: Allocator + Copy> reader::ReadStructure<A> for Certificate<A> {
 
     const DENIES_UNKNOWN: bool = true;
 
-    #[tactic(auto, unfolding(kmip_ttlv_types::specs::Digits::six_digits))]
     fn has_form() {}
 
-    #[tactic(auto, unfolding(kmip_ttlv_types::specs::Digits::six_digits, crate::specs::Objects::read_certificate))]
+    #[tactic(auto, unfolding(crate::specs::Objects::certificate_value))]
     fn from_fields(fields: (CertificateType, Vec<u8, A>)) -> Self {
         let (certificate_type, certificate_value) = fields;
         Certificate {
@@ -73,7 +69,7 @@ impl<A: Allocator + Copy> reader::ReadStructure<A> for Certificate<A> {
 impl<A: Allocator + Copy> reader::ReadNested<A> for Certificate<A> {
     ghost form = { certificate_form };
 
-    ghost value = { read_certificate };
+    ghost value = { certificate_value };
 
     ghost TAG = { 0x420013 };
 
@@ -102,9 +98,9 @@ impl<B: Allocator> Serialize for SymmetricKey<B> {
 
     #[tactic(auto, unfolding(crate::specs::Objects::written_symmetric_key))]
     fn visit<V: Visitor>(&self, visitor: &mut V) -> Result<(), AllocError> {
-        writing::begin_struct(visitor, "0x42008F")?;
+        writing::begin_structure(visitor, 0x42008F)?;
         self.key_block.visit(visitor)?;
-        writing::end_struct(visitor, "0x42008F")?;
+        writing::end_structure(visitor, 0x42008F)?;
         Ok(())
     }
 }
@@ -124,10 +120,9 @@ impl<A: Allocator + Copy> reader::ReadStructure<A> for SymmetricKey<A> {
 
     const DENIES_UNKNOWN: bool = true;
 
-    #[tactic(auto, unfolding(kmip_ttlv_types::specs::Digits::six_digits))]
     fn has_form() {}
 
-    #[tactic(auto, unfolding(kmip_ttlv_types::specs::Digits::six_digits, crate::specs::Objects::read_symmetric_key))]
+    #[tactic(auto, unfolding(crate::specs::Objects::read_symmetric_key))]
     fn from_fields(fields: (KeyBlock<A>,)) -> Self {
         let (key_block,) = fields;
         SymmetricKey { key_block }
@@ -166,9 +161,9 @@ impl<B: Allocator> Serialize for PublicKey<B> {
 
     #[tactic(auto, unfolding(crate::specs::Objects::written_public_key))]
     fn visit<V: Visitor>(&self, visitor: &mut V) -> Result<(), AllocError> {
-        writing::begin_struct(visitor, "0x42006D")?;
+        writing::begin_structure(visitor, 0x42006D)?;
         self.key_block.visit(visitor)?;
-        writing::end_struct(visitor, "0x42006D")?;
+        writing::end_structure(visitor, 0x42006D)?;
         Ok(())
     }
 }
@@ -188,10 +183,9 @@ impl<A: Allocator + Copy> reader::ReadStructure<A> for PublicKey<A> {
 
     const DENIES_UNKNOWN: bool = true;
 
-    #[tactic(auto, unfolding(kmip_ttlv_types::specs::Digits::six_digits))]
     fn has_form() {}
 
-    #[tactic(auto, unfolding(kmip_ttlv_types::specs::Digits::six_digits, crate::specs::Objects::read_public_key))]
+    #[tactic(auto, unfolding(crate::specs::Objects::read_public_key))]
     fn from_fields(fields: (KeyBlock<A>,)) -> Self {
         let (key_block,) = fields;
         PublicKey { key_block }
@@ -230,9 +224,9 @@ impl<B: Allocator> Serialize for PrivateKey<B> {
 
     #[tactic(auto, unfolding(crate::specs::Objects::written_private_key))]
     fn visit<V: Visitor>(&self, visitor: &mut V) -> Result<(), AllocError> {
-        writing::begin_struct(visitor, "0x420064")?;
+        writing::begin_structure(visitor, 0x420064)?;
         self.key_block.visit(visitor)?;
-        writing::end_struct(visitor, "0x420064")?;
+        writing::end_structure(visitor, 0x420064)?;
         Ok(())
     }
 }
@@ -252,10 +246,9 @@ impl<A: Allocator + Copy> reader::ReadStructure<A> for PrivateKey<A> {
 
     const DENIES_UNKNOWN: bool = true;
 
-    #[tactic(auto, unfolding(kmip_ttlv_types::specs::Digits::six_digits))]
     fn has_form() {}
 
-    #[tactic(auto, unfolding(kmip_ttlv_types::specs::Digits::six_digits, crate::specs::Objects::read_private_key))]
+    #[tactic(auto, unfolding(crate::specs::Objects::read_private_key))]
     fn from_fields(fields: (KeyBlock<A>,)) -> Self {
         let (key_block,) = fields;
         PrivateKey { key_block }
@@ -282,83 +275,20 @@ impl<A: Allocator + Copy> reader::ReadNested<A> for PrivateKey<A> {
 }
 
 /// How a key was split (KMIP 1.0, section 9.1.3.2.7).
-#[derive(Clone, Copy, Debug)]
-pub enum SplitKeyMethod {
+pub type SplitKeyMethod = Enumeration<0x42008A>;
+
+/// The numbers of `SplitKeyMethod` that have a name.
+pub mod split_key_method {
+    use super::SplitKeyMethod;
+
     /// The parts make it by XOR.
-    Xor,
+    pub const XOR: SplitKeyMethod = SplitKeyMethod { number: 0x00000001 };
     /// By a polynomial over GF(2^16).
-    PolynomialSharingGf216,
+    pub const POLYNOMIAL_SHARING_GF216: SplitKeyMethod = SplitKeyMethod { number: 0x00000002 };
     /// By a polynomial over a prime field.
-    PolynomialSharingPrimeField,
-    /// Any other number. One that has a name is encoded as it is, and decoded by its name, to which it is equal.
-    Other(u32),
-}
-
-impl SplitKeyMethod {
-    /// Its number.
-    pub fn number(self) -> u32
-        ensures { result ≡ split_key_method_number self }
-    {
-        match self {
-            SplitKeyMethod::Xor => 0x00000001,
-            SplitKeyMethod::PolynomialSharingGf216 => 0x00000002,
-            SplitKeyMethod::PolynomialSharingPrimeField => 0x00000003,
-            SplitKeyMethod::Other(number) => number,
-        }
-    }
-
-    /// The one of a number: by its name, if it has one.
-    pub fn from_number(number: u32) -> SplitKeyMethod
-        ensures { split_key_method_read_number result ≡ Some number }
-    {
-        match number {
-            0x00000001 => SplitKeyMethod::Xor,
-            0x00000002 => SplitKeyMethod::PolynomialSharingGf216,
-            0x00000003 => SplitKeyMethod::PolynomialSharingPrimeField,
-            _ => SplitKeyMethod::Other(number),
-        }
-    }
-}
-
-/// By their numbers.
-impl PartialEq for SplitKeyMethod {
-    ghost eq = { on split_key_method_number ◌==◌ };
-
-    ghost laws = { Prim.search (comparing, rules) };
-
-    fn eq(&self, other: &SplitKeyMethod) -> bool {
-        self.number() == other.number()
-    }
-}
-
-impl Eq for SplitKeyMethod {
-    ghost laws = { Prim.search (comparing, rules) };
-}
-
-impl Serialize for SplitKeyMethod {
-    ghost stated = { written_split_key_method };
-
-    #[tactic(auto, unfolding(crate::specs::Objects::written_split_key_method))]
-    fn visit<V: Visitor>(&self, visitor: &mut V) -> Result<(), AllocError> {
-        writing::enumeration(visitor, "Transparent:0x42008A", self.number())
-    }
-}
-
-impl<A: Allocator + Copy> reader::ReadItem<A> for SplitKeyMethod {
-    ghost form = { split_key_method_form };
-
-    ghost value = { read_split_key_method };
-
-    ghost plain = { (refl, refl) };
-
-    #[tactic(auto, unfolding(kmip_ttlv_types::specs::Digits::six_digits, crate::specs::Objects::read_split_key_method))]
-    fn read_item<'b>(
-        scope: &reader::Scope<'b, A>,
-        cursor: &mut reader::Cursor<'b, A>,
-    ) -> reader::Step<Self, A> {
-        let number: u32 = cursor.wrapped_leaf(scope, 0x42008A)?;
-        Ok(SplitKeyMethod::from_number(number))
-    }
+    pub const POLYNOMIAL_SHARING_PRIME_FIELD: SplitKeyMethod = SplitKeyMethod {
+        number: 0x00000003,
+    };
 }
 
 /// How many parts a key was split into.
@@ -372,7 +302,7 @@ impl Serialize for SplitKeyParts {
     ghost stated = { split_key_parts_value };
 
     fn visit<V: Visitor>(&self, visitor: &mut V) -> Result<(), AllocError> {
-        writing::integer(visitor, "Transparent:0x42008B", self.count)?;
+        writing::tagged(visitor, 0x42008B, Leaf::I32(self.count))?;
         Ok(())
     }
 }
@@ -384,7 +314,6 @@ impl<A: Allocator + Copy> reader::ReadItem<A> for SplitKeyParts {
 
     ghost plain = { (refl, refl) };
 
-    #[tactic(auto, unfolding(kmip_ttlv_types::specs::Digits::six_digits))]
     fn read_item<'b>(
         scope: &reader::Scope<'b, A>,
         cursor: &mut reader::Cursor<'b, A>,
@@ -405,7 +334,7 @@ impl Serialize for KeyPartIdentifier {
     ghost stated = { key_part_identifier_value };
 
     fn visit<V: Visitor>(&self, visitor: &mut V) -> Result<(), AllocError> {
-        writing::integer(visitor, "Transparent:0x420044", self.number)?;
+        writing::tagged(visitor, 0x420044, Leaf::I32(self.number))?;
         Ok(())
     }
 }
@@ -417,7 +346,6 @@ impl<A: Allocator + Copy> reader::ReadItem<A> for KeyPartIdentifier {
 
     ghost plain = { (refl, refl) };
 
-    #[tactic(auto, unfolding(kmip_ttlv_types::specs::Digits::six_digits))]
     fn read_item<'b>(
         scope: &reader::Scope<'b, A>,
         cursor: &mut reader::Cursor<'b, A>,
@@ -438,7 +366,7 @@ impl Serialize for SplitKeyThreshold {
     ghost stated = { split_key_threshold_value };
 
     fn visit<V: Visitor>(&self, visitor: &mut V) -> Result<(), AllocError> {
-        writing::integer(visitor, "Transparent:0x42008C", self.count)?;
+        writing::tagged(visitor, 0x42008C, Leaf::I32(self.count))?;
         Ok(())
     }
 }
@@ -450,7 +378,6 @@ impl<A: Allocator + Copy> reader::ReadItem<A> for SplitKeyThreshold {
 
     ghost plain = { (refl, refl) };
 
-    #[tactic(auto, unfolding(kmip_ttlv_types::specs::Digits::six_digits))]
     fn read_item<'b>(
         scope: &reader::Scope<'b, A>,
         cursor: &mut reader::Cursor<'b, A>,
@@ -482,14 +409,14 @@ impl<B: Allocator> Serialize for SplitKey<B> {
     ghost stated = { written_split_key };
 
     fn visit<V: Visitor>(&self, visitor: &mut V) -> Result<(), AllocError> {
-        writing::begin_struct(visitor, "0x420089")?;
+        writing::begin_structure(visitor, 0x420089)?;
         self.split_key_parts.visit(visitor)?;
         self.key_part_identifier.visit(visitor)?;
         self.split_key_threshold.visit(visitor)?;
         self.split_key_method.visit(visitor)?;
-        writing::optional_big_integer(visitor, "Transparent:0x420062", &self.prime_field_size)?;
+        writing::optional_big_integer(visitor, 0x420062, &self.prime_field_size)?;
         self.key_block.visit(visitor)?;
-        writing::end_struct(visitor, "0x420089")?;
+        writing::end_structure(visitor, 0x420089)?;
         Ok(())
     }
 }
@@ -518,10 +445,9 @@ impl<A: Allocator + Copy> reader::ReadStructure<A> for SplitKey<A> {
 
     const DENIES_UNKNOWN: bool = true;
 
-    #[tactic(auto, unfolding(kmip_ttlv_types::specs::Digits::six_digits))]
     fn has_form() {}
 
-    #[tactic(auto, unfolding(kmip_ttlv_types::specs::Digits::six_digits, crate::specs::Objects::read_split_key))]
+    #[tactic(auto, unfolding(crate::specs::Objects::read_split_key))]
     fn from_fields(
         fields: (
             SplitKeyParts,
@@ -584,9 +510,9 @@ impl<B: Allocator> Serialize for Template<B> {
 
     #[tactic(auto, unfolding(crate::specs::Objects::written_template))]
     fn visit<V: Visitor>(&self, visitor: &mut V) -> Result<(), AllocError> {
-        writing::begin_struct(visitor, "0x420090")?;
+        writing::begin_structure(visitor, 0x420090)?;
         writing::several(visitor, &self.attributes)?;
-        writing::end_struct(visitor, "0x420090")?;
+        writing::end_structure(visitor, 0x420090)?;
         Ok(())
     }
 }
@@ -606,10 +532,9 @@ impl<A: Allocator + Copy> reader::ReadStructure<A> for Template<A> {
 
     const DENIES_UNKNOWN: bool = true;
 
-    #[tactic(auto, unfolding(kmip_ttlv_types::specs::Digits::six_digits))]
     fn has_form() {}
 
-    #[tactic(auto, unfolding(kmip_ttlv_types::specs::Digits::six_digits, crate::specs::Objects::read_template))]
+    #[tactic(auto, unfolding(crate::specs::Objects::read_template))]
     fn from_fields(fields: (Vec<Attribute<A>, A>,)) -> Self {
         let (attributes,) = fields;
         Template { attributes }
@@ -636,79 +561,16 @@ impl<A: Allocator + Copy> reader::ReadNested<A> for Template<A> {
 }
 
 /// What a secret is (KMIP 1.0, section 9.1.3.2.8).
-#[derive(Clone, Copy, Debug)]
-pub enum SecretDataType {
+pub type SecretDataType = Enumeration<0x420086>;
+
+/// The numbers of `SecretDataType` that have a name.
+pub mod secret_data_type {
+    use super::SecretDataType;
+
     /// A password.
-    Password,
+    pub const PASSWORD: SecretDataType = SecretDataType { number: 0x00000001 };
     /// What keys are made of.
-    Seed,
-    /// Any other number. One that has a name is encoded as it is, and decoded by its name, to which it is equal.
-    Other(u32),
-}
-
-impl SecretDataType {
-    /// Its number.
-    pub fn number(self) -> u32
-        ensures { result ≡ secret_data_type_number self }
-    {
-        match self {
-            SecretDataType::Password => 0x00000001,
-            SecretDataType::Seed => 0x00000002,
-            SecretDataType::Other(number) => number,
-        }
-    }
-
-    /// The one of a number: by its name, if it has one.
-    pub fn from_number(number: u32) -> SecretDataType
-        ensures { secret_data_type_read_number result ≡ Some number }
-    {
-        match number {
-            0x00000001 => SecretDataType::Password,
-            0x00000002 => SecretDataType::Seed,
-            _ => SecretDataType::Other(number),
-        }
-    }
-}
-
-/// By their numbers.
-impl PartialEq for SecretDataType {
-    ghost eq = { on secret_data_type_number ◌==◌ };
-
-    ghost laws = { Prim.search (comparing, rules) };
-
-    fn eq(&self, other: &SecretDataType) -> bool {
-        self.number() == other.number()
-    }
-}
-
-impl Eq for SecretDataType {
-    ghost laws = { Prim.search (comparing, rules) };
-}
-
-impl Serialize for SecretDataType {
-    ghost stated = { written_secret_data_type };
-
-    #[tactic(auto, unfolding(crate::specs::Objects::written_secret_data_type))]
-    fn visit<V: Visitor>(&self, visitor: &mut V) -> Result<(), AllocError> {
-        writing::enumeration(visitor, "Transparent:0x420086", self.number())
-    }
-}
-
-impl<A: Allocator + Copy> reader::ReadItem<A> for SecretDataType {
-    ghost form = { secret_data_type_form };
-
-    ghost value = { read_secret_data_type };
-
-    ghost plain = { (refl, refl) };
-
-    #[tactic(auto, unfolding(kmip_ttlv_types::specs::Digits::six_digits, crate::specs::Objects::read_secret_data_type))]
-    fn read_item<'b>(
-        scope: &reader::Scope<'b, A>,
-        cursor: &mut reader::Cursor<'b, A>,
-    ) -> reader::Step<Self, A> {
-        let number: u32 = cursor.wrapped_leaf(scope, 0x420086)?;
-        Ok(SecretDataType::from_number(number))
-    }
+    pub const SEED: SecretDataType = SecretDataType { number: 0x00000002 };
 }
 
 /// A secret that is no key.
@@ -726,10 +588,10 @@ impl<B: Allocator> Serialize for SecretData<B> {
 
     #[tactic(auto, unfolding(crate::specs::Objects::written_secret_data))]
     fn visit<V: Visitor>(&self, visitor: &mut V) -> Result<(), AllocError> {
-        writing::begin_struct(visitor, "0x420085")?;
+        writing::begin_structure(visitor, 0x420085)?;
         self.secret_data_type.visit(visitor)?;
         self.key_block.visit(visitor)?;
-        writing::end_struct(visitor, "0x420085")?;
+        writing::end_structure(visitor, 0x420085)?;
         Ok(())
     }
 }
@@ -752,10 +614,9 @@ impl<A: Allocator + Copy> reader::ReadStructure<A> for SecretData<A> {
 
     const DENIES_UNKNOWN: bool = true;
 
-    #[tactic(auto, unfolding(kmip_ttlv_types::specs::Digits::six_digits))]
     fn has_form() {}
 
-    #[tactic(auto, unfolding(kmip_ttlv_types::specs::Digits::six_digits, crate::specs::Objects::read_secret_data))]
+    #[tactic(auto, unfolding(crate::specs::Objects::read_secret_data))]
     fn from_fields(fields: (SecretDataType, KeyBlock<A>)) -> Self {
         let (secret_data_type, key_block) = fields;
         SecretData {
@@ -785,75 +646,14 @@ impl<A: Allocator + Copy> reader::ReadNested<A> for SecretData<A> {
 }
 
 /// What bytes are that the server doesn't interpret: the standard names nothing.
-#[derive(Clone, Copy, Debug)]
-pub enum OpaqueDataType {
+pub type OpaqueDataType = Enumeration<0x420059>;
+
+/// The numbers of `OpaqueDataType` that have a name.
+pub mod opaque_data_type {
+    use super::OpaqueDataType;
+
     /// The first of the numbers that it leaves to others.
-    Extension,
-    /// Any other number. One that has a name is encoded as it is, and decoded by its name, to which it is equal.
-    Other(u32),
-}
-
-impl OpaqueDataType {
-    /// Its number.
-    pub fn number(self) -> u32
-        ensures { result ≡ opaque_data_type_number self }
-    {
-        match self {
-            OpaqueDataType::Extension => 0x80000000,
-            OpaqueDataType::Other(number) => number,
-        }
-    }
-
-    /// The one of a number: by its name, if it has one.
-    pub fn from_number(number: u32) -> OpaqueDataType
-        ensures { opaque_data_type_read_number result ≡ Some number }
-    {
-        match number {
-            0x80000000 => OpaqueDataType::Extension,
-            _ => OpaqueDataType::Other(number),
-        }
-    }
-}
-
-/// By their numbers.
-impl PartialEq for OpaqueDataType {
-    ghost eq = { on opaque_data_type_number ◌==◌ };
-
-    ghost laws = { Prim.search (comparing, rules) };
-
-    fn eq(&self, other: &OpaqueDataType) -> bool {
-        self.number() == other.number()
-    }
-}
-
-impl Eq for OpaqueDataType {
-    ghost laws = { Prim.search (comparing, rules) };
-}
-
-impl Serialize for OpaqueDataType {
-    ghost stated = { written_opaque_data_type };
-
-    #[tactic(auto, unfolding(crate::specs::Objects::written_opaque_data_type))]
-    fn visit<V: Visitor>(&self, visitor: &mut V) -> Result<(), AllocError> {
-        writing::enumeration(visitor, "Transparent:0x420059", self.number())
-    }
-}
-
-impl<A: Allocator + Copy> reader::ReadItem<A> for OpaqueDataType {
-    ghost form = { opaque_data_type_form };
-
-    ghost value = { read_opaque_data_type };
-
-    ghost plain = { (refl, refl) };
-
-    #[tactic(auto, unfolding(kmip_ttlv_types::specs::Digits::six_digits, crate::specs::Objects::read_opaque_data_type))]
-    fn read_item<'b>(
-        scope: &reader::Scope<'b, A>,
-        cursor: &mut reader::Cursor<'b, A>,
-    ) -> reader::Step<Self, A> {
-        let number: u32 = cursor.wrapped_leaf(scope, 0x420059)?;
-        Ok(OpaqueDataType::from_number(number))
-    }
+    pub const EXTENSION: OpaqueDataType = OpaqueDataType { number: 0x80000000 };
 }
 
 /// Bytes that the server doesn't interpret.
@@ -867,14 +667,14 @@ pub struct OpaqueObject<A: Allocator = Global> {
 }
 
 impl<B: Allocator> Serialize for OpaqueObject<B> {
-    ghost stated = { written_opaque_object };
+    ghost stated = { opaque_object_value };
 
-    #[tactic(auto, unfolding(crate::specs::Objects::written_opaque_object))]
+    #[tactic(auto, unfolding(crate::specs::Objects::opaque_object_value))]
     fn visit<V: Visitor>(&self, visitor: &mut V) -> Result<(), AllocError> {
-        writing::begin_struct(visitor, "0x42005B")?;
+        writing::begin_structure(visitor, 0x42005B)?;
         self.opaque_data_type.visit(visitor)?;
-        writing::bytes(visitor, "Transparent:0x42005A", &self.opaque_data_value)?;
-        writing::end_struct(visitor, "0x42005B")?;
+        writing::bytes(visitor, 0x42005A, &self.opaque_data_value)?;
+        writing::end_structure(visitor, 0x42005B)?;
         Ok(())
     }
 }
@@ -882,7 +682,7 @@ impl<B: Allocator> Serialize for OpaqueObject<B> {
 impl<A: Allocator + Copy> reader::ReadStructure<A> for OpaqueObject<A> {
     ghost form = { opaque_object_form };
 
-    ghost value = { read_opaque_object };
+    ghost value = { opaque_object_value };
 
     ghost TAG = { 0x42005B };
 
@@ -897,10 +697,9 @@ impl<A: Allocator + Copy> reader::ReadStructure<A> for OpaqueObject<A> {
 
     const DENIES_UNKNOWN: bool = true;
 
-    #[tactic(auto, unfolding(kmip_ttlv_types::specs::Digits::six_digits))]
     fn has_form() {}
 
-    #[tactic(auto, unfolding(kmip_ttlv_types::specs::Digits::six_digits, crate::specs::Objects::read_opaque_object))]
+    #[tactic(auto, unfolding(crate::specs::Objects::opaque_object_value))]
     fn from_fields(fields: (OpaqueDataType, Vec<u8, A>)) -> Self {
         let (opaque_data_type, opaque_data_value) = fields;
         OpaqueObject {
@@ -913,7 +712,7 @@ impl<A: Allocator + Copy> reader::ReadStructure<A> for OpaqueObject<A> {
 impl<A: Allocator + Copy> reader::ReadNested<A> for OpaqueObject<A> {
     ghost form = { opaque_object_form };
 
-    ghost value = { read_opaque_object };
+    ghost value = { opaque_object_value };
 
     ghost TAG = { 0x42005B };
 

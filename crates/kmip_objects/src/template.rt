@@ -2,14 +2,14 @@
 //! What objects are made with (KMIP 1.0, section 2.1.8).
 
 ghost use Rattle.std.specs.Prelude.{refl, true};
-ghost use Rattle.kmip_objects.specs.Templates.{template_name_form, written_template_name, read_template_name, template_attribute_form, written_template_attribute, read_template_attribute, common_template_attribute_form, written_common_template_attribute, read_common_template_attribute, private_key_template_attribute_form, written_private_key_template_attribute, read_private_key_template_attribute, public_key_template_attribute_form, written_public_key_template_attribute, read_public_key_template_attribute};
+ghost use Rattle.kmip_objects.specs.Templates.{template_name_form, template_name_value, template_attribute_form, written_template_attribute, read_template_attribute, common_template_attribute_form, written_common_template_attribute, read_common_template_attribute, private_key_template_attribute_form, written_private_key_template_attribute, read_private_key_template_attribute, public_key_template_attribute_form, written_public_key_template_attribute, read_public_key_template_attribute};
 
 use kmip_attributes::attribute::Attribute;
 use kmip_attributes::values::NameType;
-use kmip_ttlv::messages::writing;
-use kmip_ttlv::reader;
-use kmip_ttlv::shape::Serialize;
-use kmip_ttlv::visit::Visitor;
+use kmip_ttlv_parts::messages::writing;
+use kmip_ttlv_parts::reader;
+use kmip_ttlv_parts::shape::Serialize;
+use kmip_ttlv_parts::visit::Visitor;
 use std::alloc::{AllocError, Allocator, Global};
 
 /// The name of a template (section 3.2).
@@ -23,14 +23,14 @@ pub struct TemplateName<A: Allocator = Global> {
 }
 
 impl<B: Allocator> Serialize for TemplateName<B> {
-    ghost stated = { written_template_name };
+    ghost stated = { template_name_value };
 
-    #[tactic(auto, unfolding(crate::specs::Templates::written_template_name))]
+    #[tactic(auto, unfolding(crate::specs::Templates::template_name_value))]
     fn visit<V: Visitor>(&self, visitor: &mut V) -> Result<(), AllocError> {
-        writing::begin_struct(visitor, "0x420053")?;
-        writing::string(visitor, "Transparent:0x420055", &self.value)?;
+        writing::begin_structure(visitor, 0x420053)?;
+        writing::string(visitor, 0x420055, &self.value)?;
         self.name_type.visit(visitor)?;
-        writing::end_struct(visitor, "0x420053")?;
+        writing::end_structure(visitor, 0x420053)?;
         Ok(())
     }
 }
@@ -38,7 +38,7 @@ impl<B: Allocator> Serialize for TemplateName<B> {
 impl<A: Allocator + Copy> reader::ReadStructure<A> for TemplateName<A> {
     ghost form = { template_name_form };
 
-    ghost value = { read_template_name };
+    ghost value = { template_name_value };
 
     ghost TAG = { 0x420053 };
 
@@ -53,10 +53,9 @@ impl<A: Allocator + Copy> reader::ReadStructure<A> for TemplateName<A> {
 
     const DENIES_UNKNOWN: bool = true;
 
-    #[tactic(auto, unfolding(kmip_ttlv_types::specs::Digits::six_digits))]
     fn has_form() {}
 
-    #[tactic(auto, unfolding(kmip_ttlv_types::specs::Digits::six_digits, crate::specs::Templates::read_template_name))]
+    #[tactic(auto, unfolding(crate::specs::Templates::template_name_value))]
     fn from_fields(fields: (String<A>, NameType)) -> Self {
         let (value, name_type) = fields;
         TemplateName { value, name_type }
@@ -66,7 +65,7 @@ impl<A: Allocator + Copy> reader::ReadStructure<A> for TemplateName<A> {
 impl<A: Allocator + Copy> reader::ReadNested<A> for TemplateName<A> {
     ghost form = { template_name_form };
 
-    ghost value = { read_template_name };
+    ghost value = { template_name_value };
 
     ghost TAG = { 0x420053 };
 
@@ -97,10 +96,10 @@ impl<B: Allocator> Serialize for TemplateAttribute<B> {
 
     #[tactic(auto, unfolding(crate::specs::Templates::written_template_attribute))]
     fn visit<V: Visitor>(&self, visitor: &mut V) -> Result<(), AllocError> {
-        writing::begin_struct(visitor, "0x420091")?;
+        writing::begin_structure(visitor, 0x420091)?;
         writing::several(visitor, &self.names)?;
         writing::several(visitor, &self.attributes)?;
-        writing::end_struct(visitor, "0x420091")?;
+        writing::end_structure(visitor, 0x420091)?;
         Ok(())
     }
 }
@@ -123,10 +122,9 @@ impl<A: Allocator + Copy> reader::ReadStructure<A> for TemplateAttribute<A> {
 
     const DENIES_UNKNOWN: bool = true;
 
-    #[tactic(auto, unfolding(kmip_ttlv_types::specs::Digits::six_digits))]
     fn has_form() {}
 
-    #[tactic(auto, unfolding(kmip_ttlv_types::specs::Digits::six_digits, crate::specs::Templates::read_template_attribute))]
+    #[tactic(auto, unfolding(crate::specs::Templates::read_template_attribute))]
     fn from_fields(fields: (Vec<TemplateName<A>, A>, Vec<Attribute<A>, A>)) -> Self {
         let (names, attributes) = fields;
         TemplateAttribute { names, attributes }
@@ -167,10 +165,10 @@ impl<B: Allocator> Serialize for CommonTemplateAttribute<B> {
 
     #[tactic(auto, unfolding(crate::specs::Templates::written_common_template_attribute))]
     fn visit<V: Visitor>(&self, visitor: &mut V) -> Result<(), AllocError> {
-        writing::begin_struct(visitor, "0x42001F")?;
+        writing::begin_structure(visitor, 0x42001F)?;
         writing::several(visitor, &self.names)?;
         writing::several(visitor, &self.attributes)?;
-        writing::end_struct(visitor, "0x42001F")?;
+        writing::end_structure(visitor, 0x42001F)?;
         Ok(())
     }
 }
@@ -193,10 +191,9 @@ impl<A: Allocator + Copy> reader::ReadStructure<A> for CommonTemplateAttribute<A
 
     const DENIES_UNKNOWN: bool = true;
 
-    #[tactic(auto, unfolding(kmip_ttlv_types::specs::Digits::six_digits))]
     fn has_form() {}
 
-    #[tactic(auto, unfolding(kmip_ttlv_types::specs::Digits::six_digits, crate::specs::Templates::read_common_template_attribute))]
+    #[tactic(auto, unfolding(crate::specs::Templates::read_common_template_attribute))]
     fn from_fields(fields: (Vec<TemplateName<A>, A>, Vec<Attribute<A>, A>)) -> Self {
         let (names, attributes) = fields;
         CommonTemplateAttribute { names, attributes }
@@ -237,10 +234,10 @@ impl<B: Allocator> Serialize for PrivateKeyTemplateAttribute<B> {
 
     #[tactic(auto, unfolding(crate::specs::Templates::written_private_key_template_attribute))]
     fn visit<V: Visitor>(&self, visitor: &mut V) -> Result<(), AllocError> {
-        writing::begin_struct(visitor, "0x420065")?;
+        writing::begin_structure(visitor, 0x420065)?;
         writing::several(visitor, &self.names)?;
         writing::several(visitor, &self.attributes)?;
-        writing::end_struct(visitor, "0x420065")?;
+        writing::end_structure(visitor, 0x420065)?;
         Ok(())
     }
 }
@@ -263,10 +260,9 @@ impl<A: Allocator + Copy> reader::ReadStructure<A> for PrivateKeyTemplateAttribu
 
     const DENIES_UNKNOWN: bool = true;
 
-    #[tactic(auto, unfolding(kmip_ttlv_types::specs::Digits::six_digits))]
     fn has_form() {}
 
-    #[tactic(auto, unfolding(kmip_ttlv_types::specs::Digits::six_digits, crate::specs::Templates::read_private_key_template_attribute))]
+    #[tactic(auto, unfolding(crate::specs::Templates::read_private_key_template_attribute))]
     fn from_fields(fields: (Vec<TemplateName<A>, A>, Vec<Attribute<A>, A>)) -> Self {
         let (names, attributes) = fields;
         PrivateKeyTemplateAttribute { names, attributes }
@@ -307,10 +303,10 @@ impl<B: Allocator> Serialize for PublicKeyTemplateAttribute<B> {
 
     #[tactic(auto, unfolding(crate::specs::Templates::written_public_key_template_attribute))]
     fn visit<V: Visitor>(&self, visitor: &mut V) -> Result<(), AllocError> {
-        writing::begin_struct(visitor, "0x42006E")?;
+        writing::begin_structure(visitor, 0x42006E)?;
         writing::several(visitor, &self.names)?;
         writing::several(visitor, &self.attributes)?;
-        writing::end_struct(visitor, "0x42006E")?;
+        writing::end_structure(visitor, 0x42006E)?;
         Ok(())
     }
 }
@@ -333,10 +329,9 @@ impl<A: Allocator + Copy> reader::ReadStructure<A> for PublicKeyTemplateAttribut
 
     const DENIES_UNKNOWN: bool = true;
 
-    #[tactic(auto, unfolding(kmip_ttlv_types::specs::Digits::six_digits))]
     fn has_form() {}
 
-    #[tactic(auto, unfolding(kmip_ttlv_types::specs::Digits::six_digits, crate::specs::Templates::read_public_key_template_attribute))]
+    #[tactic(auto, unfolding(crate::specs::Templates::read_public_key_template_attribute))]
     fn from_fields(fields: (Vec<TemplateName<A>, A>, Vec<Attribute<A>, A>)) -> Self {
         let (names, attributes) = fields;
         PublicKeyTemplateAttribute { names, attributes }

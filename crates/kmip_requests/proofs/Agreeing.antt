@@ -1,97 +1,94 @@
 -- Written by codegen from types.table: change that, and run codegen/codegen.
 -- The types agree with their forms: one line for each part.
-use Rattle.kmip_ttlv.specs.Agreements.{first_variant, is_run, later_variant}
-use Rattle.kmip_ttlv.specs.Boxes.{boxed}
-use Rattle.kmip_ttlv.specs.Names.{number, override_name, tag_of, transparent_name}
-use Rattle.kmip_ttlv.specs.Returns.{as_date_time, as_int32, as_number, as_text, text_of_number}
-use Rattle.kmip_ttlv.specs.Rules.{at_least, equal, in_brackets, member, rule, sides}
-use Rattle.kmip_ttlv.specs.Values.{newtype_value, text_value}
-use Rattle.kmip_ttlv.specs.WrittenItems.{is_wrapper, pending_after, take_tag}
-use Rattle.kmip_ttlv_laws.proofs.Boxes.{in_box}
-use Rattle.kmip_ttlv_laws.proofs.MessageParts.{PartAgrees, a_date_time, a_structure, a_text_string, all_agree, an_enumeration, an_integer, any_then}
-use Rattle.kmip_ttlv_laws.proofs.MessageParts.{every_agrees, first_of, if_present, leaf_part, leaf_then, nothing_behind, nothing_left, option_behind}
-use Rattle.kmip_ttlv_laws.proofs.MessageParts.{optional_same_then, optional_then, part_then, present, several_then, structure, text_is_utf8}
-use Rattle.kmip_ttlv_laws.proofs.MessageRules.{PartAfter, chosen_after}
+use Rattle.kmip_ttlv_parts.specs.Agreements.{first_variant, is_run, later_variant}
+use Rattle.kmip_ttlv_parts.specs.Boxes.{boxed}
+use Rattle.kmip_ttlv_parts.specs.Enumerations.{enumeration_value}
+use Rattle.kmip_ttlv_parts.specs.MessageParts.{tagged}
+use Rattle.kmip_ttlv_parts.specs.Names.{number, override_name, tag_of, transparent_name}
+use Rattle.kmip_ttlv_parts.specs.Returns.{as_date_time, as_int32, as_number, as_text, text_of_number}
+use Rattle.kmip_ttlv_parts.specs.Rules.{at_least, equal, in_brackets, member, rule, sides}
+use Rattle.kmip_ttlv_parts.specs.Values.{text_value}
+use Rattle.kmip_ttlv_parts.specs.WrittenItems.{is_wrapper, pending_after, take_tag}
+use Rattle.kmip_ttlv_parts.proofs.Boxes.{in_box}
+use Rattle.kmip_ttlv_parts.proofs.Enumerations.{enumeration_agrees}
+use Rattle.kmip_ttlv_parts.proofs.MessageParts.{PartAgrees, a_date_time, a_structure, a_text_string, all_agree, an_enumeration, an_integer, any_then}
+use Rattle.kmip_ttlv_parts.proofs.MessageParts.{every_agrees, first_of, if_present, leaf_part, leaf_then, nothing_behind, nothing_left, option_behind}
+use Rattle.kmip_ttlv_parts.proofs.MessageParts.{optional_same_then, optional_then, part_then, present, several_then, structure, text_is_utf8}
+use Rattle.kmip_ttlv_parts.proofs.MessageRules.{PartAfter, chosen_after}
 use Rattle.std.proofs.Common.{ap, refl, ◌∙◌}
-use Rattle.std.specs.Prelude.{List, Some, codes, false, string_bytes, ℕ, ◌≡◌}
+use Rattle.std.specs.Prelude.{List, Some, false, string_bytes, ℕ, ◌≡◌}
 use Rattle.std.specs.Str.{chars, trim_end, trim_start}
 use lib.Utf8.{encode}
-use Rattle.kmip_ttlv.specs.declared.types.TtlvType.TheVariants as types
-use Rattle.kmip_attributes.specs.Values.{written_object_type, written_key_format_type, written_revocation_reason_code}
-use Rattle.kmip_attributes.proofs.Agreeing.{object_type_agrees, key_format_type_agrees, revocation_reason_code_agrees, attribute_name_agrees}
-use Rattle.kmip_attributes.proofs.Agreeing.{attribute_index_agrees, attribute_agrees}
-use Rattle.kmip_attributes.specs.Attributes.{attribute_name_value, attribute_index_value, written_attribute, returned_attribute}
-use Rattle.kmip_objects.specs.Keys.{written_key_compression_type, written_wrapping_method, written_encoding_option, written_encryption_key_information}
-use Rattle.kmip_objects.specs.Keys.{returned_encryption_key_information, written_mac_signature_key_information, returned_mac_signature_key_information}
-use Rattle.kmip_objects.proofs.Agreeing.{key_compression_type_agrees, wrapping_method_agrees, encoding_option_agrees, encryption_key_information_agrees}
-use Rattle.kmip_objects.proofs.Agreeing.{mac_signature_key_information_agrees, certificate_agrees, symmetric_key_agrees, public_key_agrees, private_key_agrees}
-use Rattle.kmip_objects.proofs.Agreeing.{split_key_agrees, template_agrees, secret_data_agrees, opaque_object_agrees, template_attribute_agrees}
-use Rattle.kmip_objects.proofs.Agreeing.{common_template_attribute_agrees, private_key_template_attribute_agrees, public_key_template_attribute_agrees}
-use Rattle.kmip_objects.specs.Objects.{written_certificate, returned_certificate, written_symmetric_key, returned_symmetric_key, written_public_key}
-use Rattle.kmip_objects.specs.Objects.{returned_public_key, written_private_key, returned_private_key, written_split_key, returned_split_key, written_template}
-use Rattle.kmip_objects.specs.Objects.{returned_template, written_secret_data, returned_secret_data, written_opaque_object, returned_opaque_object}
-use Rattle.kmip_objects.specs.Templates.{returned_template_attribute, written_common_template_attribute, returned_common_template_attribute}
-use Rattle.kmip_objects.specs.Templates.{written_private_key_template_attribute, returned_private_key_template_attribute, written_public_key_template_attribute}
-use Rattle.kmip_objects.specs.Templates.{returned_public_key_template_attribute}
+use Rattle.kmip_ttlv_parts.specs.declared.types.TtlvType.TheVariants as types
+use Rattle.kmip_attributes.specs.Attributes.{attribute_name_value, attribute_index_value, written_attribute, read_attribute}
+use Rattle.kmip_attributes.proofs.Agreeing.{attribute_name_agrees, attribute_index_agrees, attribute_agrees}
+use Rattle.kmip_objects.specs.Keys.{written_encryption_key_information, read_encryption_key_information, written_mac_signature_key_information}
+use Rattle.kmip_objects.specs.Keys.{read_mac_signature_key_information}
+use Rattle.kmip_objects.proofs.Agreeing.{encryption_key_information_agrees, mac_signature_key_information_agrees, certificate_agrees, symmetric_key_agrees}
+use Rattle.kmip_objects.proofs.Agreeing.{public_key_agrees, private_key_agrees, split_key_agrees, template_agrees, secret_data_agrees, opaque_object_agrees}
+use Rattle.kmip_objects.proofs.Agreeing.{template_attribute_agrees, common_template_attribute_agrees, private_key_template_attribute_agrees}
+use Rattle.kmip_objects.proofs.Agreeing.{public_key_template_attribute_agrees}
+use Rattle.kmip_objects.specs.Objects.{certificate_value, written_symmetric_key, read_symmetric_key, written_public_key, read_public_key, written_private_key}
+use Rattle.kmip_objects.specs.Objects.{read_private_key, written_split_key, read_split_key, written_template, read_template, written_secret_data}
+use Rattle.kmip_objects.specs.Objects.{read_secret_data, opaque_object_value}
+use Rattle.kmip_objects.specs.Templates.{read_template_attribute, written_common_template_attribute, read_common_template_attribute}
+use Rattle.kmip_objects.specs.Templates.{written_private_key_template_attribute, read_private_key_template_attribute, written_public_key_template_attribute}
+use Rattle.kmip_objects.specs.Templates.{read_public_key_template_attribute}
 use Rattle.kmip_headers.specs.Headers.{protocol_version_value}
 use Rattle.kmip_headers.proofs.Agreeing.{protocol_version_agrees}
-use Rattle.kmip_requests.specs.RequestPayloads.{create_request_form, written_create_request, returned_create_request, create_key_pair_request_form}
-use Rattle.kmip_requests.specs.RequestPayloads.{written_create_key_pair_request, returned_create_key_pair_request, register_request_form}
-use Rattle.kmip_requests.specs.RequestPayloads.{written_register_request, returned_register_request, maximum_items_form, maximum_items_value}
-use Rattle.kmip_requests.specs.RequestPayloads.{storage_status_mask_form, storage_status_mask_value, locate_request_form, written_locate_request}
-use Rattle.kmip_requests.specs.RequestPayloads.{returned_locate_request, key_wrapping_specification_form, written_key_wrapping_specification}
-use Rattle.kmip_requests.specs.RequestPayloads.{returned_key_wrapping_specification, get_request_form, written_get_request, returned_get_request}
-use Rattle.kmip_requests.specs.RequestPayloads.{get_attributes_request_form, written_get_attributes_request, read_get_attributes_request}
-use Rattle.kmip_requests.specs.RequestPayloads.{attribute_request_form, written_attribute_request, returned_attribute_request, delete_attribute_request_form}
-use Rattle.kmip_requests.specs.RequestPayloads.{written_delete_attribute_request, read_delete_attribute_request, object_request_form, written_object_request}
-use Rattle.kmip_requests.specs.RequestPayloads.{read_object_request, revocation_reason_given_form, written_revocation_reason_given}
-use Rattle.kmip_requests.specs.RequestPayloads.{returned_revocation_reason_given, compromise_occurrence_date_form, compromise_occurrence_date_value}
-use Rattle.kmip_requests.specs.RequestPayloads.{revoke_request_form, written_revoke_request, returned_revoke_request, query_function_form}
-use Rattle.kmip_requests.specs.RequestPayloads.{written_query_function, query_request_form, written_query_request, returned_query_request}
-use Rattle.kmip_requests.specs.RequestPayloads.{discover_versions_request_form, written_discover_versions_request, read_discover_versions_request}
-use Rattle.kmip_requests.specs.RequestPayloads.{request_payload_form, written_request_payload, returned_request_payload, ChoosesRequestPayload}
-use Rattle.kmip_requests.specs.RequestPayloads.{ChoosesRequestPayloadNumber}
+use Rattle.kmip_requests.specs.RequestPayloads.{create_request_form, written_create_request, read_create_request, create_key_pair_request_form}
+use Rattle.kmip_requests.specs.RequestPayloads.{written_create_key_pair_request, read_create_key_pair_request, register_request_form, written_register_request}
+use Rattle.kmip_requests.specs.RequestPayloads.{read_register_request, maximum_items_form, maximum_items_value, storage_status_mask_form}
+use Rattle.kmip_requests.specs.RequestPayloads.{storage_status_mask_value, locate_request_form, written_locate_request, read_locate_request}
+use Rattle.kmip_requests.specs.RequestPayloads.{key_wrapping_specification_form, written_key_wrapping_specification, read_key_wrapping_specification}
+use Rattle.kmip_requests.specs.RequestPayloads.{get_request_form, written_get_request, read_get_request, get_attributes_request_form}
+use Rattle.kmip_requests.specs.RequestPayloads.{written_get_attributes_request, read_get_attributes_request, attribute_request_form, written_attribute_request}
+use Rattle.kmip_requests.specs.RequestPayloads.{read_attribute_request, delete_attribute_request_form, written_delete_attribute_request}
+use Rattle.kmip_requests.specs.RequestPayloads.{read_delete_attribute_request, object_request_form, written_object_request, read_object_request}
+use Rattle.kmip_requests.specs.RequestPayloads.{revocation_reason_given_form, written_revocation_reason_given, read_revocation_reason_given}
+use Rattle.kmip_requests.specs.RequestPayloads.{compromise_occurrence_date_form, compromise_occurrence_date_value, revoke_request_form, written_revoke_request}
+use Rattle.kmip_requests.specs.RequestPayloads.{read_revoke_request, query_request_form, query_request_value, discover_versions_request_form}
+use Rattle.kmip_requests.specs.RequestPayloads.{written_discover_versions_request, read_discover_versions_request, request_payload_form}
+use Rattle.kmip_requests.specs.RequestPayloads.{written_request_payload, read_request_payload, ChoosesRequestPayload, ChoosesRequestPayloadNumber}
 use Rattle.kmip_requests.specs.Soundness.{IsCreateRequest, IsCreateKeyPairRequest, IsRegisterRequest, IsMaximumItems, IsStorageStatusMask, IsLocateRequest}
 use Rattle.kmip_requests.specs.Soundness.{IsKeyWrappingSpecification, IsGetRequest, IsAttributeRequest, IsDeleteAttributeRequest, IsRevocationReasonGiven}
-use Rattle.kmip_requests.specs.Soundness.{IsCompromiseOccurrenceDate, IsRevokeRequest, IsQueryFunction, IsQueryRequest, IsDiscoverVersionsRequest}
-use Rattle.kmip_requests.specs.Soundness.{IsRequestPayload}
+use Rattle.kmip_requests.specs.Soundness.{IsCompromiseOccurrenceDate, IsRevokeRequest, IsQueryRequest, IsDiscoverVersionsRequest, IsRequestPayload}
 use Rattle.kmip_requests.specs.declared.request_payload.{CreateRequest.CreateRequest, CreateKeyPairRequest.CreateKeyPairRequest}
 use Rattle.kmip_requests.specs.declared.request_payload.{RegisterRequest.RegisterRequest, MaximumItems.MaximumItems, StorageStatusMask.StorageStatusMask}
 use Rattle.kmip_requests.specs.declared.request_payload.{LocateRequest.LocateRequest, KeyWrappingSpecification.KeyWrappingSpecification, GetRequest.GetRequest}
 use Rattle.kmip_requests.specs.declared.request_payload.{GetAttributesRequest.GetAttributesRequest, AttributeRequest.AttributeRequest}
 use Rattle.kmip_requests.specs.declared.request_payload.{DeleteAttributeRequest.DeleteAttributeRequest, ObjectRequest.ObjectRequest}
 use Rattle.kmip_requests.specs.declared.request_payload.{RevocationReasonGiven.RevocationReasonGiven, CompromiseOccurrenceDate.CompromiseOccurrenceDate}
-use Rattle.kmip_requests.specs.declared.request_payload.{RevokeRequest.RevokeRequest, QueryFunction.QueryFunction, QueryRequest.QueryRequest}
+use Rattle.kmip_requests.specs.declared.request_payload.{RevokeRequest.RevokeRequest, QueryRequest.QueryRequest}
 use Rattle.kmip_requests.specs.declared.request_payload.{DiscoverVersionsRequest.DiscoverVersionsRequest, RequestPayload.RequestPayload}
 use Rattle.kmip_requests.specs.declared.request_payload.RequestPayload.TheVariants as request_payload
 
 pub create_request_agrees : {A : Type 0} (x : CreateRequest A) → IsCreateRequest x
-    → PartAgrees create_request_form (written_create_request x) (a_structure 0x420079) (returned_create_request x)
-unfolding take_tag tag_of number transparent_name rule written_create_request returned_create_request written_object_type returned_template_attribute
+    → PartAgrees create_request_form (written_create_request x) (a_structure 0x420079) (read_create_request x)
+unfolding written_create_request read_create_request read_template_attribute
 create_request_agrees x is =
-    structure refl refl (part_then refl refl (object_type_agrees x.object_type is.0) (
-    part_then refl refl (template_attribute_agrees x.template_attribute is.1) nothing_left))
+    structure 0x420079 refl (leaf_then 0x420057 refl (as_number is.0) (
+    part_then 0x420091 refl refl (template_attribute_agrees x.template_attribute is.1) nothing_left))
 
 pub create_key_pair_request_agrees : {A : Type 0} (x : CreateKeyPairRequest A) → IsCreateKeyPairRequest x
-    → PartAgrees create_key_pair_request_form (written_create_key_pair_request x) (a_structure 0x420079) (returned_create_key_pair_request x)
-unfolding take_tag tag_of number transparent_name rule written_create_key_pair_request returned_create_key_pair_request returned_common_template_attribute
-    returned_private_key_template_attribute returned_public_key_template_attribute
+    → PartAgrees create_key_pair_request_form (written_create_key_pair_request x) (a_structure 0x420079) (read_create_key_pair_request x)
+unfolding written_create_key_pair_request read_create_key_pair_request read_common_template_attribute read_private_key_template_attribute
+    read_public_key_template_attribute
 create_key_pair_request_agrees x is =
     let b1 = option_behind x.public_key (a_structure 0x42006E) nothing_behind in
     let b2 = option_behind x.private_key (a_structure 0x420065) b1 in
-    structure refl refl (
-    optional_then written_common_template_attribute returned_common_template_attribute (a_structure 0x42001F) x.common refl (b2.other (codes "0x42001F") refl)
+    structure 0x420079 refl (
+    optional_then written_common_template_attribute read_common_template_attribute (a_structure 0x42001F) x.common refl (b2.other 0x42001F refl)
     (if_present common_template_attribute_agrees (λ y. refl) x.common is.0) (
-    optional_then written_private_key_template_attribute returned_private_key_template_attribute (a_structure 0x420065) x.private_key refl
-    (b1.other (codes "0x420065") refl) (if_present private_key_template_attribute_agrees (λ y. refl) x.private_key is.1) (
-    optional_then written_public_key_template_attribute returned_public_key_template_attribute (a_structure 0x42006E) x.public_key refl refl
+    optional_then written_private_key_template_attribute read_private_key_template_attribute (a_structure 0x420065) x.private_key refl (b1.other 0x420065 refl)
+    (if_present private_key_template_attribute_agrees (λ y. refl) x.private_key is.1) (
+    optional_then written_public_key_template_attribute read_public_key_template_attribute (a_structure 0x42006E) x.public_key refl refl
     (if_present public_key_template_attribute_agrees (λ y. refl) x.public_key is.2) nothing_left)))
 
 pub register_request_agrees : {A : Type 0} (x : RegisterRequest A) → IsRegisterRequest x
-    → PartAgrees register_request_form (written_register_request x) (a_structure 0x420079) (returned_register_request x)
-unfolding take_tag tag_of number transparent_name rule written_register_request returned_register_request written_object_type returned_template_attribute
-    returned_certificate returned_symmetric_key returned_public_key returned_private_key returned_split_key returned_template returned_secret_data
-    returned_opaque_object
+    → PartAgrees register_request_form (written_register_request x) (a_structure 0x420079) (read_register_request x)
+unfolding written_register_request read_register_request read_template_attribute certificate_value read_symmetric_key read_public_key read_private_key
+    read_split_key read_template read_secret_data opaque_object_value
 register_request_agrees x is =
     let b1 = option_behind x.opaque_object (a_structure 0x42005B) nothing_behind in
     let b2 = option_behind x.secret_data (a_structure 0x420085) b1 in
@@ -100,175 +97,164 @@ register_request_agrees x is =
     let b5 = option_behind x.private_key (a_structure 0x420064) b4 in
     let b6 = option_behind x.public_key (a_structure 0x42006D) b5 in
     let b7 = option_behind x.symmetric_key (a_structure 0x42008F) b6 in
-    structure refl refl (part_then refl refl (object_type_agrees x.object_type is.0) (
-    part_then refl refl (template_attribute_agrees x.template_attribute is.1) (
-    optional_then written_certificate returned_certificate (a_structure 0x420013) x.certificate refl (b7.other (codes "0x420013") refl)
+    structure 0x420079 refl (leaf_then 0x420057 refl (as_number is.0) (part_then 0x420091 refl refl (template_attribute_agrees x.template_attribute is.1) (
+    optional_same_then certificate_value (a_structure 0x420013) x.certificate refl (b7.other 0x420013 refl)
     (if_present certificate_agrees (λ y. refl) x.certificate is.2) (
-    optional_then (boxed written_symmetric_key) (boxed returned_symmetric_key) (a_structure 0x42008F) x.symmetric_key refl (b6.other (codes "0x42008F") refl)
+    optional_then (boxed written_symmetric_key) (boxed read_symmetric_key) (a_structure 0x42008F) x.symmetric_key refl (b6.other 0x42008F refl)
     (if_present (in_box symmetric_key_agrees) (λ y. refl) x.symmetric_key is.3) (
-    optional_then (boxed written_public_key) (boxed returned_public_key) (a_structure 0x42006D) x.public_key refl (b5.other (codes "0x42006D") refl)
+    optional_then (boxed written_public_key) (boxed read_public_key) (a_structure 0x42006D) x.public_key refl (b5.other 0x42006D refl)
     (if_present (in_box public_key_agrees) (λ y. refl) x.public_key is.4) (
-    optional_then (boxed written_private_key) (boxed returned_private_key) (a_structure 0x420064) x.private_key refl (b4.other (codes "0x420064") refl)
+    optional_then (boxed written_private_key) (boxed read_private_key) (a_structure 0x420064) x.private_key refl (b4.other 0x420064 refl)
     (if_present (in_box private_key_agrees) (λ y. refl) x.private_key is.5) (
-    optional_then (boxed written_split_key) (boxed returned_split_key) (a_structure 0x420089) x.split_key refl (b3.other (codes "0x420089") refl)
+    optional_then (boxed written_split_key) (boxed read_split_key) (a_structure 0x420089) x.split_key refl (b3.other 0x420089 refl)
     (if_present (in_box split_key_agrees) (λ y. refl) x.split_key is.6) (
-    optional_then written_template returned_template (a_structure 0x420090) x.template refl (b2.other (codes "0x420090") refl)
+    optional_then written_template read_template (a_structure 0x420090) x.template refl (b2.other 0x420090 refl)
     (if_present template_agrees (λ y. refl) x.template is.7) (
-    optional_then (boxed written_secret_data) (boxed returned_secret_data) (a_structure 0x420085) x.secret_data refl (b1.other (codes "0x420085") refl)
+    optional_then (boxed written_secret_data) (boxed read_secret_data) (a_structure 0x420085) x.secret_data refl (b1.other 0x420085 refl)
     (if_present (in_box secret_data_agrees) (λ y. refl) x.secret_data is.8) (
-    optional_then written_opaque_object returned_opaque_object (a_structure 0x42005B) x.opaque_object refl refl
-    (if_present opaque_object_agrees (λ y. refl) x.opaque_object is.9) nothing_left))))))))))
+    optional_same_then opaque_object_value (a_structure 0x42005B) x.opaque_object refl refl (if_present opaque_object_agrees (λ y. refl) x.opaque_object is.9)
+    nothing_left))))))))))
 
 pub maximum_items_agrees : (x : MaximumItems) → IsMaximumItems x
     → PartAgrees maximum_items_form (maximum_items_value x) (an_integer 0x42004F) (maximum_items_value x)
-unfolding take_tag tag_of number transparent_name
-maximum_items_agrees x is = leaf_part refl refl (as_int32 is)
+maximum_items_agrees x is = leaf_part 0x42004F refl (as_int32 is)
 
 pub storage_status_mask_agrees : (x : StorageStatusMask) → IsStorageStatusMask x
     → PartAgrees storage_status_mask_form (storage_status_mask_value x) (an_integer 0x42008E) (storage_status_mask_value x)
-unfolding take_tag tag_of number transparent_name
-storage_status_mask_agrees x is = leaf_part refl refl (as_int32 is)
+storage_status_mask_agrees x is = leaf_part 0x42008E refl (as_int32 is)
 
 pub locate_request_agrees : {A : Type 0} (x : LocateRequest A) → IsLocateRequest x
-    → PartAgrees locate_request_form (written_locate_request x) (a_structure 0x420079) (returned_locate_request x)
-unfolding take_tag tag_of number transparent_name rule written_locate_request returned_locate_request returned_attribute
+    → PartAgrees locate_request_form (written_locate_request x) (a_structure 0x420079) (read_locate_request x)
+unfolding written_locate_request read_locate_request read_attribute
 locate_request_agrees x is =
     let b1 = option_behind (first_of x.attributes.items) (a_structure 0x420008) nothing_behind in
     let b2 = option_behind x.storage_status_mask (an_integer 0x42008E) b1 in
-    structure refl refl (
-    optional_same_then maximum_items_value (an_integer 0x42004F) x.maximum_items refl (b2.other (codes "0x42004F") refl)
+    structure 0x420079 refl (
+    optional_same_then maximum_items_value (an_integer 0x42004F) x.maximum_items refl (b2.other 0x42004F refl)
     (if_present maximum_items_agrees (λ y. refl) x.maximum_items is.0) (
-    optional_same_then storage_status_mask_value (an_integer 0x42008E) x.storage_status_mask refl (b1.other (codes "0x42008E") refl)
+    optional_same_then storage_status_mask_value (an_integer 0x42008E) x.storage_status_mask refl (b1.other 0x42008E refl)
     (if_present storage_status_mask_agrees (λ y. refl) x.storage_status_mask is.1) (
-    any_then written_attribute returned_attribute (a_structure 0x420008) x.attributes.items refl refl
+    any_then written_attribute read_attribute (a_structure 0x420008) x.attributes.items refl refl
     (every_agrees attribute_agrees (λ y. refl) x.attributes.items is.2) nothing_left)))
 
 pub key_wrapping_specification_agrees : {A : Type 0} (x : KeyWrappingSpecification A) → IsKeyWrappingSpecification x
-    → PartAgrees key_wrapping_specification_form (written_key_wrapping_specification x) (a_structure 0x420047) (returned_key_wrapping_specification x)
-unfolding take_tag tag_of number transparent_name rule written_key_wrapping_specification returned_key_wrapping_specification written_wrapping_method
-    returned_encryption_key_information returned_mac_signature_key_information written_encoding_option
+    → PartAgrees key_wrapping_specification_form (written_key_wrapping_specification x) (a_structure 0x420047) (read_key_wrapping_specification x)
+unfolding written_key_wrapping_specification read_key_wrapping_specification read_encryption_key_information read_mac_signature_key_information
 key_wrapping_specification_agrees x is =
     let b1 = option_behind x.encoding_option (an_enumeration 0x4200A3) nothing_behind in
     let b2 = option_behind (first_of x.attribute_names.items) (a_text_string 0x42000A) b1 in
     let b3 = option_behind x.mac_signature_key_information (a_structure 0x42004E) b2 in
-    structure refl refl (part_then refl refl (wrapping_method_agrees x.wrapping_method is.0) (
-    optional_then written_encryption_key_information returned_encryption_key_information (a_structure 0x420036) x.encryption_key_information refl
-    (b3.other (codes "0x420036") refl) (if_present encryption_key_information_agrees (λ y. refl) x.encryption_key_information is.1) (
-    optional_then written_mac_signature_key_information returned_mac_signature_key_information (a_structure 0x42004E) x.mac_signature_key_information refl
-    (b2.other (codes "0x42004E") refl) (if_present mac_signature_key_information_agrees (λ y. refl) x.mac_signature_key_information is.2) (
-    any_then attribute_name_value attribute_name_value (a_text_string 0x42000A) x.attribute_names.items refl (b1.other (codes "0x42000A") refl)
+    structure 0x420047 refl (leaf_then 0x42009E refl (as_number is.0) (
+    optional_then written_encryption_key_information read_encryption_key_information (a_structure 0x420036) x.encryption_key_information refl
+    (b3.other 0x420036 refl) (if_present encryption_key_information_agrees (λ y. refl) x.encryption_key_information is.1) (
+    optional_then written_mac_signature_key_information read_mac_signature_key_information (a_structure 0x42004E) x.mac_signature_key_information refl
+    (b2.other 0x42004E refl) (if_present mac_signature_key_information_agrees (λ y. refl) x.mac_signature_key_information is.2) (
+    any_then attribute_name_value attribute_name_value (a_text_string 0x42000A) x.attribute_names.items refl (b1.other 0x42000A refl)
     (all_agree attribute_name_agrees (λ y. refl) x.attribute_names.items) (
-    optional_same_then written_encoding_option (an_enumeration 0x4200A3) x.encoding_option refl refl
-    (if_present encoding_option_agrees (λ y. refl) x.encoding_option is.3) nothing_left)))))
+    optional_same_then enumeration_value (an_enumeration 0x4200A3) x.encoding_option refl refl
+    (if_present (enumeration_agrees {t = 0x4200A3} refl) (λ y. refl) x.encoding_option is.3) nothing_left)))))
 
 pub get_request_agrees : {A : Type 0} (x : GetRequest A) → IsGetRequest x
-    → PartAgrees get_request_form (written_get_request x) (a_structure 0x420079) (returned_get_request x)
-unfolding take_tag tag_of number transparent_name rule written_get_request returned_get_request written_key_format_type written_key_compression_type
-    returned_key_wrapping_specification
+    → PartAgrees get_request_form (written_get_request x) (a_structure 0x420079) (read_get_request x)
+unfolding written_get_request read_get_request read_key_wrapping_specification
 get_request_agrees x is =
     let b1 = option_behind x.key_wrapping_specification (a_structure 0x420047) nothing_behind in
     let b2 = option_behind x.key_compression_type (an_enumeration 0x420041) b1 in
     let b3 = option_behind x.key_format_type (an_enumeration 0x420042) b2 in
-    structure refl refl (
-    optional_same_then (λ y. newtype_value (codes "Transparent:0x420094") (text_value (string_bytes y))) (a_text_string 0x420094) x.unique_identifier refl
-    (b3.other (codes "0x420094") refl) (present (λ y. leaf_part refl refl (as_text (text_is_utf8 y))) (λ y. refl) x.unique_identifier) (
-    optional_same_then written_key_format_type (an_enumeration 0x420042) x.key_format_type refl (b2.other (codes "0x420042") refl)
-    (if_present key_format_type_agrees (λ y. refl) x.key_format_type is.0) (
-    optional_same_then written_key_compression_type (an_enumeration 0x420041) x.key_compression_type refl (b1.other (codes "0x420041") refl)
-    (if_present key_compression_type_agrees (λ y. refl) x.key_compression_type is.1) (
-    optional_then (boxed written_key_wrapping_specification) (boxed returned_key_wrapping_specification) (a_structure 0x420047) x.key_wrapping_specification
-    refl refl (if_present (in_box key_wrapping_specification_agrees) (λ y. refl) x.key_wrapping_specification is.2) nothing_left))))
+    structure 0x420079 refl (
+    optional_same_then (λ y. tagged 0x420094 (text_value (string_bytes y))) (a_text_string 0x420094) x.unique_identifier refl (b3.other 0x420094 refl)
+    (present (λ y. leaf_part 0x420094 refl (as_text (text_is_utf8 y))) (λ y. refl) x.unique_identifier) (
+    optional_same_then enumeration_value (an_enumeration 0x420042) x.key_format_type refl (b2.other 0x420042 refl)
+    (if_present (enumeration_agrees {t = 0x420042} refl) (λ y. refl) x.key_format_type is.0) (
+    optional_same_then enumeration_value (an_enumeration 0x420041) x.key_compression_type refl (b1.other 0x420041 refl)
+    (if_present (enumeration_agrees {t = 0x420041} refl) (λ y. refl) x.key_compression_type is.1) (
+    optional_then (boxed written_key_wrapping_specification) (boxed read_key_wrapping_specification) (a_structure 0x420047) x.key_wrapping_specification refl
+    refl (if_present (in_box key_wrapping_specification_agrees) (λ y. refl) x.key_wrapping_specification is.2) nothing_left))))
 
 pub get_attributes_request_agrees : {A : Type 0} (x : GetAttributesRequest A)
     → PartAgrees get_attributes_request_form (written_get_attributes_request x) (a_structure 0x420079) (read_get_attributes_request x)
-unfolding take_tag tag_of number transparent_name rule written_get_attributes_request read_get_attributes_request
+unfolding written_get_attributes_request read_get_attributes_request
 get_attributes_request_agrees x =
     let b1 = option_behind (first_of x.attribute_names.items) (a_text_string 0x42000A) nothing_behind in
-    structure refl refl (
-    optional_same_then (λ y. newtype_value (codes "Transparent:0x420094") (text_value (string_bytes y))) (a_text_string 0x420094) x.unique_identifier refl
-    (b1.other (codes "0x420094") refl) (present (λ y. leaf_part refl refl (as_text (text_is_utf8 y))) (λ y. refl) x.unique_identifier) (
+    structure 0x420079 refl (
+    optional_same_then (λ y. tagged 0x420094 (text_value (string_bytes y))) (a_text_string 0x420094) x.unique_identifier refl (b1.other 0x420094 refl)
+    (present (λ y. leaf_part 0x420094 refl (as_text (text_is_utf8 y))) (λ y. refl) x.unique_identifier) (
     any_then attribute_name_value attribute_name_value (a_text_string 0x42000A) x.attribute_names.items refl refl
     (all_agree attribute_name_agrees (λ y. refl) x.attribute_names.items) nothing_left))
 
 pub attribute_request_agrees : {A : Type 0} (x : AttributeRequest A) → IsAttributeRequest x
-    → PartAgrees attribute_request_form (written_attribute_request x) (a_structure 0x420079) (returned_attribute_request x)
-unfolding take_tag tag_of number transparent_name rule written_attribute_request returned_attribute_request returned_attribute
+    → PartAgrees attribute_request_form (written_attribute_request x) (a_structure 0x420079) (read_attribute_request x)
+unfolding written_attribute_request read_attribute_request read_attribute
 attribute_request_agrees x is =
-    structure refl refl (
-    optional_same_then (λ y. newtype_value (codes "Transparent:0x420094") (text_value (string_bytes y))) (a_text_string 0x420094) x.unique_identifier refl refl
-    (present (λ y. leaf_part refl refl (as_text (text_is_utf8 y))) (λ y. refl) x.unique_identifier) (
-    part_then refl refl (attribute_agrees x.attribute is) nothing_left))
+    structure 0x420079 refl (
+    optional_same_then (λ y. tagged 0x420094 (text_value (string_bytes y))) (a_text_string 0x420094) x.unique_identifier refl refl
+    (present (λ y. leaf_part 0x420094 refl (as_text (text_is_utf8 y))) (λ y. refl) x.unique_identifier) (
+    part_then 0x420008 refl refl (attribute_agrees x.attribute is) nothing_left))
 
 pub delete_attribute_request_agrees : {A : Type 0} (x : DeleteAttributeRequest A) → IsDeleteAttributeRequest x
     → PartAgrees delete_attribute_request_form (written_delete_attribute_request x) (a_structure 0x420079) (read_delete_attribute_request x)
-unfolding take_tag tag_of number transparent_name rule written_delete_attribute_request read_delete_attribute_request
+unfolding written_delete_attribute_request read_delete_attribute_request
 delete_attribute_request_agrees x is =
-    structure refl refl (
-    optional_same_then (λ y. newtype_value (codes "Transparent:0x420094") (text_value (string_bytes y))) (a_text_string 0x420094) x.unique_identifier refl refl
-    (present (λ y. leaf_part refl refl (as_text (text_is_utf8 y))) (λ y. refl) x.unique_identifier) (
-    leaf_then refl refl refl refl (as_text (text_is_utf8 x.attribute_name)) (
+    structure 0x420079 refl (
+    optional_same_then (λ y. tagged 0x420094 (text_value (string_bytes y))) (a_text_string 0x420094) x.unique_identifier refl refl
+    (present (λ y. leaf_part 0x420094 refl (as_text (text_is_utf8 y))) (λ y. refl) x.unique_identifier) (
+    leaf_then 0x42000A refl (as_text (text_is_utf8 x.attribute_name)) (
     optional_same_then attribute_index_value (an_integer 0x420009) x.attribute_index refl refl
     (if_present attribute_index_agrees (λ y. refl) x.attribute_index is) nothing_left)))
 
 pub object_request_agrees : {A : Type 0} (x : ObjectRequest A)
     → PartAgrees object_request_form (written_object_request x) (a_structure 0x420079) (read_object_request x)
-unfolding take_tag tag_of number transparent_name rule written_object_request read_object_request
+unfolding written_object_request read_object_request
 object_request_agrees x =
-    structure refl refl (
-    optional_same_then (λ y. newtype_value (codes "Transparent:0x420094") (text_value (string_bytes y))) (a_text_string 0x420094) x.unique_identifier refl refl
-    (present (λ y. leaf_part refl refl (as_text (text_is_utf8 y))) (λ y. refl) x.unique_identifier) nothing_left)
+    structure 0x420079 refl (
+    optional_same_then (λ y. tagged 0x420094 (text_value (string_bytes y))) (a_text_string 0x420094) x.unique_identifier refl refl
+    (present (λ y. leaf_part 0x420094 refl (as_text (text_is_utf8 y))) (λ y. refl) x.unique_identifier) nothing_left)
 
 pub revocation_reason_given_agrees : {A : Type 0} (x : RevocationReasonGiven A) → IsRevocationReasonGiven x
-    → PartAgrees revocation_reason_given_form (written_revocation_reason_given x) (a_structure 0x420081) (returned_revocation_reason_given x)
-unfolding take_tag tag_of number transparent_name rule written_revocation_reason_given returned_revocation_reason_given written_revocation_reason_code
+    → PartAgrees revocation_reason_given_form (written_revocation_reason_given x) (a_structure 0x420081) (read_revocation_reason_given x)
+unfolding written_revocation_reason_given read_revocation_reason_given
 revocation_reason_given_agrees x is =
-    structure refl refl (part_then refl refl (revocation_reason_code_agrees x.code is) (
-    optional_same_then (λ y. newtype_value (codes "Transparent:0x420080") (text_value (string_bytes y))) (a_text_string 0x420080) x.message refl refl
-    (present (λ y. leaf_part refl refl (as_text (text_is_utf8 y))) (λ y. refl) x.message) nothing_left))
+    structure 0x420081 refl (leaf_then 0x420082 refl (as_number is) (
+    optional_same_then (λ y. tagged 0x420080 (text_value (string_bytes y))) (a_text_string 0x420080) x.message refl refl
+    (present (λ y. leaf_part 0x420080 refl (as_text (text_is_utf8 y))) (λ y. refl) x.message) nothing_left))
 
 pub compromise_occurrence_date_agrees : (x : CompromiseOccurrenceDate) → IsCompromiseOccurrenceDate x
     → PartAgrees compromise_occurrence_date_form (compromise_occurrence_date_value x) (a_date_time 0x420021) (compromise_occurrence_date_value x)
-unfolding take_tag tag_of number transparent_name
-compromise_occurrence_date_agrees x is = leaf_part refl refl (as_date_time is)
+compromise_occurrence_date_agrees x is = leaf_part 0x420021 refl (as_date_time is)
 
 pub revoke_request_agrees : {A : Type 0} (x : RevokeRequest A) → IsRevokeRequest x
-    → PartAgrees revoke_request_form (written_revoke_request x) (a_structure 0x420079) (returned_revoke_request x)
-unfolding take_tag tag_of number transparent_name rule written_revoke_request returned_revoke_request returned_revocation_reason_given
+    → PartAgrees revoke_request_form (written_revoke_request x) (a_structure 0x420079) (read_revoke_request x)
+unfolding written_revoke_request read_revoke_request read_revocation_reason_given
 revoke_request_agrees x is =
-    structure refl refl (
-    optional_same_then (λ y. newtype_value (codes "Transparent:0x420094") (text_value (string_bytes y))) (a_text_string 0x420094) x.unique_identifier refl refl
-    (present (λ y. leaf_part refl refl (as_text (text_is_utf8 y))) (λ y. refl) x.unique_identifier) (
-    part_then refl refl (revocation_reason_given_agrees x.revocation_reason is.0) (
+    structure 0x420079 refl (
+    optional_same_then (λ y. tagged 0x420094 (text_value (string_bytes y))) (a_text_string 0x420094) x.unique_identifier refl refl
+    (present (λ y. leaf_part 0x420094 refl (as_text (text_is_utf8 y))) (λ y. refl) x.unique_identifier) (
+    part_then 0x420081 refl refl (revocation_reason_given_agrees x.revocation_reason is.0) (
     optional_same_then compromise_occurrence_date_value (a_date_time 0x420021) x.compromise_occurrence_date refl refl
     (if_present compromise_occurrence_date_agrees (λ y. refl) x.compromise_occurrence_date is.1) nothing_left)))
 
-pub query_function_agrees : (x : QueryFunction) → IsQueryFunction x
-    → PartAgrees query_function_form (written_query_function x) (an_enumeration 0x420074) (written_query_function x)
-unfolding take_tag tag_of number transparent_name written_query_function
-query_function_agrees x is = leaf_part refl refl (as_number is)
-
 pub query_request_agrees : {A : Type 0} (x : QueryRequest A) → IsQueryRequest x
-    → PartAgrees query_request_form (written_query_request x) (a_structure 0x420079) (returned_query_request x)
-unfolding take_tag tag_of number transparent_name rule written_query_request returned_query_request written_query_function
+    → PartAgrees query_request_form (query_request_value x) (a_structure 0x420079) (query_request_value x)
+unfolding query_request_value
 query_request_agrees x is =
-    structure refl refl (
-    several_then written_query_function written_query_function (an_enumeration 0x420074) x.functions.items refl refl is.0
-    (every_agrees query_function_agrees (λ y. refl) x.functions.items is.1) nothing_left)
+    structure 0x420079 refl (
+    several_then enumeration_value enumeration_value (an_enumeration 0x420074) x.functions.items refl refl is.0
+    (every_agrees (enumeration_agrees {t = 0x420074} refl) (λ y. refl) x.functions.items is.1) nothing_left)
 
 pub discover_versions_request_agrees : {A : Type 0} (x : DiscoverVersionsRequest A) → IsDiscoverVersionsRequest x
     → PartAgrees discover_versions_request_form (written_discover_versions_request x) (a_structure 0x420079) (read_discover_versions_request x)
-unfolding take_tag tag_of number transparent_name rule written_discover_versions_request read_discover_versions_request protocol_version_value
+unfolding written_discover_versions_request read_discover_versions_request protocol_version_value
 discover_versions_request_agrees x is =
-    structure refl refl (
+    structure 0x420079 refl (
     any_then protocol_version_value protocol_version_value (a_structure 0x420069) x.versions.items refl refl
     (every_agrees protocol_version_agrees (λ y. refl) x.versions.items is) nothing_left)
 
-pub request_payload_single : {A : Type 0} (x : RequestPayload A) → is_run (returned_request_payload x) ≡ false
-unfolding written_request_payload returned_request_payload written_create_request returned_create_request written_create_key_pair_request
-    returned_create_key_pair_request written_register_request returned_register_request written_locate_request returned_locate_request written_get_request
-    returned_get_request written_get_attributes_request read_get_attributes_request written_object_request read_object_request written_attribute_request
-    returned_attribute_request written_delete_attribute_request read_delete_attribute_request written_revoke_request returned_revoke_request
-    written_query_request returned_query_request written_discover_versions_request read_discover_versions_request
+pub request_payload_single : {A : Type 0} (x : RequestPayload A) → is_run (read_request_payload x) ≡ false
+unfolding written_request_payload read_request_payload written_create_request read_create_request written_create_key_pair_request read_create_key_pair_request
+    written_register_request read_register_request written_locate_request read_locate_request written_get_request read_get_request
+    written_get_attributes_request read_get_attributes_request written_object_request read_object_request written_attribute_request read_attribute_request
+    written_delete_attribute_request read_delete_attribute_request written_revoke_request read_revoke_request query_request_value
+    written_discover_versions_request read_discover_versions_request
 request_payload_single (request_payload.Create x) = refl
 request_payload_single (request_payload.CreateKeyPair x) = refl
 request_payload_single (request_payload.Register x) = refl
@@ -286,13 +272,13 @@ request_payload_single (request_payload.Query x) = refl
 request_payload_single (request_payload.DiscoverVersions x) = refl
 
 pub request_payload_agrees : {A : Type 0} (said : List ℕ) (x : RequestPayload A) → ChoosesRequestPayload said x → IsRequestPayload x
-    → PartAfter 0x42005C said request_payload_form (written_request_payload x) (a_structure 0x420079) (returned_request_payload x)
+    → PartAfter 0x42005C said request_payload_form (written_request_payload x) (a_structure 0x420079) (read_request_payload x)
 unfolding take_tag tag_of number transparent_name override_name pending_after is_wrapper rule sides equal at_least member in_brackets trim_end chars trim_start
-    encode written_request_payload returned_request_payload written_create_request returned_create_request written_create_key_pair_request
-    returned_create_key_pair_request written_register_request returned_register_request written_locate_request returned_locate_request written_get_request
-    returned_get_request written_get_attributes_request read_get_attributes_request written_object_request read_object_request written_attribute_request
-    returned_attribute_request written_delete_attribute_request read_delete_attribute_request written_revoke_request returned_revoke_request
-    written_query_request returned_query_request written_discover_versions_request read_discover_versions_request
+    encode written_request_payload read_request_payload written_create_request read_create_request written_create_key_pair_request read_create_key_pair_request
+    written_register_request read_register_request written_locate_request read_locate_request written_get_request read_get_request
+    written_get_attributes_request read_get_attributes_request written_object_request read_object_request written_attribute_request read_attribute_request
+    written_delete_attribute_request read_delete_attribute_request written_revoke_request read_revoke_request query_request_value
+    written_discover_versions_request read_discover_versions_request
 request_payload_agrees said (request_payload.Create x) chosen is =
     chosen_after first_variant (λ k found. rw (found ∙ ap Some chosen) refl) (create_request_agrees x is)
 request_payload_agrees said (request_payload.CreateKeyPair x) chosen is =

@@ -1,28 +1,28 @@
 -- Written by codegen from types.table: change that, and run codegen/codegen.
 -- Which values of each type are sound: what was encoded of them is decoded again.
-use Rattle.kmip_ttlv.specs.Boxes.{IsBoxed}
-use Rattle.kmip_ttlv.specs.MessageParts.{there}
+use Rattle.kmip_ttlv_parts.specs.Boxes.{IsBoxed}
+use Rattle.kmip_ttlv_parts.specs.Enumerations.{IsEnumeration}
+use Rattle.kmip_ttlv_parts.specs.MessageParts.{there}
 use Rattle.std.specs.Int.{w32, w64}
-use Rattle.std.specs.Prelude.{All, FitsSigned, IfSome, length, ◌+◌, ◌<◌, ◌^◌, ◌≡◌}
+use Rattle.std.specs.Prelude.{All, FitsSigned, IfSome, length, ◌+◌, ◌<◌, ◌≡◌}
 use Rattle.kmip_requests.specs.declared.request_payload.{CreateRequest.CreateRequest, CreateKeyPairRequest.CreateKeyPairRequest}
 use Rattle.kmip_requests.specs.declared.request_payload.{RegisterRequest.RegisterRequest, MaximumItems.MaximumItems, StorageStatusMask.StorageStatusMask}
 use Rattle.kmip_requests.specs.declared.request_payload.{LocateRequest.LocateRequest, KeyWrappingSpecification.KeyWrappingSpecification, GetRequest.GetRequest}
 use Rattle.kmip_requests.specs.declared.request_payload.{AttributeRequest.AttributeRequest, DeleteAttributeRequest.DeleteAttributeRequest}
 use Rattle.kmip_requests.specs.declared.request_payload.{RevocationReasonGiven.RevocationReasonGiven, CompromiseOccurrenceDate.CompromiseOccurrenceDate}
-use Rattle.kmip_requests.specs.declared.request_payload.{RevokeRequest.RevokeRequest, QueryFunction.QueryFunction, QueryRequest.QueryRequest}
+use Rattle.kmip_requests.specs.declared.request_payload.{RevokeRequest.RevokeRequest, QueryRequest.QueryRequest}
 use Rattle.kmip_requests.specs.declared.request_payload.{DiscoverVersionsRequest.DiscoverVersionsRequest, RequestPayload.RequestPayload}
 use Rattle.kmip_requests.specs.declared.request_payload.RequestPayload.TheVariants as request_payload
-use Rattle.kmip_requests.specs.RequestPayloads.{query_function_number}
-use Rattle.kmip_attributes.specs.Soundness.{IsObjectType, IsAttribute, IsKeyFormatType, IsAttributeIndex, IsRevocationReasonCode}
 use Rattle.kmip_objects.specs.Soundness.{IsTemplateAttribute, IsCommonTemplateAttribute, IsPrivateKeyTemplateAttribute, IsPublicKeyTemplateAttribute}
 use Rattle.kmip_objects.specs.Soundness.{IsCertificate, IsSymmetricKey, IsPublicKey, IsPrivateKey, IsSplitKey, IsTemplate, IsSecretData, IsOpaqueObject}
-use Rattle.kmip_objects.specs.Soundness.{IsWrappingMethod, IsEncryptionKeyInformation, IsMacSignatureKeyInformation, IsEncodingOption, IsKeyCompressionType}
+use Rattle.kmip_objects.specs.Soundness.{IsEncryptionKeyInformation, IsMacSignatureKeyInformation}
+use Rattle.kmip_attributes.specs.Soundness.{IsAttribute, IsAttributeIndex}
 use Rattle.kmip_headers.specs.Soundness.{IsProtocolVersion}
 
 -- which values of `CreateRequest` are sound
 abbrev pub IsCreateRequest : {A : Type 0} → CreateRequest A → Type 0
 IsCreateRequest x =
-    IsObjectType x.object_type
+    IsEnumeration x.object_type
     × IsTemplateAttribute x.template_attribute
 
 -- which values of `CreateKeyPairRequest` are sound
@@ -35,7 +35,7 @@ IsCreateKeyPairRequest x =
 -- which values of `RegisterRequest` are sound
 abbrev pub IsRegisterRequest : {A : Type 0} → RegisterRequest A → Type 0
 IsRegisterRequest x =
-    IsObjectType x.object_type
+    IsEnumeration x.object_type
     × IsTemplateAttribute x.template_attribute
     × IfSome x.certificate IsCertificate
     × IfSome x.symmetric_key (IsBoxed IsSymmetricKey)
@@ -68,16 +68,16 @@ IsLocateRequest x =
 -- which values of `KeyWrappingSpecification` are sound
 abbrev pub IsKeyWrappingSpecification : {A : Type 0} → KeyWrappingSpecification A → Type 0
 IsKeyWrappingSpecification x =
-    IsWrappingMethod x.wrapping_method
+    IsEnumeration x.wrapping_method
     × IfSome x.encryption_key_information IsEncryptionKeyInformation
     × IfSome x.mac_signature_key_information IsMacSignatureKeyInformation
-    × IfSome x.encoding_option IsEncodingOption
+    × IfSome x.encoding_option IsEnumeration
 
 -- which values of `GetRequest` are sound
 abbrev pub IsGetRequest : {A : Type 0} → GetRequest A → Type 0
 IsGetRequest x =
-    IfSome x.key_format_type IsKeyFormatType
-    × IfSome x.key_compression_type IsKeyCompressionType
+    IfSome x.key_format_type IsEnumeration
+    × IfSome x.key_compression_type IsEnumeration
     × IfSome x.key_wrapping_specification (IsBoxed IsKeyWrappingSpecification)
 
 -- which values of `AttributeRequest` are sound
@@ -93,7 +93,7 @@ IsDeleteAttributeRequest x =
 -- which values of `RevocationReasonGiven` are sound
 abbrev pub IsRevocationReasonGiven : {A : Type 0} → RevocationReasonGiven A → Type 0
 IsRevocationReasonGiven x =
-    IsRevocationReasonCode x.code
+    IsEnumeration x.code
 
 -- which values of `CompromiseOccurrenceDate` are sound
 abbrev pub IsCompromiseOccurrenceDate : CompromiseOccurrenceDate → Type 0
@@ -106,16 +106,11 @@ IsRevokeRequest x =
     IsRevocationReasonGiven x.revocation_reason
     × IfSome x.compromise_occurrence_date IsCompromiseOccurrenceDate
 
--- which values of `QueryFunction` are sound
-abbrev pub IsQueryFunction : QueryFunction → Type 0
-IsQueryFunction x =
-    (query_function_number x < 2 ^ 32)
-
 -- which values of `QueryRequest` are sound
 abbrev pub IsQueryRequest : {A : Type 0} → QueryRequest A → Type 0
 IsQueryRequest x =
     (0 < length x.functions.items)
-    × All IsQueryFunction x.functions.items
+    × All IsEnumeration x.functions.items
 
 -- which values of `DiscoverVersionsRequest` are sound
 abbrev pub IsDiscoverVersionsRequest : {A : Type 0} → DiscoverVersionsRequest A → Type 0

@@ -1,42 +1,40 @@
 // Written by codegen from types.table: change that, and run codegen/codegen.
-//! What was written is read back: the laws of `kmip_ttlv::laws`, at these messages.
+//! What was written is read back: the laws of `kmip_ttlv_parts::laws`, at these messages.
 
 ghost use Rattle.std.specs.Prelude.{◌≡◌};
-ghost use Rattle.kmip_ttlv.specs.Equal.{AreEqual, ReturnsEqual};
-ghost use Rattle.kmip_requests.specs.RequestPayloads.{returned_create_request, read_create_request, returned_create_key_pair_request, read_create_key_pair_request, returned_register_request, read_register_request, maximum_items_value, storage_status_mask_value, returned_locate_request, read_locate_request, returned_key_wrapping_specification, read_key_wrapping_specification, returned_get_request, read_get_request, read_get_attributes_request, returned_attribute_request, read_attribute_request, read_delete_attribute_request, read_object_request, returned_revocation_reason_given, read_revocation_reason_given, compromise_occurrence_date_value, returned_revoke_request, read_revoke_request, written_query_function, read_query_function, returned_query_request, read_query_request, read_discover_versions_request, returned_request_payload, read_request_payload};
-ghost use Rattle.kmip_requests.specs.Soundness.{IsCreateRequest, IsCreateKeyPairRequest, IsRegisterRequest, IsMaximumItems, IsStorageStatusMask, IsLocateRequest, IsKeyWrappingSpecification, IsGetRequest, IsAttributeRequest, IsDeleteAttributeRequest, IsRevocationReasonGiven, IsCompromiseOccurrenceDate, IsRevokeRequest, IsQueryFunction, IsQueryRequest, IsDiscoverVersionsRequest, IsRequestPayload};
+ghost use Rattle.kmip_ttlv_parts.specs.Equal.{AreEqual};
+ghost use Rattle.kmip_requests.specs.RequestPayloads.{read_create_request, read_create_key_pair_request, read_register_request, maximum_items_value, storage_status_mask_value, read_locate_request, read_key_wrapping_specification, read_get_request, read_get_attributes_request, read_attribute_request, read_delete_attribute_request, read_object_request, read_revocation_reason_given, compromise_occurrence_date_value, read_revoke_request, query_request_value, read_discover_versions_request, read_request_payload};
+ghost use Rattle.kmip_requests.specs.Soundness.{IsCreateRequest, IsCreateKeyPairRequest, IsRegisterRequest, IsMaximumItems, IsStorageStatusMask, IsLocateRequest, IsKeyWrappingSpecification, IsGetRequest, IsAttributeRequest, IsDeleteAttributeRequest, IsRevocationReasonGiven, IsCompromiseOccurrenceDate, IsRevokeRequest, IsQueryRequest, IsDiscoverVersionsRequest, IsRequestPayload};
 
 use crate::request_payload::{
     AttributeRequest, CompromiseOccurrenceDate, CreateKeyPairRequest, CreateRequest,
     DeleteAttributeRequest, DiscoverVersionsRequest, GetAttributesRequest, GetRequest,
-    KeyWrappingSpecification, LocateRequest, MaximumItems, ObjectRequest, QueryFunction,
-    QueryRequest, RegisterRequest, RequestPayload, RevocationReasonGiven, RevokeRequest,
-    StorageStatusMask,
+    KeyWrappingSpecification, LocateRequest, MaximumItems, ObjectRequest, QueryRequest,
+    RegisterRequest, RequestPayload, RevocationReasonGiven, RevokeRequest, StorageStatusMask,
 };
-use kmip_ttlv::laws::Sound;
+use kmip_ttlv_parts::laws::Sound;
 use std::alloc::Allocator;
 
 /// Values of a type are equal if they stand for the same: no type loses a part of what it is decoded from.
 pub fn equal_values<A: Allocator>()
-    ensures create_request { ReturnsEqual returned_create_request read_create_request ⟦<CreateRequest<A> as PartialEq>⟧.eq }
-    ensures create_key_pair_request { ReturnsEqual returned_create_key_pair_request read_create_key_pair_request ⟦<CreateKeyPairRequest<A> as PartialEq>⟧.eq }
-    ensures register_request { ReturnsEqual returned_register_request read_register_request ⟦<RegisterRequest<A> as PartialEq>⟧.eq }
+    ensures create_request { AreEqual read_create_request ⟦<CreateRequest<A> as PartialEq>⟧.eq }
+    ensures create_key_pair_request { AreEqual read_create_key_pair_request ⟦<CreateKeyPairRequest<A> as PartialEq>⟧.eq }
+    ensures register_request { AreEqual read_register_request ⟦<RegisterRequest<A> as PartialEq>⟧.eq }
     ensures maximum_items { AreEqual maximum_items_value ⟦<MaximumItems as PartialEq>⟧.eq }
     ensures storage_status_mask { AreEqual storage_status_mask_value ⟦<StorageStatusMask as PartialEq>⟧.eq }
-    ensures locate_request { ReturnsEqual returned_locate_request read_locate_request ⟦<LocateRequest<A> as PartialEq>⟧.eq }
-    ensures key_wrapping_specification { ReturnsEqual returned_key_wrapping_specification read_key_wrapping_specification ⟦<KeyWrappingSpecification<A> as PartialEq>⟧.eq }
-    ensures get_request { ReturnsEqual returned_get_request read_get_request ⟦<GetRequest<A> as PartialEq>⟧.eq }
+    ensures locate_request { AreEqual read_locate_request ⟦<LocateRequest<A> as PartialEq>⟧.eq }
+    ensures key_wrapping_specification { AreEqual read_key_wrapping_specification ⟦<KeyWrappingSpecification<A> as PartialEq>⟧.eq }
+    ensures get_request { AreEqual read_get_request ⟦<GetRequest<A> as PartialEq>⟧.eq }
     ensures get_attributes_request { AreEqual read_get_attributes_request ⟦<GetAttributesRequest<A> as PartialEq>⟧.eq }
-    ensures attribute_request { ReturnsEqual returned_attribute_request read_attribute_request ⟦<AttributeRequest<A> as PartialEq>⟧.eq }
+    ensures attribute_request { AreEqual read_attribute_request ⟦<AttributeRequest<A> as PartialEq>⟧.eq }
     ensures delete_attribute_request { AreEqual read_delete_attribute_request ⟦<DeleteAttributeRequest<A> as PartialEq>⟧.eq }
     ensures object_request { AreEqual read_object_request ⟦<ObjectRequest<A> as PartialEq>⟧.eq }
-    ensures revocation_reason_given { ReturnsEqual returned_revocation_reason_given read_revocation_reason_given ⟦<RevocationReasonGiven<A> as PartialEq>⟧.eq }
+    ensures revocation_reason_given { AreEqual read_revocation_reason_given ⟦<RevocationReasonGiven<A> as PartialEq>⟧.eq }
     ensures compromise_occurrence_date { AreEqual compromise_occurrence_date_value ⟦<CompromiseOccurrenceDate as PartialEq>⟧.eq }
-    ensures revoke_request { ReturnsEqual returned_revoke_request read_revoke_request ⟦<RevokeRequest<A> as PartialEq>⟧.eq }
-    ensures query_function { ReturnsEqual written_query_function read_query_function ⟦<QueryFunction as PartialEq>⟧.eq }
-    ensures query_request { ReturnsEqual returned_query_request read_query_request ⟦<QueryRequest<A> as PartialEq>⟧.eq }
+    ensures revoke_request { AreEqual read_revoke_request ⟦<RevokeRequest<A> as PartialEq>⟧.eq }
+    ensures query_request { AreEqual query_request_value ⟦<QueryRequest<A> as PartialEq>⟧.eq }
     ensures discover_versions_request { AreEqual read_discover_versions_request ⟦<DiscoverVersionsRequest<A> as PartialEq>⟧.eq }
-    ensures request_payload { ReturnsEqual returned_request_payload read_request_payload ⟦<RequestPayload<A> as PartialEq>⟧.eq }
+    ensures request_payload { AreEqual read_request_payload ⟦<RequestPayload<A> as PartialEq>⟧.eq }
 {
     kmip_attributes::laws::equal_values::<A>();
     kmip_objects::laws::equal_values::<A>();
@@ -161,14 +159,6 @@ impl<A: Allocator> Sound for RevokeRequest<A> {
 
     fn is_sound(&self) -> bool {
         self.revocation_reason.is_sound() && self.compromise_occurrence_date.is_sound()
-    }
-}
-
-impl Sound for QueryFunction {
-    ghost IsSound = { IsQueryFunction };
-
-    fn is_sound(&self) -> bool {
-        self.number().is_sound()
     }
 }
 

@@ -1,11 +1,8 @@
 // Written by codegen from types.table: change that, and run codegen/codegen.
 //! What is asked for (KMIP 1.0, section 4).
 
-ghost use Rattle.std.specs.Prelude.{◌≡◌, ◌↔◌, ◌==◌, refl, IsTrue, Some, codes, true};
-ghost use Rattle.std.proofs.Common.{rules};
-ghost use Rattle.std.specs.Cmp.Rules.{comparing};
-ghost use Rattle.std.specs.Ordering.{on};
-ghost use Rattle.kmip_requests.specs.RequestPayloads.{create_request_form, written_create_request, read_create_request, create_key_pair_request_form, written_create_key_pair_request, read_create_key_pair_request, register_request_form, written_register_request, read_register_request, IsRegisterRequestObject, maximum_items_form, maximum_items_value, storage_status_mask_form, storage_status_mask_value, locate_request_form, written_locate_request, read_locate_request, key_wrapping_specification_form, written_key_wrapping_specification, read_key_wrapping_specification, get_request_form, written_get_request, read_get_request, get_attributes_request_form, written_get_attributes_request, read_get_attributes_request, attribute_request_form, written_attribute_request, read_attribute_request, delete_attribute_request_form, written_delete_attribute_request, read_delete_attribute_request, object_request_form, written_object_request, read_object_request, revocation_reason_given_form, written_revocation_reason_given, read_revocation_reason_given, compromise_occurrence_date_form, compromise_occurrence_date_value, revoke_request_form, written_revoke_request, read_revoke_request, query_function_form, written_query_function, read_query_function, query_function_number, query_function_read_number, query_request_form, written_query_request, read_query_request, discover_versions_request_form, written_discover_versions_request, read_discover_versions_request, request_payload_form, written_request_payload, read_request_payload, ChoosesRequestPayload, request_payload_variants_4, request_payload_variants_8, request_payload_variants_12, ChoosesRequestPayloadNumber};
+ghost use Rattle.std.specs.Prelude.{◌↔◌, refl, IsTrue, codes, true};
+ghost use Rattle.kmip_requests.specs.RequestPayloads.{create_request_form, written_create_request, read_create_request, create_key_pair_request_form, written_create_key_pair_request, read_create_key_pair_request, register_request_form, written_register_request, read_register_request, IsRegisterRequestObject, maximum_items_form, maximum_items_value, storage_status_mask_form, storage_status_mask_value, locate_request_form, written_locate_request, read_locate_request, key_wrapping_specification_form, written_key_wrapping_specification, read_key_wrapping_specification, get_request_form, written_get_request, read_get_request, get_attributes_request_form, written_get_attributes_request, read_get_attributes_request, attribute_request_form, written_attribute_request, read_attribute_request, delete_attribute_request_form, written_delete_attribute_request, read_delete_attribute_request, object_request_form, written_object_request, read_object_request, revocation_reason_given_form, written_revocation_reason_given, read_revocation_reason_given, compromise_occurrence_date_form, compromise_occurrence_date_value, revoke_request_form, written_revoke_request, read_revoke_request, query_request_form, query_request_value, discover_versions_request_form, written_discover_versions_request, read_discover_versions_request, request_payload_form, written_request_payload, read_request_payload, ChoosesRequestPayload, request_payload_variants_4, request_payload_variants_8, request_payload_variants_12, ChoosesRequestPayloadNumber};
 
 use kmip_attributes::attribute::{Attribute, AttributeIndex, AttributeName};
 use kmip_attributes::values::{KeyFormatType, ObjectType, RevocationReasonCode};
@@ -22,11 +19,11 @@ use kmip_objects::template::{
     CommonTemplateAttribute, PrivateKeyTemplateAttribute, PublicKeyTemplateAttribute,
     TemplateAttribute,
 };
-use kmip_ttlv::messages::writing;
-use kmip_ttlv::shape::Serialize;
-use kmip_ttlv::types::TtlvType;
-use kmip_ttlv::visit::Visitor;
-use kmip_ttlv::{Boxed, reader};
+use kmip_ttlv_parts::messages::writing;
+use kmip_ttlv_parts::shape::Serialize;
+use kmip_ttlv_parts::types::TtlvType;
+use kmip_ttlv_parts::visit::{Leaf, Visitor};
+use kmip_ttlv_parts::{Boxed, Enumeration, reader};
 use std::alloc::{AllocError, Allocator, Global};
 
 /// A symmetric key is to be made (section 4.1).
@@ -44,10 +41,10 @@ impl<B: Allocator> Serialize for CreateRequest<B> {
 
     #[tactic(auto, unfolding(crate::specs::RequestPayloads::written_create_request))]
     fn visit<V: Visitor>(&self, visitor: &mut V) -> Result<(), AllocError> {
-        writing::begin_struct(visitor, "0x420079")?;
+        writing::begin_structure(visitor, 0x420079)?;
         self.object_type.visit(visitor)?;
         self.template_attribute.visit(visitor)?;
-        writing::end_struct(visitor, "0x420079")?;
+        writing::end_structure(visitor, 0x420079)?;
         Ok(())
     }
 }
@@ -70,10 +67,9 @@ impl<A: Allocator + Copy> reader::ReadStructure<A> for CreateRequest<A> {
 
     const DENIES_UNKNOWN: bool = true;
 
-    #[tactic(auto, unfolding(kmip_ttlv_types::specs::Digits::six_digits))]
     fn has_form() {}
 
-    #[tactic(auto, unfolding(kmip_ttlv_types::specs::Digits::six_digits, crate::specs::RequestPayloads::read_create_request))]
+    #[tactic(auto, unfolding(crate::specs::RequestPayloads::read_create_request))]
     fn from_fields(fields: (ObjectType, TemplateAttribute<A>)) -> Self {
         let (object_type, template_attribute) = fields;
         CreateRequest {
@@ -118,11 +114,11 @@ impl<B: Allocator> Serialize for CreateKeyPairRequest<B> {
     ghost stated = { written_create_key_pair_request };
 
     fn visit<V: Visitor>(&self, visitor: &mut V) -> Result<(), AllocError> {
-        writing::begin_struct(visitor, "0x420079")?;
+        writing::begin_structure(visitor, 0x420079)?;
         writing::option(visitor, &self.common)?;
         writing::option(visitor, &self.private_key)?;
         writing::option(visitor, &self.public_key)?;
-        writing::end_struct(visitor, "0x420079")?;
+        writing::end_structure(visitor, 0x420079)?;
         Ok(())
     }
 }
@@ -146,10 +142,9 @@ impl<A: Allocator + Copy> reader::ReadStructure<A> for CreateKeyPairRequest<A> {
 
     const DENIES_UNKNOWN: bool = true;
 
-    #[tactic(auto, unfolding(kmip_ttlv_types::specs::Digits::six_digits))]
     fn has_form() {}
 
-    #[tactic(auto, unfolding(kmip_ttlv_types::specs::Digits::six_digits, crate::specs::RequestPayloads::read_create_key_pair_request))]
+    #[tactic(auto, unfolding(crate::specs::RequestPayloads::read_create_key_pair_request))]
     fn from_fields(
         fields: (
             Option<CommonTemplateAttribute<A>>,
@@ -259,7 +254,7 @@ impl<B: Allocator> Serialize for RegisterRequest<B> {
     ghost stated = { written_register_request };
 
     fn visit<V: Visitor>(&self, visitor: &mut V) -> Result<(), AllocError> {
-        writing::begin_struct(visitor, "0x420079")?;
+        writing::begin_structure(visitor, 0x420079)?;
         self.object_type.visit(visitor)?;
         self.template_attribute.visit(visitor)?;
         writing::option(visitor, &self.certificate)?;
@@ -270,7 +265,7 @@ impl<B: Allocator> Serialize for RegisterRequest<B> {
         writing::option(visitor, &self.template)?;
         writing::option(visitor, &self.secret_data)?;
         writing::option(visitor, &self.opaque_object)?;
-        writing::end_struct(visitor, "0x420079")?;
+        writing::end_structure(visitor, 0x420079)?;
         Ok(())
     }
 }
@@ -305,10 +300,9 @@ impl<A: Allocator + Copy> reader::ReadStructure<A> for RegisterRequest<A> {
 
     const DENIES_UNKNOWN: bool = true;
 
-    #[tactic(auto, unfolding(kmip_ttlv_types::specs::Digits::six_digits))]
     fn has_form() {}
 
-    #[tactic(auto, unfolding(kmip_ttlv_types::specs::Digits::six_digits, crate::specs::RequestPayloads::read_register_request))]
+    #[tactic(auto, unfolding(crate::specs::RequestPayloads::read_register_request))]
     fn from_fields(
         fields: (
             ObjectType,
@@ -376,7 +370,7 @@ impl Serialize for MaximumItems {
     ghost stated = { maximum_items_value };
 
     fn visit<V: Visitor>(&self, visitor: &mut V) -> Result<(), AllocError> {
-        writing::integer(visitor, "Transparent:0x42004F", self.count)?;
+        writing::tagged(visitor, 0x42004F, Leaf::I32(self.count))?;
         Ok(())
     }
 }
@@ -388,7 +382,6 @@ impl<A: Allocator + Copy> reader::ReadItem<A> for MaximumItems {
 
     ghost plain = { (refl, refl) };
 
-    #[tactic(auto, unfolding(kmip_ttlv_types::specs::Digits::six_digits))]
     fn read_item<'b>(
         scope: &reader::Scope<'b, A>,
         cursor: &mut reader::Cursor<'b, A>,
@@ -409,7 +402,7 @@ impl Serialize for StorageStatusMask {
     ghost stated = { storage_status_mask_value };
 
     fn visit<V: Visitor>(&self, visitor: &mut V) -> Result<(), AllocError> {
-        writing::integer(visitor, "Transparent:0x42008E", self.mask)?;
+        writing::tagged(visitor, 0x42008E, Leaf::I32(self.mask))?;
         Ok(())
     }
 }
@@ -421,7 +414,6 @@ impl<A: Allocator + Copy> reader::ReadItem<A> for StorageStatusMask {
 
     ghost plain = { (refl, refl) };
 
-    #[tactic(auto, unfolding(kmip_ttlv_types::specs::Digits::six_digits))]
     fn read_item<'b>(
         scope: &reader::Scope<'b, A>,
         cursor: &mut reader::Cursor<'b, A>,
@@ -447,11 +439,11 @@ impl<B: Allocator> Serialize for LocateRequest<B> {
     ghost stated = { written_locate_request };
 
     fn visit<V: Visitor>(&self, visitor: &mut V) -> Result<(), AllocError> {
-        writing::begin_struct(visitor, "0x420079")?;
+        writing::begin_structure(visitor, 0x420079)?;
         writing::option(visitor, &self.maximum_items)?;
         writing::option(visitor, &self.storage_status_mask)?;
         writing::several(visitor, &self.attributes)?;
-        writing::end_struct(visitor, "0x420079")?;
+        writing::end_structure(visitor, 0x420079)?;
         Ok(())
     }
 }
@@ -475,10 +467,9 @@ impl<A: Allocator + Copy> reader::ReadStructure<A> for LocateRequest<A> {
 
     const DENIES_UNKNOWN: bool = true;
 
-    #[tactic(auto, unfolding(kmip_ttlv_types::specs::Digits::six_digits))]
     fn has_form() {}
 
-    #[tactic(auto, unfolding(kmip_ttlv_types::specs::Digits::six_digits, crate::specs::RequestPayloads::read_locate_request))]
+    #[tactic(auto, unfolding(crate::specs::RequestPayloads::read_locate_request))]
     fn from_fields(
         fields: (
             Option<MaximumItems>,
@@ -534,13 +525,13 @@ impl<B: Allocator> Serialize for KeyWrappingSpecification<B> {
     ghost stated = { written_key_wrapping_specification };
 
     fn visit<V: Visitor>(&self, visitor: &mut V) -> Result<(), AllocError> {
-        writing::begin_struct(visitor, "0x420047")?;
+        writing::begin_structure(visitor, 0x420047)?;
         self.wrapping_method.visit(visitor)?;
         writing::option(visitor, &self.encryption_key_information)?;
         writing::option(visitor, &self.mac_signature_key_information)?;
         writing::several(visitor, &self.attribute_names)?;
         writing::option(visitor, &self.encoding_option)?;
-        writing::end_struct(visitor, "0x420047")?;
+        writing::end_structure(visitor, 0x420047)?;
         Ok(())
     }
 }
@@ -566,10 +557,9 @@ impl<A: Allocator + Copy> reader::ReadStructure<A> for KeyWrappingSpecification<
 
     const DENIES_UNKNOWN: bool = true;
 
-    #[tactic(auto, unfolding(kmip_ttlv_types::specs::Digits::six_digits))]
     fn has_form() {}
 
-    #[tactic(auto, unfolding(kmip_ttlv_types::specs::Digits::six_digits, crate::specs::RequestPayloads::read_key_wrapping_specification))]
+    #[tactic(auto, unfolding(crate::specs::RequestPayloads::read_key_wrapping_specification))]
     fn from_fields(
         fields: (
             WrappingMethod,
@@ -633,12 +623,12 @@ impl<B: Allocator> Serialize for GetRequest<B> {
     ghost stated = { written_get_request };
 
     fn visit<V: Visitor>(&self, visitor: &mut V) -> Result<(), AllocError> {
-        writing::begin_struct(visitor, "0x420079")?;
-        writing::optional_text_string(visitor, "Transparent:0x420094", &self.unique_identifier)?;
+        writing::begin_structure(visitor, 0x420079)?;
+        writing::optional_text_string(visitor, 0x420094, &self.unique_identifier)?;
         writing::option(visitor, &self.key_format_type)?;
         writing::option(visitor, &self.key_compression_type)?;
         writing::option(visitor, &self.key_wrapping_specification)?;
-        writing::end_struct(visitor, "0x420079")?;
+        writing::end_structure(visitor, 0x420079)?;
         Ok(())
     }
 }
@@ -663,10 +653,9 @@ impl<A: Allocator + Copy> reader::ReadStructure<A> for GetRequest<A> {
 
     const DENIES_UNKNOWN: bool = true;
 
-    #[tactic(auto, unfolding(kmip_ttlv_types::specs::Digits::six_digits))]
     fn has_form() {}
 
-    #[tactic(auto, unfolding(kmip_ttlv_types::specs::Digits::six_digits, crate::specs::RequestPayloads::read_get_request))]
+    #[tactic(auto, unfolding(crate::specs::RequestPayloads::read_get_request))]
     fn from_fields(
         fields: (
             Option<String<A>>,
@@ -719,10 +708,10 @@ impl<B: Allocator> Serialize for GetAttributesRequest<B> {
     ghost stated = { written_get_attributes_request };
 
     fn visit<V: Visitor>(&self, visitor: &mut V) -> Result<(), AllocError> {
-        writing::begin_struct(visitor, "0x420079")?;
-        writing::optional_text_string(visitor, "Transparent:0x420094", &self.unique_identifier)?;
+        writing::begin_structure(visitor, 0x420079)?;
+        writing::optional_text_string(visitor, 0x420094, &self.unique_identifier)?;
         writing::several(visitor, &self.attribute_names)?;
-        writing::end_struct(visitor, "0x420079")?;
+        writing::end_structure(visitor, 0x420079)?;
         Ok(())
     }
 }
@@ -745,10 +734,9 @@ impl<A: Allocator + Copy> reader::ReadStructure<A> for GetAttributesRequest<A> {
 
     const DENIES_UNKNOWN: bool = true;
 
-    #[tactic(auto, unfolding(kmip_ttlv_types::specs::Digits::six_digits))]
     fn has_form() {}
 
-    #[tactic(auto, unfolding(kmip_ttlv_types::specs::Digits::six_digits, crate::specs::RequestPayloads::read_get_attributes_request))]
+    #[tactic(auto, unfolding(crate::specs::RequestPayloads::read_get_attributes_request))]
     fn from_fields(fields: (Option<String<A>>, Vec<AttributeName<A>, A>)) -> Self {
         let (unique_identifier, attribute_names) = fields;
         GetAttributesRequest {
@@ -791,10 +779,10 @@ impl<B: Allocator> Serialize for AttributeRequest<B> {
     ghost stated = { written_attribute_request };
 
     fn visit<V: Visitor>(&self, visitor: &mut V) -> Result<(), AllocError> {
-        writing::begin_struct(visitor, "0x420079")?;
-        writing::optional_text_string(visitor, "Transparent:0x420094", &self.unique_identifier)?;
+        writing::begin_structure(visitor, 0x420079)?;
+        writing::optional_text_string(visitor, 0x420094, &self.unique_identifier)?;
         self.attribute.visit(visitor)?;
-        writing::end_struct(visitor, "0x420079")?;
+        writing::end_structure(visitor, 0x420079)?;
         Ok(())
     }
 }
@@ -817,10 +805,9 @@ impl<A: Allocator + Copy> reader::ReadStructure<A> for AttributeRequest<A> {
 
     const DENIES_UNKNOWN: bool = true;
 
-    #[tactic(auto, unfolding(kmip_ttlv_types::specs::Digits::six_digits))]
     fn has_form() {}
 
-    #[tactic(auto, unfolding(kmip_ttlv_types::specs::Digits::six_digits, crate::specs::RequestPayloads::read_attribute_request))]
+    #[tactic(auto, unfolding(crate::specs::RequestPayloads::read_attribute_request))]
     fn from_fields(fields: (Option<String<A>>, Attribute<A>)) -> Self {
         let (unique_identifier, attribute) = fields;
         AttributeRequest {
@@ -865,11 +852,11 @@ impl<B: Allocator> Serialize for DeleteAttributeRequest<B> {
     ghost stated = { written_delete_attribute_request };
 
     fn visit<V: Visitor>(&self, visitor: &mut V) -> Result<(), AllocError> {
-        writing::begin_struct(visitor, "0x420079")?;
-        writing::optional_text_string(visitor, "Transparent:0x420094", &self.unique_identifier)?;
-        writing::string(visitor, "Transparent:0x42000A", &self.attribute_name)?;
+        writing::begin_structure(visitor, 0x420079)?;
+        writing::optional_text_string(visitor, 0x420094, &self.unique_identifier)?;
+        writing::string(visitor, 0x42000A, &self.attribute_name)?;
         writing::option(visitor, &self.attribute_index)?;
-        writing::end_struct(visitor, "0x420079")?;
+        writing::end_structure(visitor, 0x420079)?;
         Ok(())
     }
 }
@@ -893,10 +880,9 @@ impl<A: Allocator + Copy> reader::ReadStructure<A> for DeleteAttributeRequest<A>
 
     const DENIES_UNKNOWN: bool = true;
 
-    #[tactic(auto, unfolding(kmip_ttlv_types::specs::Digits::six_digits))]
     fn has_form() {}
 
-    #[tactic(auto, unfolding(kmip_ttlv_types::specs::Digits::six_digits, crate::specs::RequestPayloads::read_delete_attribute_request))]
+    #[tactic(auto, unfolding(crate::specs::RequestPayloads::read_delete_attribute_request))]
     fn from_fields(fields: (Option<String<A>>, String<A>, Option<AttributeIndex>)) -> Self {
         let (unique_identifier, attribute_name, attribute_index) = fields;
         DeleteAttributeRequest {
@@ -938,9 +924,9 @@ impl<B: Allocator> Serialize for ObjectRequest<B> {
     ghost stated = { written_object_request };
 
     fn visit<V: Visitor>(&self, visitor: &mut V) -> Result<(), AllocError> {
-        writing::begin_struct(visitor, "0x420079")?;
-        writing::optional_text_string(visitor, "Transparent:0x420094", &self.unique_identifier)?;
-        writing::end_struct(visitor, "0x420079")?;
+        writing::begin_structure(visitor, 0x420079)?;
+        writing::optional_text_string(visitor, 0x420094, &self.unique_identifier)?;
+        writing::end_structure(visitor, 0x420079)?;
         Ok(())
     }
 }
@@ -960,10 +946,9 @@ impl<A: Allocator + Copy> reader::ReadStructure<A> for ObjectRequest<A> {
 
     const DENIES_UNKNOWN: bool = true;
 
-    #[tactic(auto, unfolding(kmip_ttlv_types::specs::Digits::six_digits))]
     fn has_form() {}
 
-    #[tactic(auto, unfolding(kmip_ttlv_types::specs::Digits::six_digits, crate::specs::RequestPayloads::read_object_request))]
+    #[tactic(auto, unfolding(crate::specs::RequestPayloads::read_object_request))]
     fn from_fields(fields: (Option<String<A>>,)) -> Self {
         let (unique_identifier,) = fields;
         ObjectRequest { unique_identifier }
@@ -1003,10 +988,10 @@ impl<B: Allocator> Serialize for RevocationReasonGiven<B> {
     ghost stated = { written_revocation_reason_given };
 
     fn visit<V: Visitor>(&self, visitor: &mut V) -> Result<(), AllocError> {
-        writing::begin_struct(visitor, "0x420081")?;
+        writing::begin_structure(visitor, 0x420081)?;
         self.code.visit(visitor)?;
-        writing::optional_text_string(visitor, "Transparent:0x420080", &self.message)?;
-        writing::end_struct(visitor, "0x420081")?;
+        writing::optional_text_string(visitor, 0x420080, &self.message)?;
+        writing::end_structure(visitor, 0x420081)?;
         Ok(())
     }
 }
@@ -1029,10 +1014,9 @@ impl<A: Allocator + Copy> reader::ReadStructure<A> for RevocationReasonGiven<A> 
 
     const DENIES_UNKNOWN: bool = true;
 
-    #[tactic(auto, unfolding(kmip_ttlv_types::specs::Digits::six_digits))]
     fn has_form() {}
 
-    #[tactic(auto, unfolding(kmip_ttlv_types::specs::Digits::six_digits, crate::specs::RequestPayloads::read_revocation_reason_given))]
+    #[tactic(auto, unfolding(crate::specs::RequestPayloads::read_revocation_reason_given))]
     fn from_fields(fields: (RevocationReasonCode, Option<String<A>>)) -> Self {
         let (code, message) = fields;
         RevocationReasonGiven { code, message }
@@ -1069,7 +1053,7 @@ impl Serialize for CompromiseOccurrenceDate {
     ghost stated = { compromise_occurrence_date_value };
 
     fn visit<V: Visitor>(&self, visitor: &mut V) -> Result<(), AllocError> {
-        writing::date_time(visitor, "Transparent:0x420021", self.seconds)?;
+        writing::tagged(visitor, 0x420021, Leaf::DateTime(self.seconds))?;
         Ok(())
     }
 }
@@ -1081,7 +1065,6 @@ impl<A: Allocator + Copy> reader::ReadItem<A> for CompromiseOccurrenceDate {
 
     ghost plain = { (refl, refl) };
 
-    #[tactic(auto, unfolding(kmip_ttlv_types::specs::Digits::six_digits))]
     fn read_item<'b>(
         scope: &reader::Scope<'b, A>,
         cursor: &mut reader::Cursor<'b, A>,
@@ -1107,11 +1090,11 @@ impl<B: Allocator> Serialize for RevokeRequest<B> {
     ghost stated = { written_revoke_request };
 
     fn visit<V: Visitor>(&self, visitor: &mut V) -> Result<(), AllocError> {
-        writing::begin_struct(visitor, "0x420079")?;
-        writing::optional_text_string(visitor, "Transparent:0x420094", &self.unique_identifier)?;
+        writing::begin_structure(visitor, 0x420079)?;
+        writing::optional_text_string(visitor, 0x420094, &self.unique_identifier)?;
         self.revocation_reason.visit(visitor)?;
         writing::option(visitor, &self.compromise_occurrence_date)?;
-        writing::end_struct(visitor, "0x420079")?;
+        writing::end_structure(visitor, 0x420079)?;
         Ok(())
     }
 }
@@ -1135,10 +1118,9 @@ impl<A: Allocator + Copy> reader::ReadStructure<A> for RevokeRequest<A> {
 
     const DENIES_UNKNOWN: bool = true;
 
-    #[tactic(auto, unfolding(kmip_ttlv_types::specs::Digits::six_digits))]
     fn has_form() {}
 
-    #[tactic(auto, unfolding(kmip_ttlv_types::specs::Digits::six_digits, crate::specs::RequestPayloads::read_revoke_request))]
+    #[tactic(auto, unfolding(crate::specs::RequestPayloads::read_revoke_request))]
     fn from_fields(
         fields: (
             Option<String<A>>,
@@ -1175,87 +1157,20 @@ impl<A: Allocator + Copy> reader::ReadNested<A> for RevokeRequest<A> {
 }
 
 /// What is asked about a server (section 9.1.3.2.23).
-#[derive(Clone, Copy, Debug)]
-pub enum QueryFunction {
+pub type QueryFunction = Enumeration<0x420074>;
+
+/// The numbers of `QueryFunction` that have a name.
+pub mod query_function {
+    use super::QueryFunction;
+
     /// Its operations.
-    QueryOperations,
+    pub const QUERY_OPERATIONS: QueryFunction = QueryFunction { number: 0x00000001 };
     /// The kinds of objects that it keeps.
-    QueryObjects,
+    pub const QUERY_OBJECTS: QueryFunction = QueryFunction { number: 0x00000002 };
     /// What it is.
-    QueryServerInformation,
+    pub const QUERY_SERVER_INFORMATION: QueryFunction = QueryFunction { number: 0x00000003 };
     /// The namespaces that it knows.
-    QueryApplicationNamespaces,
-    /// Any other number. One that has a name is encoded as it is, and decoded by its name, to which it is equal.
-    Other(u32),
-}
-
-impl QueryFunction {
-    /// Its number.
-    pub fn number(self) -> u32
-        ensures { result ≡ query_function_number self }
-    {
-        match self {
-            QueryFunction::QueryOperations => 0x00000001,
-            QueryFunction::QueryObjects => 0x00000002,
-            QueryFunction::QueryServerInformation => 0x00000003,
-            QueryFunction::QueryApplicationNamespaces => 0x00000004,
-            QueryFunction::Other(number) => number,
-        }
-    }
-
-    /// The one of a number: by its name, if it has one.
-    pub fn from_number(number: u32) -> QueryFunction
-        ensures { query_function_read_number result ≡ Some number }
-    {
-        match number {
-            0x00000001 => QueryFunction::QueryOperations,
-            0x00000002 => QueryFunction::QueryObjects,
-            0x00000003 => QueryFunction::QueryServerInformation,
-            0x00000004 => QueryFunction::QueryApplicationNamespaces,
-            _ => QueryFunction::Other(number),
-        }
-    }
-}
-
-/// By their numbers.
-impl PartialEq for QueryFunction {
-    ghost eq = { on query_function_number ◌==◌ };
-
-    ghost laws = { Prim.search (comparing, rules) };
-
-    fn eq(&self, other: &QueryFunction) -> bool {
-        self.number() == other.number()
-    }
-}
-
-impl Eq for QueryFunction {
-    ghost laws = { Prim.search (comparing, rules) };
-}
-
-impl Serialize for QueryFunction {
-    ghost stated = { written_query_function };
-
-    #[tactic(auto, unfolding(crate::specs::RequestPayloads::written_query_function))]
-    fn visit<V: Visitor>(&self, visitor: &mut V) -> Result<(), AllocError> {
-        writing::enumeration(visitor, "Transparent:0x420074", self.number())
-    }
-}
-
-impl<A: Allocator + Copy> reader::ReadItem<A> for QueryFunction {
-    ghost form = { query_function_form };
-
-    ghost value = { read_query_function };
-
-    ghost plain = { (refl, refl) };
-
-    #[tactic(auto, unfolding(kmip_ttlv_types::specs::Digits::six_digits, crate::specs::RequestPayloads::read_query_function))]
-    fn read_item<'b>(
-        scope: &reader::Scope<'b, A>,
-        cursor: &mut reader::Cursor<'b, A>,
-    ) -> reader::Step<Self, A> {
-        let number: u32 = cursor.wrapped_leaf(scope, 0x420074)?;
-        Ok(QueryFunction::from_number(number))
-    }
+    pub const QUERY_APPLICATION_NAMESPACES: QueryFunction = QueryFunction { number: 0x00000004 };
 }
 
 /// What is asked about a server (section 4.24).
@@ -1267,13 +1182,13 @@ pub struct QueryRequest<A: Allocator = Global> {
 }
 
 impl<B: Allocator> Serialize for QueryRequest<B> {
-    ghost stated = { written_query_request };
+    ghost stated = { query_request_value };
 
-    #[tactic(auto, unfolding(crate::specs::RequestPayloads::written_query_request))]
+    #[tactic(auto, unfolding(crate::specs::RequestPayloads::query_request_value))]
     fn visit<V: Visitor>(&self, visitor: &mut V) -> Result<(), AllocError> {
-        writing::begin_struct(visitor, "0x420079")?;
+        writing::begin_structure(visitor, 0x420079)?;
         writing::several(visitor, &self.functions)?;
-        writing::end_struct(visitor, "0x420079")?;
+        writing::end_structure(visitor, 0x420079)?;
         Ok(())
     }
 }
@@ -1281,7 +1196,7 @@ impl<B: Allocator> Serialize for QueryRequest<B> {
 impl<A: Allocator + Copy> reader::ReadStructure<A> for QueryRequest<A> {
     ghost form = { query_request_form };
 
-    ghost value = { read_query_request };
+    ghost value = { query_request_value };
 
     ghost TAG = { 0x420079 };
 
@@ -1293,10 +1208,9 @@ impl<A: Allocator + Copy> reader::ReadStructure<A> for QueryRequest<A> {
 
     const DENIES_UNKNOWN: bool = true;
 
-    #[tactic(auto, unfolding(kmip_ttlv_types::specs::Digits::six_digits))]
     fn has_form() {}
 
-    #[tactic(auto, unfolding(kmip_ttlv_types::specs::Digits::six_digits, crate::specs::RequestPayloads::read_query_request))]
+    #[tactic(auto, unfolding(crate::specs::RequestPayloads::query_request_value))]
     fn from_fields(fields: (Vec<QueryFunction, A>,)) -> Self {
         let (functions,) = fields;
         QueryRequest { functions }
@@ -1306,7 +1220,7 @@ impl<A: Allocator + Copy> reader::ReadStructure<A> for QueryRequest<A> {
 impl<A: Allocator + Copy> reader::ReadNested<A> for QueryRequest<A> {
     ghost form = { query_request_form };
 
-    ghost value = { read_query_request };
+    ghost value = { query_request_value };
 
     ghost TAG = { 0x420079 };
 
@@ -1335,9 +1249,9 @@ impl<B: Allocator> Serialize for DiscoverVersionsRequest<B> {
 
     #[tactic(auto, unfolding(crate::specs::RequestPayloads::written_discover_versions_request))]
     fn visit<V: Visitor>(&self, visitor: &mut V) -> Result<(), AllocError> {
-        writing::begin_struct(visitor, "0x420079")?;
+        writing::begin_structure(visitor, 0x420079)?;
         writing::several(visitor, &self.versions)?;
-        writing::end_struct(visitor, "0x420079")?;
+        writing::end_structure(visitor, 0x420079)?;
         Ok(())
     }
 }
@@ -1357,10 +1271,9 @@ impl<A: Allocator + Copy> reader::ReadStructure<A> for DiscoverVersionsRequest<A
 
     const DENIES_UNKNOWN: bool = true;
 
-    #[tactic(auto, unfolding(kmip_ttlv_types::specs::Digits::six_digits))]
     fn has_form() {}
 
-    #[tactic(auto, unfolding(kmip_ttlv_types::specs::Digits::six_digits, crate::specs::RequestPayloads::read_discover_versions_request))]
+    #[tactic(auto, unfolding(crate::specs::RequestPayloads::read_discover_versions_request))]
     fn from_fields(fields: (Vec<ProtocolVersion, A>,)) -> Self {
         let (versions,) = fields;
         DiscoverVersionsRequest { versions }
@@ -1519,7 +1432,7 @@ impl<A: Allocator + Copy> reader::VariantOf<
     RequestPayload<A>,
     A,
 > for RequestPayloadCreateRule {
-    #[tactic(auto, unfolding(kmip_ttlv_types::specs::Digits::six_digits, crate::specs::RequestPayloads::read_request_payload))]
+    #[tactic(auto, unfolding(crate::specs::RequestPayloads::read_request_payload))]
     fn from_content(inner: CreateRequest<A>) -> RequestPayload<A> {
         RequestPayload::Create(inner)
     }
@@ -1549,7 +1462,7 @@ impl<A: Allocator + Copy> reader::VariantOf<
     RequestPayload<A>,
     A,
 > for RequestPayloadCreateKeyPairRule {
-    #[tactic(auto, unfolding(kmip_ttlv_types::specs::Digits::six_digits, crate::specs::RequestPayloads::read_request_payload))]
+    #[tactic(auto, unfolding(crate::specs::RequestPayloads::read_request_payload))]
     fn from_content(inner: CreateKeyPairRequest<A>) -> RequestPayload<A> {
         RequestPayload::CreateKeyPair(inner)
     }
@@ -1579,7 +1492,7 @@ impl<A: Allocator + Copy> reader::VariantOf<
     RequestPayload<A>,
     A,
 > for RequestPayloadRegisterRule {
-    #[tactic(auto, unfolding(kmip_ttlv_types::specs::Digits::six_digits, crate::specs::RequestPayloads::read_request_payload))]
+    #[tactic(auto, unfolding(crate::specs::RequestPayloads::read_request_payload))]
     fn from_content(inner: RegisterRequest<A>) -> RequestPayload<A> {
         RequestPayload::Register(inner)
     }
@@ -1609,7 +1522,7 @@ impl<A: Allocator + Copy> reader::VariantOf<
     RequestPayload<A>,
     A,
 > for RequestPayloadLocateRule {
-    #[tactic(auto, unfolding(kmip_ttlv_types::specs::Digits::six_digits, crate::specs::RequestPayloads::read_request_payload))]
+    #[tactic(auto, unfolding(crate::specs::RequestPayloads::read_request_payload))]
     fn from_content(inner: LocateRequest<A>) -> RequestPayload<A> {
         RequestPayload::Locate(inner)
     }
@@ -1639,7 +1552,7 @@ impl<A: Allocator + Copy> reader::VariantOf<
     RequestPayload<A>,
     A,
 > for RequestPayloadGetRule {
-    #[tactic(auto, unfolding(kmip_ttlv_types::specs::Digits::six_digits, crate::specs::RequestPayloads::read_request_payload))]
+    #[tactic(auto, unfolding(crate::specs::RequestPayloads::read_request_payload))]
     fn from_content(inner: GetRequest<A>) -> RequestPayload<A> {
         RequestPayload::Get(inner)
     }
@@ -1669,7 +1582,7 @@ impl<A: Allocator + Copy> reader::VariantOf<
     RequestPayload<A>,
     A,
 > for RequestPayloadGetAttributesRule {
-    #[tactic(auto, unfolding(kmip_ttlv_types::specs::Digits::six_digits, crate::specs::RequestPayloads::read_request_payload))]
+    #[tactic(auto, unfolding(crate::specs::RequestPayloads::read_request_payload))]
     fn from_content(inner: GetAttributesRequest<A>) -> RequestPayload<A> {
         RequestPayload::GetAttributes(inner)
     }
@@ -1699,7 +1612,7 @@ impl<A: Allocator + Copy> reader::VariantOf<
     RequestPayload<A>,
     A,
 > for RequestPayloadGetAttributeListRule {
-    #[tactic(auto, unfolding(kmip_ttlv_types::specs::Digits::six_digits, crate::specs::RequestPayloads::read_request_payload))]
+    #[tactic(auto, unfolding(crate::specs::RequestPayloads::read_request_payload))]
     fn from_content(inner: ObjectRequest<A>) -> RequestPayload<A> {
         RequestPayload::GetAttributeList(inner)
     }
@@ -1729,7 +1642,7 @@ impl<A: Allocator + Copy> reader::VariantOf<
     RequestPayload<A>,
     A,
 > for RequestPayloadAddAttributeRule {
-    #[tactic(auto, unfolding(kmip_ttlv_types::specs::Digits::six_digits, crate::specs::RequestPayloads::read_request_payload))]
+    #[tactic(auto, unfolding(crate::specs::RequestPayloads::read_request_payload))]
     fn from_content(inner: AttributeRequest<A>) -> RequestPayload<A> {
         RequestPayload::AddAttribute(inner)
     }
@@ -1759,7 +1672,7 @@ impl<A: Allocator + Copy> reader::VariantOf<
     RequestPayload<A>,
     A,
 > for RequestPayloadModifyAttributeRule {
-    #[tactic(auto, unfolding(kmip_ttlv_types::specs::Digits::six_digits, crate::specs::RequestPayloads::read_request_payload))]
+    #[tactic(auto, unfolding(crate::specs::RequestPayloads::read_request_payload))]
     fn from_content(inner: AttributeRequest<A>) -> RequestPayload<A> {
         RequestPayload::ModifyAttribute(inner)
     }
@@ -1789,7 +1702,7 @@ impl<A: Allocator + Copy> reader::VariantOf<
     RequestPayload<A>,
     A,
 > for RequestPayloadDeleteAttributeRule {
-    #[tactic(auto, unfolding(kmip_ttlv_types::specs::Digits::six_digits, crate::specs::RequestPayloads::read_request_payload))]
+    #[tactic(auto, unfolding(crate::specs::RequestPayloads::read_request_payload))]
     fn from_content(inner: DeleteAttributeRequest<A>) -> RequestPayload<A> {
         RequestPayload::DeleteAttribute(inner)
     }
@@ -1819,7 +1732,7 @@ impl<A: Allocator + Copy> reader::VariantOf<
     RequestPayload<A>,
     A,
 > for RequestPayloadActivateRule {
-    #[tactic(auto, unfolding(kmip_ttlv_types::specs::Digits::six_digits, crate::specs::RequestPayloads::read_request_payload))]
+    #[tactic(auto, unfolding(crate::specs::RequestPayloads::read_request_payload))]
     fn from_content(inner: ObjectRequest<A>) -> RequestPayload<A> {
         RequestPayload::Activate(inner)
     }
@@ -1849,7 +1762,7 @@ impl<A: Allocator + Copy> reader::VariantOf<
     RequestPayload<A>,
     A,
 > for RequestPayloadRevokeRule {
-    #[tactic(auto, unfolding(kmip_ttlv_types::specs::Digits::six_digits, crate::specs::RequestPayloads::read_request_payload))]
+    #[tactic(auto, unfolding(crate::specs::RequestPayloads::read_request_payload))]
     fn from_content(inner: RevokeRequest<A>) -> RequestPayload<A> {
         RequestPayload::Revoke(inner)
     }
@@ -1879,7 +1792,7 @@ impl<A: Allocator + Copy> reader::VariantOf<
     RequestPayload<A>,
     A,
 > for RequestPayloadDestroyRule {
-    #[tactic(auto, unfolding(kmip_ttlv_types::specs::Digits::six_digits, crate::specs::RequestPayloads::read_request_payload))]
+    #[tactic(auto, unfolding(crate::specs::RequestPayloads::read_request_payload))]
     fn from_content(inner: ObjectRequest<A>) -> RequestPayload<A> {
         RequestPayload::Destroy(inner)
     }
@@ -1909,7 +1822,7 @@ impl<A: Allocator + Copy> reader::VariantOf<
     RequestPayload<A>,
     A,
 > for RequestPayloadQueryRule {
-    #[tactic(auto, unfolding(kmip_ttlv_types::specs::Digits::six_digits, crate::specs::RequestPayloads::read_request_payload))]
+    #[tactic(auto, unfolding(crate::specs::RequestPayloads::read_request_payload))]
     fn from_content(inner: QueryRequest<A>) -> RequestPayload<A> {
         RequestPayload::Query(inner)
     }
@@ -1939,7 +1852,7 @@ impl<A: Allocator + Copy> reader::VariantOf<
     RequestPayload<A>,
     A,
 > for RequestPayloadDiscoverVersionsRule {
-    #[tactic(auto, unfolding(kmip_ttlv_types::specs::Digits::six_digits, crate::specs::RequestPayloads::read_request_payload))]
+    #[tactic(auto, unfolding(crate::specs::RequestPayloads::read_request_payload))]
     fn from_content(inner: DiscoverVersionsRequest<A>) -> RequestPayload<A> {
         RequestPayload::DiscoverVersions(inner)
     }
@@ -2085,7 +1998,6 @@ impl<A: Allocator + Copy> reader::Choice<A> for RequestPayload<A> {
         ),
     );
 
-    #[tactic(auto, unfolding(kmip_ttlv_types::specs::Digits::six_digits))]
     fn has_form() {}
 }
 

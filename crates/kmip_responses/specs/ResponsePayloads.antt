@@ -1,13 +1,16 @@
 -- Written by codegen from types.table: change that, and run codegen/codegen.
 -- Forms and values of the types in `response_payload`.
-use Rattle.kmip_ttlv.specs.Boxes.{boxed}
-use Rattle.kmip_ttlv.specs.Forms.{Form, Variants, enum, field, newtype, no_fields, no_variants, option, seq, struct, text, variant, wrapped}
-use Rattle.kmip_ttlv.specs.MessageParts.{optional, optional_sequence, sequence, there}
-use Rattle.kmip_ttlv.specs.Values.{Value, newtype_value, newtype_variant_value, no_values, struct_value, text_value, value}
-use Rattle.kmip_ttlv.specs.Visits.{joined}
+use Rattle.kmip_ttlv_parts.specs.Boxes.{boxed}
+use Rattle.kmip_ttlv_parts.specs.Digits.{tag_text}
+use Rattle.kmip_ttlv_parts.specs.Enumerations.{enumeration_value}
+use Rattle.kmip_ttlv_parts.specs.Forms.{Form, Variants, any_number, enum, field, no_fields, no_variants, option, seq, struct, text, variant, wrapped}
+use Rattle.kmip_ttlv_parts.specs.MessageParts.{optional, optional_sequence, sequence, tagged, there}
+use Rattle.kmip_ttlv_parts.specs.Spots.{wrapped_leaf}
+use Rattle.kmip_ttlv_parts.specs.Values.{Value, newtype_variant_value, no_values, struct_value, text_value, value}
+use Rattle.kmip_ttlv_parts.specs.Visits.{joined}
 use Rattle.std.specs.Option.{IsSomeAnd}
 use Rattle.std.specs.Prelude.{List, None, Option, Some, codes, option_map, string_bytes, true, ℕ, ◌+◌, ◌≡◌}
-use Rattle.kmip_ttlv.specs.Visits as visits
+use Rattle.kmip_ttlv_parts.specs.Visits as visits
 use Rattle.kmip_responses.specs.declared.response_payload.{CreateResponse.CreateResponse, CreateKeyPairResponse.CreateKeyPairResponse}
 use Rattle.kmip_responses.specs.declared.response_payload.{RegisterResponse.RegisterResponse, LocateResponse.LocateResponse, GetResponse.GetResponse}
 use Rattle.kmip_responses.specs.declared.response_payload.{GetAttributesResponse.GetAttributesResponse, GetAttributeListResponse.GetAttributeListResponse}
@@ -17,149 +20,121 @@ use Rattle.kmip_responses.specs.declared.response_payload.{DiscoverVersionsRespo
 use Rattle.kmip_responses.specs.declared.response_payload.ResponsePayload.TheVariants as response_payload
 use Rattle.kmip_objects.specs.declared.object.ManagedObject.{ManagedObject}
 use Rattle.kmip_objects.specs.declared.object.ManagedObject.TheVariants as managed_object
-use Rattle.kmip_attributes.specs.Values.{object_type_form, written_object_type, read_object_type}
-use Rattle.kmip_attributes.specs.Attributes.{attribute_name_form, attribute_name_value, attribute_form, written_attribute, read_attribute, returned_attribute}
+use Rattle.kmip_attributes.specs.Attributes.{attribute_name_form, attribute_name_value, attribute_form, written_attribute, read_attribute}
 use Rattle.kmip_objects.specs.Keys.{unique_identifier_form, unique_identifier_value}
-use Rattle.kmip_objects.specs.Objects.{certificate_form, written_certificate, read_certificate, returned_certificate, symmetric_key_form, written_symmetric_key}
-use Rattle.kmip_objects.specs.Objects.{read_symmetric_key, returned_symmetric_key, public_key_form, written_public_key, read_public_key, returned_public_key}
-use Rattle.kmip_objects.specs.Objects.{private_key_form, written_private_key, read_private_key, returned_private_key, split_key_form, written_split_key}
-use Rattle.kmip_objects.specs.Objects.{read_split_key, returned_split_key, template_form, written_template, read_template, returned_template, secret_data_form}
-use Rattle.kmip_objects.specs.Objects.{written_secret_data, read_secret_data, returned_secret_data, opaque_object_form, written_opaque_object}
-use Rattle.kmip_objects.specs.Objects.{read_opaque_object, returned_opaque_object}
-use Rattle.kmip_objects.specs.Templates.{template_attribute_form, written_template_attribute, read_template_attribute, returned_template_attribute}
-use Rattle.kmip_objects.specs.Templates.{private_key_template_attribute_form, written_private_key_template_attribute, read_private_key_template_attribute}
-use Rattle.kmip_objects.specs.Templates.{returned_private_key_template_attribute, public_key_template_attribute_form, written_public_key_template_attribute}
-use Rattle.kmip_objects.specs.Templates.{read_public_key_template_attribute, returned_public_key_template_attribute}
-use Rattle.kmip_headers.specs.Headers.{protocol_version_form, protocol_version_value, operation_form, written_operation, read_operation}
+use Rattle.kmip_objects.specs.Objects.{certificate_form, certificate_value, symmetric_key_form, written_symmetric_key, read_symmetric_key, public_key_form}
+use Rattle.kmip_objects.specs.Objects.{written_public_key, read_public_key, private_key_form, written_private_key, read_private_key, split_key_form}
+use Rattle.kmip_objects.specs.Objects.{written_split_key, read_split_key, template_form, written_template, read_template, secret_data_form, written_secret_data}
+use Rattle.kmip_objects.specs.Objects.{read_secret_data, opaque_object_form, opaque_object_value}
+use Rattle.kmip_objects.specs.Templates.{template_attribute_form, written_template_attribute, read_template_attribute, private_key_template_attribute_form}
+use Rattle.kmip_objects.specs.Templates.{written_private_key_template_attribute, read_private_key_template_attribute, public_key_template_attribute_form}
+use Rattle.kmip_objects.specs.Templates.{written_public_key_template_attribute, read_public_key_template_attribute}
+use Rattle.kmip_headers.specs.Headers.{protocol_version_form, protocol_version_value}
 
 -- the form of a `CreateResponse`
 abbrev pub create_response_form : Form
 create_response_form =
-    struct (codes "0x42007C") (
-    field (codes "0x420057") object_type_form (
-    field (codes "0x420094") (newtype (codes "Transparent:0x420094") text) (
-    field (codes "0x420091") (option template_attribute_form) no_fields))) true
+    struct (tag_text 0x42007C) (
+    field (tag_text 0x420057) (wrapped_leaf 0x420057 any_number) (
+    field (tag_text 0x420094) (wrapped_leaf 0x420094 text) (
+    field (tag_text 0x420091) (option template_attribute_form) no_fields))) true
 
 -- what is written of a `CreateResponse`
 unfoldable pub written_create_response : {A : Type 0} → CreateResponse A → Value
 written_create_response x =
-    struct_value (codes "0x42007C") (
-    value (written_object_type x.object_type) (
-    value (newtype_value (codes "Transparent:0x420094") (text_value (string_bytes x.unique_identifier))) (
+    struct_value (tag_text 0x42007C) (
+    value (enumeration_value x.object_type) (
+    value (tagged 0x420094 (text_value (string_bytes x.unique_identifier))) (
     joined (visits.optional_field (option_map written_template_attribute x.template_attribute)) no_values)))
 
 -- what is read of a `CreateResponse`
 unfoldable pub read_create_response : {A : Type 0} → CreateResponse A → Value
 read_create_response x =
-    struct_value (codes "0x42007C") (
-    value (read_object_type x.object_type) (
-    value (newtype_value (codes "Transparent:0x420094") (text_value (string_bytes x.unique_identifier))) (
+    struct_value (tag_text 0x42007C) (
+    value (enumeration_value x.object_type) (
+    value (tagged 0x420094 (text_value (string_bytes x.unique_identifier))) (
     value (optional read_template_attribute x.template_attribute) no_values)))
-
--- what is read of the bytes of a `CreateResponse`
-unfoldable pub returned_create_response : {A : Type 0} → CreateResponse A → Value
-returned_create_response x =
-    struct_value (codes "0x42007C") (
-    value (written_object_type x.object_type) (
-    value (newtype_value (codes "Transparent:0x420094") (text_value (string_bytes x.unique_identifier))) (
-    value (optional returned_template_attribute x.template_attribute) no_values)))
 
 -- the form of a `CreateKeyPairResponse`
 abbrev pub create_key_pair_response_form : Form
 create_key_pair_response_form =
-    struct (codes "0x42007C") (
-    field (codes "0x420066") (newtype (codes "Transparent:0x420066") text) (
-    field (codes "0x42006F") (newtype (codes "Transparent:0x42006F") text) (
-    field (codes "0x420065") (option private_key_template_attribute_form) (
-    field (codes "0x42006E") (option public_key_template_attribute_form) no_fields)))) true
+    struct (tag_text 0x42007C) (
+    field (tag_text 0x420066) (wrapped_leaf 0x420066 text) (
+    field (tag_text 0x42006F) (wrapped_leaf 0x42006F text) (
+    field (tag_text 0x420065) (option private_key_template_attribute_form) (
+    field (tag_text 0x42006E) (option public_key_template_attribute_form) no_fields)))) true
 
 -- what is written of a `CreateKeyPairResponse`
 unfoldable pub written_create_key_pair_response : {A : Type 0} → CreateKeyPairResponse A → Value
 written_create_key_pair_response x =
-    struct_value (codes "0x42007C") (
-    value (newtype_value (codes "Transparent:0x420066") (text_value (string_bytes x.private_key_unique_identifier))) (
-    value (newtype_value (codes "Transparent:0x42006F") (text_value (string_bytes x.public_key_unique_identifier))) (
+    struct_value (tag_text 0x42007C) (
+    value (tagged 0x420066 (text_value (string_bytes x.private_key_unique_identifier))) (
+    value (tagged 0x42006F (text_value (string_bytes x.public_key_unique_identifier))) (
     joined (visits.optional_field (option_map written_private_key_template_attribute x.private_key)) (
     joined (visits.optional_field (option_map written_public_key_template_attribute x.public_key)) no_values))))
 
 -- what is read of a `CreateKeyPairResponse`
 unfoldable pub read_create_key_pair_response : {A : Type 0} → CreateKeyPairResponse A → Value
 read_create_key_pair_response x =
-    struct_value (codes "0x42007C") (
-    value (newtype_value (codes "Transparent:0x420066") (text_value (string_bytes x.private_key_unique_identifier))) (
-    value (newtype_value (codes "Transparent:0x42006F") (text_value (string_bytes x.public_key_unique_identifier))) (
+    struct_value (tag_text 0x42007C) (
+    value (tagged 0x420066 (text_value (string_bytes x.private_key_unique_identifier))) (
+    value (tagged 0x42006F (text_value (string_bytes x.public_key_unique_identifier))) (
     value (optional read_private_key_template_attribute x.private_key) (
     value (optional read_public_key_template_attribute x.public_key) no_values))))
-
--- what is read of the bytes of a `CreateKeyPairResponse`
-unfoldable pub returned_create_key_pair_response : {A : Type 0} → CreateKeyPairResponse A → Value
-returned_create_key_pair_response x =
-    struct_value (codes "0x42007C") (
-    value (newtype_value (codes "Transparent:0x420066") (text_value (string_bytes x.private_key_unique_identifier))) (
-    value (newtype_value (codes "Transparent:0x42006F") (text_value (string_bytes x.public_key_unique_identifier))) (
-    value (optional returned_private_key_template_attribute x.private_key) (
-    value (optional returned_public_key_template_attribute x.public_key) no_values))))
 
 -- the form of a `RegisterResponse`
 abbrev pub register_response_form : Form
 register_response_form =
-    struct (codes "0x42007C") (
-    field (codes "0x420094") (newtype (codes "Transparent:0x420094") text) (
-    field (codes "0x420091") (option template_attribute_form) no_fields)) true
+    struct (tag_text 0x42007C) (
+    field (tag_text 0x420094) (wrapped_leaf 0x420094 text) (
+    field (tag_text 0x420091) (option template_attribute_form) no_fields)) true
 
 -- what is written of a `RegisterResponse`
 unfoldable pub written_register_response : {A : Type 0} → RegisterResponse A → Value
 written_register_response x =
-    struct_value (codes "0x42007C") (
-    value (newtype_value (codes "Transparent:0x420094") (text_value (string_bytes x.unique_identifier))) (
+    struct_value (tag_text 0x42007C) (
+    value (tagged 0x420094 (text_value (string_bytes x.unique_identifier))) (
     joined (visits.optional_field (option_map written_template_attribute x.template_attribute)) no_values))
 
 -- what is read of a `RegisterResponse`
 unfoldable pub read_register_response : {A : Type 0} → RegisterResponse A → Value
 read_register_response x =
-    struct_value (codes "0x42007C") (
-    value (newtype_value (codes "Transparent:0x420094") (text_value (string_bytes x.unique_identifier))) (
+    struct_value (tag_text 0x42007C) (
+    value (tagged 0x420094 (text_value (string_bytes x.unique_identifier))) (
     value (optional read_template_attribute x.template_attribute) no_values))
-
--- what is read of the bytes of a `RegisterResponse`
-unfoldable pub returned_register_response : {A : Type 0} → RegisterResponse A → Value
-returned_register_response x =
-    struct_value (codes "0x42007C") (
-    value (newtype_value (codes "Transparent:0x420094") (text_value (string_bytes x.unique_identifier))) (
-    value (optional returned_template_attribute x.template_attribute) no_values))
 
 -- the form of a `LocateResponse`
 abbrev pub locate_response_form : Form
 locate_response_form =
-    struct (codes "0x42007C") (
-    field (codes "0x420094") (option (seq unique_identifier_form)) no_fields) true
+    struct (tag_text 0x42007C) (
+    field (tag_text 0x420094) (option (seq unique_identifier_form)) no_fields) true
 
 -- what is written of a `LocateResponse`
 unfoldable pub written_locate_response : {A : Type 0} → LocateResponse A → Value
 written_locate_response x =
-    struct_value (codes "0x42007C") (
+    struct_value (tag_text 0x42007C) (
     value (sequence unique_identifier_value x.unique_identifiers.items) no_values)
 
 -- what is read of a `LocateResponse`
 unfoldable pub read_locate_response : {A : Type 0} → LocateResponse A → Value
 read_locate_response x =
-    struct_value (codes "0x42007C") (
+    struct_value (tag_text 0x42007C) (
     value (optional_sequence unique_identifier_value x.unique_identifiers.items) no_values)
 
 -- the form of a `GetResponse`
 abbrev pub get_response_form : Form
 get_response_form =
-    struct (codes "0x42007C") (
-    field (codes "0x420057") object_type_form (
-    field (codes "0x420094") (newtype (codes "Transparent:0x420094") text) (
-    field (codes "0x420013") (option certificate_form) (
-    field (codes "0x42008F") (option symmetric_key_form) (
-    field (codes "0x42006D") (option public_key_form) (
-    field (codes "0x420064") (option private_key_form) (
-    field (codes "0x420089") (option split_key_form) (
-    field (codes "0x420090") (option template_form) (
-    field (codes "0x420085") (option secret_data_form) (
-    field (codes "0x42005B") (option opaque_object_form) no_fields)))))))))) true
+    struct (tag_text 0x42007C) (
+    field (tag_text 0x420057) (wrapped_leaf 0x420057 any_number) (
+    field (tag_text 0x420094) (wrapped_leaf 0x420094 text) (
+    field (tag_text 0x420013) (option certificate_form) (
+    field (tag_text 0x42008F) (option symmetric_key_form) (
+    field (tag_text 0x42006D) (option public_key_form) (
+    field (tag_text 0x420064) (option private_key_form) (
+    field (tag_text 0x420089) (option split_key_form) (
+    field (tag_text 0x420090) (option template_form) (
+    field (tag_text 0x420085) (option secret_data_form) (
+    field (tag_text 0x42005B) (option opaque_object_form) no_fields)))))))))) true
 
 -- which `object` of a `GetResponse` is there, if it is exactly one
 abbrev pub IsGetResponseObject : {A : Type 0} → GetResponse A → Option (ManagedObject A) → Type 0
@@ -191,407 +166,234 @@ IsGetResponseObject x (Some (managed_object.OpaqueObject inner)) = (x.certificat
 -- what is written of a `GetResponse`
 unfoldable pub written_get_response : {A : Type 0} → GetResponse A → Value
 written_get_response x =
-    struct_value (codes "0x42007C") (
-    value (written_object_type x.object_type) (
-    value (newtype_value (codes "Transparent:0x420094") (text_value (string_bytes x.unique_identifier))) (
-    joined (visits.optional_field (option_map written_certificate x.certificate)) (
+    struct_value (tag_text 0x42007C) (
+    value (enumeration_value x.object_type) (
+    value (tagged 0x420094 (text_value (string_bytes x.unique_identifier))) (
+    joined (visits.optional_field (option_map certificate_value x.certificate)) (
     joined (visits.optional_field (option_map (boxed written_symmetric_key) x.symmetric_key)) (
     joined (visits.optional_field (option_map (boxed written_public_key) x.public_key)) (
     joined (visits.optional_field (option_map (boxed written_private_key) x.private_key)) (
     joined (visits.optional_field (option_map (boxed written_split_key) x.split_key)) (
     joined (visits.optional_field (option_map written_template x.template)) (
     joined (visits.optional_field (option_map (boxed written_secret_data) x.secret_data)) (
-    joined (visits.optional_field (option_map written_opaque_object x.opaque_object)) no_values))))))))))
+    joined (visits.optional_field (option_map opaque_object_value x.opaque_object)) no_values))))))))))
 
 -- what is read of a `GetResponse`
 unfoldable pub read_get_response : {A : Type 0} → GetResponse A → Value
 read_get_response x =
-    struct_value (codes "0x42007C") (
-    value (read_object_type x.object_type) (
-    value (newtype_value (codes "Transparent:0x420094") (text_value (string_bytes x.unique_identifier))) (
-    value (optional read_certificate x.certificate) (
+    struct_value (tag_text 0x42007C) (
+    value (enumeration_value x.object_type) (
+    value (tagged 0x420094 (text_value (string_bytes x.unique_identifier))) (
+    value (optional certificate_value x.certificate) (
     value (optional (boxed read_symmetric_key) x.symmetric_key) (
     value (optional (boxed read_public_key) x.public_key) (
     value (optional (boxed read_private_key) x.private_key) (
     value (optional (boxed read_split_key) x.split_key) (
     value (optional read_template x.template) (
     value (optional (boxed read_secret_data) x.secret_data) (
-    value (optional read_opaque_object x.opaque_object) no_values))))))))))
-
--- what is read of the bytes of a `GetResponse`
-unfoldable pub returned_get_response : {A : Type 0} → GetResponse A → Value
-returned_get_response x =
-    struct_value (codes "0x42007C") (
-    value (written_object_type x.object_type) (
-    value (newtype_value (codes "Transparent:0x420094") (text_value (string_bytes x.unique_identifier))) (
-    value (optional returned_certificate x.certificate) (
-    value (optional (boxed returned_symmetric_key) x.symmetric_key) (
-    value (optional (boxed returned_public_key) x.public_key) (
-    value (optional (boxed returned_private_key) x.private_key) (
-    value (optional (boxed returned_split_key) x.split_key) (
-    value (optional returned_template x.template) (
-    value (optional (boxed returned_secret_data) x.secret_data) (
-    value (optional returned_opaque_object x.opaque_object) no_values))))))))))
+    value (optional opaque_object_value x.opaque_object) no_values))))))))))
 
 -- the form of a `GetAttributesResponse`
 abbrev pub get_attributes_response_form : Form
 get_attributes_response_form =
-    struct (codes "0x42007C") (
-    field (codes "0x420094") (newtype (codes "Transparent:0x420094") text) (
-    field (codes "0x420008") (option (seq attribute_form)) no_fields)) true
+    struct (tag_text 0x42007C) (
+    field (tag_text 0x420094) (wrapped_leaf 0x420094 text) (
+    field (tag_text 0x420008) (option (seq attribute_form)) no_fields)) true
 
 -- what is written of a `GetAttributesResponse`
 unfoldable pub written_get_attributes_response : {A : Type 0} → GetAttributesResponse A → Value
 written_get_attributes_response x =
-    struct_value (codes "0x42007C") (
-    value (newtype_value (codes "Transparent:0x420094") (text_value (string_bytes x.unique_identifier))) (
+    struct_value (tag_text 0x42007C) (
+    value (tagged 0x420094 (text_value (string_bytes x.unique_identifier))) (
     value (sequence written_attribute x.attributes.items) no_values))
 
 -- what is read of a `GetAttributesResponse`
 unfoldable pub read_get_attributes_response : {A : Type 0} → GetAttributesResponse A → Value
 read_get_attributes_response x =
-    struct_value (codes "0x42007C") (
-    value (newtype_value (codes "Transparent:0x420094") (text_value (string_bytes x.unique_identifier))) (
+    struct_value (tag_text 0x42007C) (
+    value (tagged 0x420094 (text_value (string_bytes x.unique_identifier))) (
     value (optional_sequence read_attribute x.attributes.items) no_values))
-
--- what is read of the bytes of a `GetAttributesResponse`
-unfoldable pub returned_get_attributes_response : {A : Type 0} → GetAttributesResponse A → Value
-returned_get_attributes_response x =
-    struct_value (codes "0x42007C") (
-    value (newtype_value (codes "Transparent:0x420094") (text_value (string_bytes x.unique_identifier))) (
-    value (optional_sequence returned_attribute x.attributes.items) no_values))
 
 -- the form of a `GetAttributeListResponse`
 abbrev pub get_attribute_list_response_form : Form
 get_attribute_list_response_form =
-    struct (codes "0x42007C") (
-    field (codes "0x420094") (newtype (codes "Transparent:0x420094") text) (
-    field (codes "0x42000A") (option (seq attribute_name_form)) no_fields)) true
+    struct (tag_text 0x42007C) (
+    field (tag_text 0x420094) (wrapped_leaf 0x420094 text) (
+    field (tag_text 0x42000A) (option (seq attribute_name_form)) no_fields)) true
 
 -- what is written of a `GetAttributeListResponse`
 unfoldable pub written_get_attribute_list_response : {A : Type 0} → GetAttributeListResponse A → Value
 written_get_attribute_list_response x =
-    struct_value (codes "0x42007C") (
-    value (newtype_value (codes "Transparent:0x420094") (text_value (string_bytes x.unique_identifier))) (
+    struct_value (tag_text 0x42007C) (
+    value (tagged 0x420094 (text_value (string_bytes x.unique_identifier))) (
     value (sequence attribute_name_value x.attribute_names.items) no_values))
 
 -- what is read of a `GetAttributeListResponse`
 unfoldable pub read_get_attribute_list_response : {A : Type 0} → GetAttributeListResponse A → Value
 read_get_attribute_list_response x =
-    struct_value (codes "0x42007C") (
-    value (newtype_value (codes "Transparent:0x420094") (text_value (string_bytes x.unique_identifier))) (
+    struct_value (tag_text 0x42007C) (
+    value (tagged 0x420094 (text_value (string_bytes x.unique_identifier))) (
     value (optional_sequence attribute_name_value x.attribute_names.items) no_values))
 
 -- the form of a `AttributeResponse`
 abbrev pub attribute_response_form : Form
 attribute_response_form =
-    struct (codes "0x42007C") (
-    field (codes "0x420094") (newtype (codes "Transparent:0x420094") text) (
-    field (codes "0x420008") attribute_form no_fields)) true
+    struct (tag_text 0x42007C) (
+    field (tag_text 0x420094) (wrapped_leaf 0x420094 text) (
+    field (tag_text 0x420008) attribute_form no_fields)) true
 
 -- what is written of a `AttributeResponse`
 unfoldable pub written_attribute_response : {A : Type 0} → AttributeResponse A → Value
 written_attribute_response x =
-    struct_value (codes "0x42007C") (
-    value (newtype_value (codes "Transparent:0x420094") (text_value (string_bytes x.unique_identifier))) (
+    struct_value (tag_text 0x42007C) (
+    value (tagged 0x420094 (text_value (string_bytes x.unique_identifier))) (
     value (written_attribute x.attribute) no_values))
 
 -- what is read of a `AttributeResponse`
 unfoldable pub read_attribute_response : {A : Type 0} → AttributeResponse A → Value
 read_attribute_response x =
-    struct_value (codes "0x42007C") (
-    value (newtype_value (codes "Transparent:0x420094") (text_value (string_bytes x.unique_identifier))) (
+    struct_value (tag_text 0x42007C) (
+    value (tagged 0x420094 (text_value (string_bytes x.unique_identifier))) (
     value (read_attribute x.attribute) no_values))
-
--- what is read of the bytes of a `AttributeResponse`
-unfoldable pub returned_attribute_response : {A : Type 0} → AttributeResponse A → Value
-returned_attribute_response x =
-    struct_value (codes "0x42007C") (
-    value (newtype_value (codes "Transparent:0x420094") (text_value (string_bytes x.unique_identifier))) (
-    value (returned_attribute x.attribute) no_values))
 
 -- the form of a `ObjectResponse`
 abbrev pub object_response_form : Form
 object_response_form =
-    struct (codes "0x42007C") (
-    field (codes "0x420094") (newtype (codes "Transparent:0x420094") text) no_fields) true
+    struct (tag_text 0x42007C) (
+    field (tag_text 0x420094) (wrapped_leaf 0x420094 text) no_fields) true
 
 -- the value of a `ObjectResponse`
 unfoldable pub object_response_value : {A : Type 0} → ObjectResponse A → Value
 object_response_value x =
-    struct_value (codes "0x42007C") (
-    value (newtype_value (codes "Transparent:0x420094") (text_value (string_bytes x.unique_identifier))) no_values)
+    struct_value (tag_text 0x42007C) (
+    value (tagged 0x420094 (text_value (string_bytes x.unique_identifier))) no_values)
 
 -- the form of a `ApplicationNamespace`
 abbrev pub application_namespace_form : Form
-application_namespace_form = (newtype (codes "Transparent:0x420003") text)
+application_namespace_form = (wrapped_leaf 0x420003 text)
 
 -- the value of a `ApplicationNamespace`
 abbrev pub application_namespace_value : {A : Type 0} → ApplicationNamespace A → Value
-application_namespace_value x = newtype_value (codes "Transparent:0x420003") (text_value (string_bytes x.text))
+application_namespace_value x = tagged 0x420003 (text_value (string_bytes x.text))
 
 -- the form of a `QueryResponse`
 abbrev pub query_response_form : Form
 query_response_form =
-    struct (codes "0x42007C") (
-    field (codes "0x42005C") (option (seq operation_form)) (
-    field (codes "0x420057") (option (seq object_type_form)) (
-    field (codes "0x42009D") (option (newtype (codes "Transparent:0x42009D") text)) (
-    field (codes "0x420003") (option (seq application_namespace_form)) no_fields)))) true
+    struct (tag_text 0x42007C) (
+    field (tag_text 0x42005C) (option (seq (wrapped_leaf 0x42005C any_number))) (
+    field (tag_text 0x420057) (option (seq (wrapped_leaf 0x420057 any_number))) (
+    field (tag_text 0x42009D) (option (wrapped_leaf 0x42009D text)) (
+    field (tag_text 0x420003) (option (seq application_namespace_form)) no_fields)))) true
 
 -- what is written of a `QueryResponse`
 unfoldable pub written_query_response : {A : Type 0} → QueryResponse A → Value
 written_query_response x =
-    struct_value (codes "0x42007C") (
-    value (sequence written_operation x.operations.items) (
-    value (sequence written_object_type x.object_types.items) (
-    joined (visits.optional_field (option_map
-    (λ y. newtype_value (codes "Transparent:0x42009D") (text_value (string_bytes y))) x.vendor_identification)) (
+    struct_value (tag_text 0x42007C) (
+    value (sequence enumeration_value x.operations.items) (
+    value (sequence enumeration_value x.object_types.items) (
+    joined (visits.optional_field (option_map (λ y. tagged 0x42009D (text_value (string_bytes y))) x.vendor_identification)) (
     value (sequence application_namespace_value x.application_namespaces.items) no_values))))
 
 -- what is read of a `QueryResponse`
 unfoldable pub read_query_response : {A : Type 0} → QueryResponse A → Value
 read_query_response x =
-    struct_value (codes "0x42007C") (
-    value (optional_sequence read_operation x.operations.items) (
-    value (optional_sequence read_object_type x.object_types.items) (
-    value (optional
-    (λ y. newtype_value (codes "Transparent:0x42009D") (text_value (string_bytes y))) x.vendor_identification) (
-    value (optional_sequence application_namespace_value x.application_namespaces.items) no_values))))
-
--- what is read of the bytes of a `QueryResponse`
-unfoldable pub returned_query_response : {A : Type 0} → QueryResponse A → Value
-returned_query_response x =
-    struct_value (codes "0x42007C") (
-    value (optional_sequence written_operation x.operations.items) (
-    value (optional_sequence written_object_type x.object_types.items) (
-    value (optional
-    (λ y. newtype_value (codes "Transparent:0x42009D") (text_value (string_bytes y))) x.vendor_identification) (
+    struct_value (tag_text 0x42007C) (
+    value (optional_sequence enumeration_value x.operations.items) (
+    value (optional_sequence enumeration_value x.object_types.items) (
+    value (optional (λ y. tagged 0x42009D (text_value (string_bytes y))) x.vendor_identification) (
     value (optional_sequence application_namespace_value x.application_namespaces.items) no_values))))
 
 -- the form of a `DiscoverVersionsResponse`
 abbrev pub discover_versions_response_form : Form
 discover_versions_response_form =
-    struct (codes "0x42007C") (
-    field (codes "0x420069") (option (seq protocol_version_form)) no_fields) true
+    struct (tag_text 0x42007C) (
+    field (tag_text 0x420069) (option (seq protocol_version_form)) no_fields) true
 
 -- what is written of a `DiscoverVersionsResponse`
 unfoldable pub written_discover_versions_response : {A : Type 0} → DiscoverVersionsResponse A → Value
 written_discover_versions_response x =
-    struct_value (codes "0x42007C") (
+    struct_value (tag_text 0x42007C) (
     value (sequence protocol_version_value x.versions.items) no_values)
 
 -- what is read of a `DiscoverVersionsResponse`
 unfoldable pub read_discover_versions_response : {A : Type 0} → DiscoverVersionsResponse A → Value
 read_discover_versions_response x =
-    struct_value (codes "0x42007C") (
+    struct_value (tag_text 0x42007C) (
     value (optional_sequence protocol_version_value x.versions.items) no_values)
 
 -- the variants of a `ResponsePayload` from `Destroy` on
 abbrev pub response_payload_variants_12 : Variants
 response_payload_variants_12 =
-    variant (codes "if 0x42005C==0x00000014") (wrapped
-    object_response_form) (
-    variant (codes "if 0x42005C==0x00000018") (wrapped
-    query_response_form) (
-    variant (codes "if 0x42005C==0x0000001E") (wrapped
-    discover_versions_response_form) no_variants))
+    variant (codes "if 0x42005C==0x00000014") (wrapped object_response_form) (
+    variant (codes "if 0x42005C==0x00000018") (wrapped query_response_form) (
+    variant (codes "if 0x42005C==0x0000001E") (wrapped discover_versions_response_form) no_variants))
 
 -- the variants of a `ResponsePayload` from `ModifyAttribute` on
 abbrev pub response_payload_variants_8 : Variants
 response_payload_variants_8 =
-    variant (codes "if 0x42005C==0x0000000E") (wrapped
-    attribute_response_form) (
-    variant (codes "if 0x42005C==0x0000000F") (wrapped
-    attribute_response_form) (
-    variant (codes "if 0x42005C==0x00000012") (wrapped
-    object_response_form) (
-    variant (codes "if 0x42005C==0x00000013") (wrapped
-    object_response_form) response_payload_variants_12)))
+    variant (codes "if 0x42005C==0x0000000E") (wrapped attribute_response_form) (
+    variant (codes "if 0x42005C==0x0000000F") (wrapped attribute_response_form) (
+    variant (codes "if 0x42005C==0x00000012") (wrapped object_response_form) (
+    variant (codes "if 0x42005C==0x00000013") (wrapped object_response_form) response_payload_variants_12)))
 
 -- the variants of a `ResponsePayload` from `Get` on
 abbrev pub response_payload_variants_4 : Variants
 response_payload_variants_4 =
-    variant (codes "if 0x42005C==0x0000000A") (wrapped
-    get_response_form) (
-    variant (codes "if 0x42005C==0x0000000B") (wrapped
-    get_attributes_response_form) (
-    variant (codes "if 0x42005C==0x0000000C") (wrapped
-    get_attribute_list_response_form) (
-    variant (codes "if 0x42005C==0x0000000D") (wrapped
-    attribute_response_form) response_payload_variants_8)))
+    variant (codes "if 0x42005C==0x0000000A") (wrapped get_response_form) (
+    variant (codes "if 0x42005C==0x0000000B") (wrapped get_attributes_response_form) (
+    variant (codes "if 0x42005C==0x0000000C") (wrapped get_attribute_list_response_form) (
+    variant (codes "if 0x42005C==0x0000000D") (wrapped attribute_response_form) response_payload_variants_8)))
 
 -- the form of a `ResponsePayload`
 abbrev pub response_payload_form : Form
 response_payload_form =
     enum (codes "payload") (
-    variant (codes "if 0x42005C==0x00000001") (wrapped
-    create_response_form) (
-    variant (codes "if 0x42005C==0x00000002") (wrapped
-    create_key_pair_response_form) (
-    variant (codes "if 0x42005C==0x00000003") (wrapped
-    register_response_form) (
-    variant (codes "if 0x42005C==0x00000008") (wrapped
-    locate_response_form) response_payload_variants_4))))
+    variant (codes "if 0x42005C==0x00000001") (wrapped create_response_form) (
+    variant (codes "if 0x42005C==0x00000002") (wrapped create_key_pair_response_form) (
+    variant (codes "if 0x42005C==0x00000003") (wrapped register_response_form) (
+    variant (codes "if 0x42005C==0x00000008") (wrapped locate_response_form) response_payload_variants_4))))
 
 -- what is written of a `ResponsePayload`
 unfoldable pub written_response_payload : {A : Type 0} → ResponsePayload A → Value
-written_response_payload (response_payload.Create x) =
-    written_create_response x
-written_response_payload (response_payload.CreateKeyPair x) =
-    written_create_key_pair_response x
-written_response_payload (response_payload.Register x) =
-    written_register_response x
-written_response_payload (response_payload.Locate x) =
-    written_locate_response x
-written_response_payload (response_payload.Get x) =
-    written_get_response x
-written_response_payload (response_payload.GetAttributes x) =
-    written_get_attributes_response x
-written_response_payload (response_payload.GetAttributeList x) =
-    written_get_attribute_list_response x
-written_response_payload (response_payload.AddAttribute x) =
-    written_attribute_response x
-written_response_payload (response_payload.ModifyAttribute x) =
-    written_attribute_response x
-written_response_payload (response_payload.DeleteAttribute x) =
-    written_attribute_response x
-written_response_payload (response_payload.Activate x) =
-    object_response_value x
-written_response_payload (response_payload.Revoke x) =
-    object_response_value x
-written_response_payload (response_payload.Destroy x) =
-    object_response_value x
-written_response_payload (response_payload.Query x) =
-    written_query_response x
-written_response_payload (response_payload.DiscoverVersions x) =
-    written_discover_versions_response x
+written_response_payload (response_payload.Create x) = written_create_response x
+written_response_payload (response_payload.CreateKeyPair x) = written_create_key_pair_response x
+written_response_payload (response_payload.Register x) = written_register_response x
+written_response_payload (response_payload.Locate x) = written_locate_response x
+written_response_payload (response_payload.Get x) = written_get_response x
+written_response_payload (response_payload.GetAttributes x) = written_get_attributes_response x
+written_response_payload (response_payload.GetAttributeList x) = written_get_attribute_list_response x
+written_response_payload (response_payload.AddAttribute x) = written_attribute_response x
+written_response_payload (response_payload.ModifyAttribute x) = written_attribute_response x
+written_response_payload (response_payload.DeleteAttribute x) = written_attribute_response x
+written_response_payload (response_payload.Activate x) = object_response_value x
+written_response_payload (response_payload.Revoke x) = object_response_value x
+written_response_payload (response_payload.Destroy x) = object_response_value x
+written_response_payload (response_payload.Query x) = written_query_response x
+written_response_payload (response_payload.DiscoverVersions x) = written_discover_versions_response x
 
 -- what is read of a `ResponsePayload`
 unfoldable pub read_response_payload : {A : Type 0} → ResponsePayload A → Value
-read_response_payload (response_payload.Create x) =
-    newtype_variant_value (codes "payload")
-    (codes "if 0x42005C==0x00000001")
-    (read_create_response x)
+read_response_payload (response_payload.Create x) = newtype_variant_value (codes "payload") (codes "if 0x42005C==0x00000001") (read_create_response x)
 read_response_payload (response_payload.CreateKeyPair x) =
-    newtype_variant_value (codes "payload")
-    (codes "if 0x42005C==0x00000002")
-    (read_create_key_pair_response x)
-read_response_payload (response_payload.Register x) =
-    newtype_variant_value (codes "payload")
-    (codes "if 0x42005C==0x00000003")
-    (read_register_response x)
-read_response_payload (response_payload.Locate x) =
-    newtype_variant_value (codes "payload")
-    (codes "if 0x42005C==0x00000008")
-    (read_locate_response x)
-read_response_payload (response_payload.Get x) =
-    newtype_variant_value (codes "payload")
-    (codes "if 0x42005C==0x0000000A")
-    (read_get_response x)
+    newtype_variant_value (codes "payload") (codes "if 0x42005C==0x00000002") (read_create_key_pair_response x)
+read_response_payload (response_payload.Register x) = newtype_variant_value (codes "payload") (codes "if 0x42005C==0x00000003") (read_register_response x)
+read_response_payload (response_payload.Locate x) = newtype_variant_value (codes "payload") (codes "if 0x42005C==0x00000008") (read_locate_response x)
+read_response_payload (response_payload.Get x) = newtype_variant_value (codes "payload") (codes "if 0x42005C==0x0000000A") (read_get_response x)
 read_response_payload (response_payload.GetAttributes x) =
-    newtype_variant_value (codes "payload")
-    (codes "if 0x42005C==0x0000000B")
-    (read_get_attributes_response x)
+    newtype_variant_value (codes "payload") (codes "if 0x42005C==0x0000000B") (read_get_attributes_response x)
 read_response_payload (response_payload.GetAttributeList x) =
-    newtype_variant_value (codes "payload")
-    (codes "if 0x42005C==0x0000000C")
-    (read_get_attribute_list_response x)
-read_response_payload (response_payload.AddAttribute x) =
-    newtype_variant_value (codes "payload")
-    (codes "if 0x42005C==0x0000000D")
-    (read_attribute_response x)
+    newtype_variant_value (codes "payload") (codes "if 0x42005C==0x0000000C") (read_get_attribute_list_response x)
+read_response_payload (response_payload.AddAttribute x) = newtype_variant_value (codes "payload") (codes "if 0x42005C==0x0000000D") (read_attribute_response x)
 read_response_payload (response_payload.ModifyAttribute x) =
-    newtype_variant_value (codes "payload")
-    (codes "if 0x42005C==0x0000000E")
-    (read_attribute_response x)
+    newtype_variant_value (codes "payload") (codes "if 0x42005C==0x0000000E") (read_attribute_response x)
 read_response_payload (response_payload.DeleteAttribute x) =
-    newtype_variant_value (codes "payload")
-    (codes "if 0x42005C==0x0000000F")
-    (read_attribute_response x)
-read_response_payload (response_payload.Activate x) =
-    newtype_variant_value (codes "payload")
-    (codes "if 0x42005C==0x00000012")
-    (object_response_value x)
-read_response_payload (response_payload.Revoke x) =
-    newtype_variant_value (codes "payload")
-    (codes "if 0x42005C==0x00000013")
-    (object_response_value x)
-read_response_payload (response_payload.Destroy x) =
-    newtype_variant_value (codes "payload")
-    (codes "if 0x42005C==0x00000014")
-    (object_response_value x)
-read_response_payload (response_payload.Query x) =
-    newtype_variant_value (codes "payload")
-    (codes "if 0x42005C==0x00000018")
-    (read_query_response x)
+    newtype_variant_value (codes "payload") (codes "if 0x42005C==0x0000000F") (read_attribute_response x)
+read_response_payload (response_payload.Activate x) = newtype_variant_value (codes "payload") (codes "if 0x42005C==0x00000012") (object_response_value x)
+read_response_payload (response_payload.Revoke x) = newtype_variant_value (codes "payload") (codes "if 0x42005C==0x00000013") (object_response_value x)
+read_response_payload (response_payload.Destroy x) = newtype_variant_value (codes "payload") (codes "if 0x42005C==0x00000014") (object_response_value x)
+read_response_payload (response_payload.Query x) = newtype_variant_value (codes "payload") (codes "if 0x42005C==0x00000018") (read_query_response x)
 read_response_payload (response_payload.DiscoverVersions x) =
-    newtype_variant_value (codes "payload")
-    (codes "if 0x42005C==0x0000001E")
-    (read_discover_versions_response x)
-
--- what is read of the bytes of a `ResponsePayload`
-unfoldable pub returned_response_payload : {A : Type 0} → ResponsePayload A → Value
-returned_response_payload (response_payload.Create x) =
-    newtype_variant_value (codes "payload")
-    (codes "if 0x42005C==0x00000001")
-    (returned_create_response x)
-returned_response_payload (response_payload.CreateKeyPair x) =
-    newtype_variant_value (codes "payload")
-    (codes "if 0x42005C==0x00000002")
-    (returned_create_key_pair_response x)
-returned_response_payload (response_payload.Register x) =
-    newtype_variant_value (codes "payload")
-    (codes "if 0x42005C==0x00000003")
-    (returned_register_response x)
-returned_response_payload (response_payload.Locate x) =
-    newtype_variant_value (codes "payload")
-    (codes "if 0x42005C==0x00000008")
-    (read_locate_response x)
-returned_response_payload (response_payload.Get x) =
-    newtype_variant_value (codes "payload")
-    (codes "if 0x42005C==0x0000000A")
-    (returned_get_response x)
-returned_response_payload (response_payload.GetAttributes x) =
-    newtype_variant_value (codes "payload")
-    (codes "if 0x42005C==0x0000000B")
-    (returned_get_attributes_response x)
-returned_response_payload (response_payload.GetAttributeList x) =
-    newtype_variant_value (codes "payload")
-    (codes "if 0x42005C==0x0000000C")
-    (read_get_attribute_list_response x)
-returned_response_payload (response_payload.AddAttribute x) =
-    newtype_variant_value (codes "payload")
-    (codes "if 0x42005C==0x0000000D")
-    (returned_attribute_response x)
-returned_response_payload (response_payload.ModifyAttribute x) =
-    newtype_variant_value (codes "payload")
-    (codes "if 0x42005C==0x0000000E")
-    (returned_attribute_response x)
-returned_response_payload (response_payload.DeleteAttribute x) =
-    newtype_variant_value (codes "payload")
-    (codes "if 0x42005C==0x0000000F")
-    (returned_attribute_response x)
-returned_response_payload (response_payload.Activate x) =
-    newtype_variant_value (codes "payload")
-    (codes "if 0x42005C==0x00000012")
-    (object_response_value x)
-returned_response_payload (response_payload.Revoke x) =
-    newtype_variant_value (codes "payload")
-    (codes "if 0x42005C==0x00000013")
-    (object_response_value x)
-returned_response_payload (response_payload.Destroy x) =
-    newtype_variant_value (codes "payload")
-    (codes "if 0x42005C==0x00000014")
-    (object_response_value x)
-returned_response_payload (response_payload.Query x) =
-    newtype_variant_value (codes "payload")
-    (codes "if 0x42005C==0x00000018")
-    (returned_query_response x)
-returned_response_payload (response_payload.DiscoverVersions x) =
-    newtype_variant_value (codes "payload")
-    (codes "if 0x42005C==0x0000001E")
-    (read_discover_versions_response x)
+    newtype_variant_value (codes "payload") (codes "if 0x42005C==0x0000001E") (read_discover_versions_response x)
 
 -- what is said, if it is the text of 42005C, chooses what is in a `ResponsePayload`
 abbrev pub ChoosesResponsePayload : {A : Type 0} → List ℕ → ResponsePayload A → Type 0

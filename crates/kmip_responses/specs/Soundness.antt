@@ -1,7 +1,8 @@
 -- Written by codegen from types.table: change that, and run codegen/codegen.
 -- Which values of each type are sound: what was encoded of them is decoded again.
-use Rattle.kmip_ttlv.specs.Boxes.{IsBoxed}
-use Rattle.kmip_ttlv.specs.MessageParts.{there}
+use Rattle.kmip_ttlv_parts.specs.Boxes.{IsBoxed}
+use Rattle.kmip_ttlv_parts.specs.Enumerations.{IsEnumeration}
+use Rattle.kmip_ttlv_parts.specs.MessageParts.{there}
 use Rattle.std.specs.Prelude.{All, IfSome, ◌+◌, ◌≡◌}
 use Rattle.kmip_responses.specs.declared.response_payload.{CreateResponse.CreateResponse, CreateKeyPairResponse.CreateKeyPairResponse}
 use Rattle.kmip_responses.specs.declared.response_payload.{RegisterResponse.RegisterResponse, GetResponse.GetResponse}
@@ -9,15 +10,15 @@ use Rattle.kmip_responses.specs.declared.response_payload.{GetAttributesResponse
 use Rattle.kmip_responses.specs.declared.response_payload.{QueryResponse.QueryResponse, DiscoverVersionsResponse.DiscoverVersionsResponse}
 use Rattle.kmip_responses.specs.declared.response_payload.{ResponsePayload.ResponsePayload}
 use Rattle.kmip_responses.specs.declared.response_payload.ResponsePayload.TheVariants as response_payload
-use Rattle.kmip_attributes.specs.Soundness.{IsObjectType, IsAttribute}
 use Rattle.kmip_objects.specs.Soundness.{IsTemplateAttribute, IsPrivateKeyTemplateAttribute, IsPublicKeyTemplateAttribute, IsCertificate, IsSymmetricKey}
 use Rattle.kmip_objects.specs.Soundness.{IsPublicKey, IsPrivateKey, IsSplitKey, IsTemplate, IsSecretData, IsOpaqueObject}
-use Rattle.kmip_headers.specs.Soundness.{IsOperation, IsProtocolVersion}
+use Rattle.kmip_attributes.specs.Soundness.{IsAttribute}
+use Rattle.kmip_headers.specs.Soundness.{IsProtocolVersion}
 
 -- which values of `CreateResponse` are sound
 abbrev pub IsCreateResponse : {A : Type 0} → CreateResponse A → Type 0
 IsCreateResponse x =
-    IsObjectType x.object_type
+    IsEnumeration x.object_type
     × IfSome x.template_attribute IsTemplateAttribute
 
 -- which values of `CreateKeyPairResponse` are sound
@@ -34,7 +35,7 @@ IsRegisterResponse x =
 -- which values of `GetResponse` are sound
 abbrev pub IsGetResponse : {A : Type 0} → GetResponse A → Type 0
 IsGetResponse x =
-    IsObjectType x.object_type
+    IsEnumeration x.object_type
     × IfSome x.certificate IsCertificate
     × IfSome x.symmetric_key (IsBoxed IsSymmetricKey)
     × IfSome x.public_key (IsBoxed IsPublicKey)
@@ -59,8 +60,8 @@ IsAttributeResponse x =
 -- which values of `QueryResponse` are sound
 abbrev pub IsQueryResponse : {A : Type 0} → QueryResponse A → Type 0
 IsQueryResponse x =
-    All IsOperation x.operations.items
-    × All IsObjectType x.object_types.items
+    All IsEnumeration x.operations.items
+    × All IsEnumeration x.object_types.items
 
 -- which values of `DiscoverVersionsResponse` are sound
 abbrev pub IsDiscoverVersionsResponse : {A : Type 0} → DiscoverVersionsResponse A → Type 0

@@ -1,9 +1,9 @@
 // Written by codegen from types.table: change that, and run codegen/codegen.
-//! What was written is read back: the laws of `kmip_ttlv::laws`, at these messages.
+//! What was written is read back: the laws of `kmip_ttlv_parts::laws`, at these messages.
 
 ghost use Rattle.std.specs.Prelude.{◌≡◌};
-ghost use Rattle.kmip_ttlv.specs.Equal.{AreEqual, ReturnsEqual};
-ghost use Rattle.kmip_responses.specs.ResponsePayloads.{returned_create_response, read_create_response, returned_create_key_pair_response, read_create_key_pair_response, returned_register_response, read_register_response, read_locate_response, returned_get_response, read_get_response, returned_get_attributes_response, read_get_attributes_response, read_get_attribute_list_response, returned_attribute_response, read_attribute_response, object_response_value, application_namespace_value, returned_query_response, read_query_response, read_discover_versions_response, returned_response_payload, read_response_payload};
+ghost use Rattle.kmip_ttlv_parts.specs.Equal.{AreEqual};
+ghost use Rattle.kmip_responses.specs.ResponsePayloads.{read_create_response, read_create_key_pair_response, read_register_response, read_locate_response, read_get_response, read_get_attributes_response, read_get_attribute_list_response, read_attribute_response, object_response_value, application_namespace_value, read_query_response, read_discover_versions_response, read_response_payload};
 ghost use Rattle.kmip_responses.specs.Soundness.{IsCreateResponse, IsCreateKeyPairResponse, IsRegisterResponse, IsGetResponse, IsGetAttributesResponse, IsAttributeResponse, IsQueryResponse, IsDiscoverVersionsResponse, IsResponsePayload};
 
 use crate::response_payload::{
@@ -11,24 +11,24 @@ use crate::response_payload::{
     DiscoverVersionsResponse, GetAttributeListResponse, GetAttributesResponse, GetResponse,
     LocateResponse, ObjectResponse, QueryResponse, RegisterResponse, ResponsePayload,
 };
-use kmip_ttlv::laws::Sound;
+use kmip_ttlv_parts::laws::Sound;
 use std::alloc::Allocator;
 
 /// Values of a type are equal if they stand for the same: no type loses a part of what it is decoded from.
 pub fn equal_values<A: Allocator>()
-    ensures create_response { ReturnsEqual returned_create_response read_create_response ⟦<CreateResponse<A> as PartialEq>⟧.eq }
-    ensures create_key_pair_response { ReturnsEqual returned_create_key_pair_response read_create_key_pair_response ⟦<CreateKeyPairResponse<A> as PartialEq>⟧.eq }
-    ensures register_response { ReturnsEqual returned_register_response read_register_response ⟦<RegisterResponse<A> as PartialEq>⟧.eq }
+    ensures create_response { AreEqual read_create_response ⟦<CreateResponse<A> as PartialEq>⟧.eq }
+    ensures create_key_pair_response { AreEqual read_create_key_pair_response ⟦<CreateKeyPairResponse<A> as PartialEq>⟧.eq }
+    ensures register_response { AreEqual read_register_response ⟦<RegisterResponse<A> as PartialEq>⟧.eq }
     ensures locate_response { AreEqual read_locate_response ⟦<LocateResponse<A> as PartialEq>⟧.eq }
-    ensures get_response { ReturnsEqual returned_get_response read_get_response ⟦<GetResponse<A> as PartialEq>⟧.eq }
-    ensures get_attributes_response { ReturnsEqual returned_get_attributes_response read_get_attributes_response ⟦<GetAttributesResponse<A> as PartialEq>⟧.eq }
+    ensures get_response { AreEqual read_get_response ⟦<GetResponse<A> as PartialEq>⟧.eq }
+    ensures get_attributes_response { AreEqual read_get_attributes_response ⟦<GetAttributesResponse<A> as PartialEq>⟧.eq }
     ensures get_attribute_list_response { AreEqual read_get_attribute_list_response ⟦<GetAttributeListResponse<A> as PartialEq>⟧.eq }
-    ensures attribute_response { ReturnsEqual returned_attribute_response read_attribute_response ⟦<AttributeResponse<A> as PartialEq>⟧.eq }
+    ensures attribute_response { AreEqual read_attribute_response ⟦<AttributeResponse<A> as PartialEq>⟧.eq }
     ensures object_response { AreEqual object_response_value ⟦<ObjectResponse<A> as PartialEq>⟧.eq }
     ensures application_namespace { AreEqual application_namespace_value ⟦<ApplicationNamespace<A> as PartialEq>⟧.eq }
-    ensures query_response { ReturnsEqual returned_query_response read_query_response ⟦<QueryResponse<A> as PartialEq>⟧.eq }
+    ensures query_response { AreEqual read_query_response ⟦<QueryResponse<A> as PartialEq>⟧.eq }
     ensures discover_versions_response { AreEqual read_discover_versions_response ⟦<DiscoverVersionsResponse<A> as PartialEq>⟧.eq }
-    ensures response_payload { ReturnsEqual returned_response_payload read_response_payload ⟦<ResponsePayload<A> as PartialEq>⟧.eq }
+    ensures response_payload { AreEqual read_response_payload ⟦<ResponsePayload<A> as PartialEq>⟧.eq }
 {
     kmip_attributes::laws::equal_values::<A>();
     kmip_objects::laws::equal_values::<A>();

@@ -15,11 +15,11 @@ use kmip_objects::object::{
 use kmip_objects::template::{
     PrivateKeyTemplateAttribute, PublicKeyTemplateAttribute, TemplateAttribute,
 };
-use kmip_ttlv::messages::writing;
-use kmip_ttlv::shape::Serialize;
-use kmip_ttlv::types::TtlvType;
-use kmip_ttlv::visit::Visitor;
-use kmip_ttlv::{Boxed, reader};
+use kmip_ttlv_parts::messages::writing;
+use kmip_ttlv_parts::shape::Serialize;
+use kmip_ttlv_parts::types::TtlvType;
+use kmip_ttlv_parts::visit::Visitor;
+use kmip_ttlv_parts::{Boxed, reader};
 use std::alloc::{AllocError, Allocator, Global};
 
 /// A symmetric key was made (section 4.1).
@@ -38,11 +38,11 @@ impl<B: Allocator> Serialize for CreateResponse<B> {
     ghost stated = { written_create_response };
 
     fn visit<V: Visitor>(&self, visitor: &mut V) -> Result<(), AllocError> {
-        writing::begin_struct(visitor, "0x42007C")?;
+        writing::begin_structure(visitor, 0x42007C)?;
         self.object_type.visit(visitor)?;
-        writing::string(visitor, "Transparent:0x420094", &self.unique_identifier)?;
+        writing::string(visitor, 0x420094, &self.unique_identifier)?;
         writing::option(visitor, &self.template_attribute)?;
-        writing::end_struct(visitor, "0x42007C")?;
+        writing::end_structure(visitor, 0x42007C)?;
         Ok(())
     }
 }
@@ -66,10 +66,9 @@ impl<A: Allocator + Copy> reader::ReadStructure<A> for CreateResponse<A> {
 
     const DENIES_UNKNOWN: bool = true;
 
-    #[tactic(auto, unfolding(kmip_ttlv_types::specs::Digits::six_digits))]
     fn has_form() {}
 
-    #[tactic(auto, unfolding(kmip_ttlv_types::specs::Digits::six_digits, crate::specs::ResponsePayloads::read_create_response))]
+    #[tactic(auto, unfolding(crate::specs::ResponsePayloads::read_create_response))]
     fn from_fields(fields: (ObjectType, String<A>, Option<TemplateAttribute<A>>)) -> Self {
         let (object_type, unique_identifier, template_attribute) = fields;
         CreateResponse {
@@ -117,20 +116,12 @@ impl<B: Allocator> Serialize for CreateKeyPairResponse<B> {
     ghost stated = { written_create_key_pair_response };
 
     fn visit<V: Visitor>(&self, visitor: &mut V) -> Result<(), AllocError> {
-        writing::begin_struct(visitor, "0x42007C")?;
-        writing::string(
-            visitor,
-            "Transparent:0x420066",
-            &self.private_key_unique_identifier,
-        )?;
-        writing::string(
-            visitor,
-            "Transparent:0x42006F",
-            &self.public_key_unique_identifier,
-        )?;
+        writing::begin_structure(visitor, 0x42007C)?;
+        writing::string(visitor, 0x420066, &self.private_key_unique_identifier)?;
+        writing::string(visitor, 0x42006F, &self.public_key_unique_identifier)?;
         writing::option(visitor, &self.private_key)?;
         writing::option(visitor, &self.public_key)?;
-        writing::end_struct(visitor, "0x42007C")?;
+        writing::end_structure(visitor, 0x42007C)?;
         Ok(())
     }
 }
@@ -155,10 +146,9 @@ impl<A: Allocator + Copy> reader::ReadStructure<A> for CreateKeyPairResponse<A> 
 
     const DENIES_UNKNOWN: bool = true;
 
-    #[tactic(auto, unfolding(kmip_ttlv_types::specs::Digits::six_digits))]
     fn has_form() {}
 
-    #[tactic(auto, unfolding(kmip_ttlv_types::specs::Digits::six_digits, crate::specs::ResponsePayloads::read_create_key_pair_response))]
+    #[tactic(auto, unfolding(crate::specs::ResponsePayloads::read_create_key_pair_response))]
     fn from_fields(
         fields: (
             String<A>,
@@ -211,10 +201,10 @@ impl<B: Allocator> Serialize for RegisterResponse<B> {
     ghost stated = { written_register_response };
 
     fn visit<V: Visitor>(&self, visitor: &mut V) -> Result<(), AllocError> {
-        writing::begin_struct(visitor, "0x42007C")?;
-        writing::string(visitor, "Transparent:0x420094", &self.unique_identifier)?;
+        writing::begin_structure(visitor, 0x42007C)?;
+        writing::string(visitor, 0x420094, &self.unique_identifier)?;
         writing::option(visitor, &self.template_attribute)?;
-        writing::end_struct(visitor, "0x42007C")?;
+        writing::end_structure(visitor, 0x42007C)?;
         Ok(())
     }
 }
@@ -237,10 +227,9 @@ impl<A: Allocator + Copy> reader::ReadStructure<A> for RegisterResponse<A> {
 
     const DENIES_UNKNOWN: bool = true;
 
-    #[tactic(auto, unfolding(kmip_ttlv_types::specs::Digits::six_digits))]
     fn has_form() {}
 
-    #[tactic(auto, unfolding(kmip_ttlv_types::specs::Digits::six_digits, crate::specs::ResponsePayloads::read_register_response))]
+    #[tactic(auto, unfolding(crate::specs::ResponsePayloads::read_register_response))]
     fn from_fields(fields: (String<A>, Option<TemplateAttribute<A>>)) -> Self {
         let (unique_identifier, template_attribute) = fields;
         RegisterResponse {
@@ -282,9 +271,9 @@ impl<B: Allocator> Serialize for LocateResponse<B> {
 
     #[tactic(auto, unfolding(crate::specs::ResponsePayloads::written_locate_response))]
     fn visit<V: Visitor>(&self, visitor: &mut V) -> Result<(), AllocError> {
-        writing::begin_struct(visitor, "0x42007C")?;
+        writing::begin_structure(visitor, 0x42007C)?;
         writing::several(visitor, &self.unique_identifiers)?;
-        writing::end_struct(visitor, "0x42007C")?;
+        writing::end_structure(visitor, 0x42007C)?;
         Ok(())
     }
 }
@@ -304,10 +293,9 @@ impl<A: Allocator + Copy> reader::ReadStructure<A> for LocateResponse<A> {
 
     const DENIES_UNKNOWN: bool = true;
 
-    #[tactic(auto, unfolding(kmip_ttlv_types::specs::Digits::six_digits))]
     fn has_form() {}
 
-    #[tactic(auto, unfolding(kmip_ttlv_types::specs::Digits::six_digits, crate::specs::ResponsePayloads::read_locate_response))]
+    #[tactic(auto, unfolding(crate::specs::ResponsePayloads::read_locate_response))]
     fn from_fields(fields: (Vec<UniqueIdentifier<A>, A>,)) -> Self {
         let (unique_identifiers,) = fields;
         LocateResponse { unique_identifiers }
@@ -407,9 +395,9 @@ impl<B: Allocator> Serialize for GetResponse<B> {
     ghost stated = { written_get_response };
 
     fn visit<V: Visitor>(&self, visitor: &mut V) -> Result<(), AllocError> {
-        writing::begin_struct(visitor, "0x42007C")?;
+        writing::begin_structure(visitor, 0x42007C)?;
         self.object_type.visit(visitor)?;
-        writing::string(visitor, "Transparent:0x420094", &self.unique_identifier)?;
+        writing::string(visitor, 0x420094, &self.unique_identifier)?;
         writing::option(visitor, &self.certificate)?;
         writing::option(visitor, &self.symmetric_key)?;
         writing::option(visitor, &self.public_key)?;
@@ -418,7 +406,7 @@ impl<B: Allocator> Serialize for GetResponse<B> {
         writing::option(visitor, &self.template)?;
         writing::option(visitor, &self.secret_data)?;
         writing::option(visitor, &self.opaque_object)?;
-        writing::end_struct(visitor, "0x42007C")?;
+        writing::end_structure(visitor, 0x42007C)?;
         Ok(())
     }
 }
@@ -453,10 +441,9 @@ impl<A: Allocator + Copy> reader::ReadStructure<A> for GetResponse<A> {
 
     const DENIES_UNKNOWN: bool = true;
 
-    #[tactic(auto, unfolding(kmip_ttlv_types::specs::Digits::six_digits))]
     fn has_form() {}
 
-    #[tactic(auto, unfolding(kmip_ttlv_types::specs::Digits::six_digits, crate::specs::ResponsePayloads::read_get_response))]
+    #[tactic(auto, unfolding(crate::specs::ResponsePayloads::read_get_response))]
     fn from_fields(
         fields: (
             ObjectType,
@@ -528,10 +515,10 @@ impl<B: Allocator> Serialize for GetAttributesResponse<B> {
 
     #[tactic(auto, unfolding(crate::specs::ResponsePayloads::written_get_attributes_response))]
     fn visit<V: Visitor>(&self, visitor: &mut V) -> Result<(), AllocError> {
-        writing::begin_struct(visitor, "0x42007C")?;
-        writing::string(visitor, "Transparent:0x420094", &self.unique_identifier)?;
+        writing::begin_structure(visitor, 0x42007C)?;
+        writing::string(visitor, 0x420094, &self.unique_identifier)?;
         writing::several(visitor, &self.attributes)?;
-        writing::end_struct(visitor, "0x42007C")?;
+        writing::end_structure(visitor, 0x42007C)?;
         Ok(())
     }
 }
@@ -554,10 +541,9 @@ impl<A: Allocator + Copy> reader::ReadStructure<A> for GetAttributesResponse<A> 
 
     const DENIES_UNKNOWN: bool = true;
 
-    #[tactic(auto, unfolding(kmip_ttlv_types::specs::Digits::six_digits))]
     fn has_form() {}
 
-    #[tactic(auto, unfolding(kmip_ttlv_types::specs::Digits::six_digits, crate::specs::ResponsePayloads::read_get_attributes_response))]
+    #[tactic(auto, unfolding(crate::specs::ResponsePayloads::read_get_attributes_response))]
     fn from_fields(fields: (String<A>, Vec<Attribute<A>, A>)) -> Self {
         let (unique_identifier, attributes) = fields;
         GetAttributesResponse {
@@ -601,10 +587,10 @@ impl<B: Allocator> Serialize for GetAttributeListResponse<B> {
 
     #[tactic(auto, unfolding(crate::specs::ResponsePayloads::written_get_attribute_list_response))]
     fn visit<V: Visitor>(&self, visitor: &mut V) -> Result<(), AllocError> {
-        writing::begin_struct(visitor, "0x42007C")?;
-        writing::string(visitor, "Transparent:0x420094", &self.unique_identifier)?;
+        writing::begin_structure(visitor, 0x42007C)?;
+        writing::string(visitor, 0x420094, &self.unique_identifier)?;
         writing::several(visitor, &self.attribute_names)?;
-        writing::end_struct(visitor, "0x42007C")?;
+        writing::end_structure(visitor, 0x42007C)?;
         Ok(())
     }
 }
@@ -627,10 +613,9 @@ impl<A: Allocator + Copy> reader::ReadStructure<A> for GetAttributeListResponse<
 
     const DENIES_UNKNOWN: bool = true;
 
-    #[tactic(auto, unfolding(kmip_ttlv_types::specs::Digits::six_digits))]
     fn has_form() {}
 
-    #[tactic(auto, unfolding(kmip_ttlv_types::specs::Digits::six_digits, crate::specs::ResponsePayloads::read_get_attribute_list_response))]
+    #[tactic(auto, unfolding(crate::specs::ResponsePayloads::read_get_attribute_list_response))]
     fn from_fields(fields: (String<A>, Vec<AttributeName<A>, A>)) -> Self {
         let (unique_identifier, attribute_names) = fields;
         GetAttributeListResponse {
@@ -674,10 +659,10 @@ impl<B: Allocator> Serialize for AttributeResponse<B> {
 
     #[tactic(auto, unfolding(crate::specs::ResponsePayloads::written_attribute_response))]
     fn visit<V: Visitor>(&self, visitor: &mut V) -> Result<(), AllocError> {
-        writing::begin_struct(visitor, "0x42007C")?;
-        writing::string(visitor, "Transparent:0x420094", &self.unique_identifier)?;
+        writing::begin_structure(visitor, 0x42007C)?;
+        writing::string(visitor, 0x420094, &self.unique_identifier)?;
         self.attribute.visit(visitor)?;
-        writing::end_struct(visitor, "0x42007C")?;
+        writing::end_structure(visitor, 0x42007C)?;
         Ok(())
     }
 }
@@ -700,10 +685,9 @@ impl<A: Allocator + Copy> reader::ReadStructure<A> for AttributeResponse<A> {
 
     const DENIES_UNKNOWN: bool = true;
 
-    #[tactic(auto, unfolding(kmip_ttlv_types::specs::Digits::six_digits))]
     fn has_form() {}
 
-    #[tactic(auto, unfolding(kmip_ttlv_types::specs::Digits::six_digits, crate::specs::ResponsePayloads::read_attribute_response))]
+    #[tactic(auto, unfolding(crate::specs::ResponsePayloads::read_attribute_response))]
     fn from_fields(fields: (String<A>, Attribute<A>)) -> Self {
         let (unique_identifier, attribute) = fields;
         AttributeResponse {
@@ -745,9 +729,9 @@ impl<B: Allocator> Serialize for ObjectResponse<B> {
 
     #[tactic(auto, unfolding(crate::specs::ResponsePayloads::object_response_value))]
     fn visit<V: Visitor>(&self, visitor: &mut V) -> Result<(), AllocError> {
-        writing::begin_struct(visitor, "0x42007C")?;
-        writing::string(visitor, "Transparent:0x420094", &self.unique_identifier)?;
-        writing::end_struct(visitor, "0x42007C")?;
+        writing::begin_structure(visitor, 0x42007C)?;
+        writing::string(visitor, 0x420094, &self.unique_identifier)?;
+        writing::end_structure(visitor, 0x42007C)?;
         Ok(())
     }
 }
@@ -767,10 +751,9 @@ impl<A: Allocator + Copy> reader::ReadStructure<A> for ObjectResponse<A> {
 
     const DENIES_UNKNOWN: bool = true;
 
-    #[tactic(auto, unfolding(kmip_ttlv_types::specs::Digits::six_digits))]
     fn has_form() {}
 
-    #[tactic(auto, unfolding(kmip_ttlv_types::specs::Digits::six_digits, crate::specs::ResponsePayloads::object_response_value))]
+    #[tactic(auto, unfolding(crate::specs::ResponsePayloads::object_response_value))]
     fn from_fields(fields: (String<A>,)) -> Self {
         let (unique_identifier,) = fields;
         ObjectResponse { unique_identifier }
@@ -808,7 +791,7 @@ impl<B: Allocator> Serialize for ApplicationNamespace<B> {
     ghost stated = { application_namespace_value };
 
     fn visit<V: Visitor>(&self, visitor: &mut V) -> Result<(), AllocError> {
-        writing::string(visitor, "Transparent:0x420003", &self.text)
+        writing::string(visitor, 0x420003, &self.text)
     }
 }
 
@@ -819,7 +802,6 @@ impl<A: Allocator + Copy> reader::ReadItem<A> for ApplicationNamespace<A> {
 
     ghost plain = { (refl, refl) };
 
-    #[tactic(auto, unfolding(kmip_ttlv_types::specs::Digits::six_digits))]
     fn read_item<'b>(
         scope: &reader::Scope<'b, A>,
         cursor: &mut reader::Cursor<'b, A>,
@@ -847,16 +829,12 @@ impl<B: Allocator> Serialize for QueryResponse<B> {
     ghost stated = { written_query_response };
 
     fn visit<V: Visitor>(&self, visitor: &mut V) -> Result<(), AllocError> {
-        writing::begin_struct(visitor, "0x42007C")?;
+        writing::begin_structure(visitor, 0x42007C)?;
         writing::several(visitor, &self.operations)?;
         writing::several(visitor, &self.object_types)?;
-        writing::optional_text_string(
-            visitor,
-            "Transparent:0x42009D",
-            &self.vendor_identification,
-        )?;
+        writing::optional_text_string(visitor, 0x42009D, &self.vendor_identification)?;
         writing::several(visitor, &self.application_namespaces)?;
-        writing::end_struct(visitor, "0x42007C")?;
+        writing::end_structure(visitor, 0x42007C)?;
         Ok(())
     }
 }
@@ -881,10 +859,9 @@ impl<A: Allocator + Copy> reader::ReadStructure<A> for QueryResponse<A> {
 
     const DENIES_UNKNOWN: bool = true;
 
-    #[tactic(auto, unfolding(kmip_ttlv_types::specs::Digits::six_digits))]
     fn has_form() {}
 
-    #[tactic(auto, unfolding(kmip_ttlv_types::specs::Digits::six_digits, crate::specs::ResponsePayloads::read_query_response))]
+    #[tactic(auto, unfolding(crate::specs::ResponsePayloads::read_query_response))]
     fn from_fields(
         fields: (
             Vec<Operation, A>,
@@ -935,9 +912,9 @@ impl<B: Allocator> Serialize for DiscoverVersionsResponse<B> {
 
     #[tactic(auto, unfolding(crate::specs::ResponsePayloads::written_discover_versions_response))]
     fn visit<V: Visitor>(&self, visitor: &mut V) -> Result<(), AllocError> {
-        writing::begin_struct(visitor, "0x42007C")?;
+        writing::begin_structure(visitor, 0x42007C)?;
         writing::several(visitor, &self.versions)?;
-        writing::end_struct(visitor, "0x42007C")?;
+        writing::end_structure(visitor, 0x42007C)?;
         Ok(())
     }
 }
@@ -957,10 +934,9 @@ impl<A: Allocator + Copy> reader::ReadStructure<A> for DiscoverVersionsResponse<
 
     const DENIES_UNKNOWN: bool = true;
 
-    #[tactic(auto, unfolding(kmip_ttlv_types::specs::Digits::six_digits))]
     fn has_form() {}
 
-    #[tactic(auto, unfolding(kmip_ttlv_types::specs::Digits::six_digits, crate::specs::ResponsePayloads::read_discover_versions_response))]
+    #[tactic(auto, unfolding(crate::specs::ResponsePayloads::read_discover_versions_response))]
     fn from_fields(fields: (Vec<ProtocolVersion, A>,)) -> Self {
         let (versions,) = fields;
         DiscoverVersionsResponse { versions }
@@ -1119,7 +1095,7 @@ impl<A: Allocator + Copy> reader::VariantOf<
     ResponsePayload<A>,
     A,
 > for ResponsePayloadCreateRule {
-    #[tactic(auto, unfolding(kmip_ttlv_types::specs::Digits::six_digits, crate::specs::ResponsePayloads::read_response_payload))]
+    #[tactic(auto, unfolding(crate::specs::ResponsePayloads::read_response_payload))]
     fn from_content(inner: CreateResponse<A>) -> ResponsePayload<A> {
         ResponsePayload::Create(inner)
     }
@@ -1149,7 +1125,7 @@ impl<A: Allocator + Copy> reader::VariantOf<
     ResponsePayload<A>,
     A,
 > for ResponsePayloadCreateKeyPairRule {
-    #[tactic(auto, unfolding(kmip_ttlv_types::specs::Digits::six_digits, crate::specs::ResponsePayloads::read_response_payload))]
+    #[tactic(auto, unfolding(crate::specs::ResponsePayloads::read_response_payload))]
     fn from_content(inner: CreateKeyPairResponse<A>) -> ResponsePayload<A> {
         ResponsePayload::CreateKeyPair(inner)
     }
@@ -1179,7 +1155,7 @@ impl<A: Allocator + Copy> reader::VariantOf<
     ResponsePayload<A>,
     A,
 > for ResponsePayloadRegisterRule {
-    #[tactic(auto, unfolding(kmip_ttlv_types::specs::Digits::six_digits, crate::specs::ResponsePayloads::read_response_payload))]
+    #[tactic(auto, unfolding(crate::specs::ResponsePayloads::read_response_payload))]
     fn from_content(inner: RegisterResponse<A>) -> ResponsePayload<A> {
         ResponsePayload::Register(inner)
     }
@@ -1209,7 +1185,7 @@ impl<A: Allocator + Copy> reader::VariantOf<
     ResponsePayload<A>,
     A,
 > for ResponsePayloadLocateRule {
-    #[tactic(auto, unfolding(kmip_ttlv_types::specs::Digits::six_digits, crate::specs::ResponsePayloads::read_response_payload))]
+    #[tactic(auto, unfolding(crate::specs::ResponsePayloads::read_response_payload))]
     fn from_content(inner: LocateResponse<A>) -> ResponsePayload<A> {
         ResponsePayload::Locate(inner)
     }
@@ -1239,7 +1215,7 @@ impl<A: Allocator + Copy> reader::VariantOf<
     ResponsePayload<A>,
     A,
 > for ResponsePayloadGetRule {
-    #[tactic(auto, unfolding(kmip_ttlv_types::specs::Digits::six_digits, crate::specs::ResponsePayloads::read_response_payload))]
+    #[tactic(auto, unfolding(crate::specs::ResponsePayloads::read_response_payload))]
     fn from_content(inner: GetResponse<A>) -> ResponsePayload<A> {
         ResponsePayload::Get(inner)
     }
@@ -1269,7 +1245,7 @@ impl<A: Allocator + Copy> reader::VariantOf<
     ResponsePayload<A>,
     A,
 > for ResponsePayloadGetAttributesRule {
-    #[tactic(auto, unfolding(kmip_ttlv_types::specs::Digits::six_digits, crate::specs::ResponsePayloads::read_response_payload))]
+    #[tactic(auto, unfolding(crate::specs::ResponsePayloads::read_response_payload))]
     fn from_content(inner: GetAttributesResponse<A>) -> ResponsePayload<A> {
         ResponsePayload::GetAttributes(inner)
     }
@@ -1299,7 +1275,7 @@ impl<A: Allocator + Copy> reader::VariantOf<
     ResponsePayload<A>,
     A,
 > for ResponsePayloadGetAttributeListRule {
-    #[tactic(auto, unfolding(kmip_ttlv_types::specs::Digits::six_digits, crate::specs::ResponsePayloads::read_response_payload))]
+    #[tactic(auto, unfolding(crate::specs::ResponsePayloads::read_response_payload))]
     fn from_content(inner: GetAttributeListResponse<A>) -> ResponsePayload<A> {
         ResponsePayload::GetAttributeList(inner)
     }
@@ -1329,7 +1305,7 @@ impl<A: Allocator + Copy> reader::VariantOf<
     ResponsePayload<A>,
     A,
 > for ResponsePayloadAddAttributeRule {
-    #[tactic(auto, unfolding(kmip_ttlv_types::specs::Digits::six_digits, crate::specs::ResponsePayloads::read_response_payload))]
+    #[tactic(auto, unfolding(crate::specs::ResponsePayloads::read_response_payload))]
     fn from_content(inner: AttributeResponse<A>) -> ResponsePayload<A> {
         ResponsePayload::AddAttribute(inner)
     }
@@ -1359,7 +1335,7 @@ impl<A: Allocator + Copy> reader::VariantOf<
     ResponsePayload<A>,
     A,
 > for ResponsePayloadModifyAttributeRule {
-    #[tactic(auto, unfolding(kmip_ttlv_types::specs::Digits::six_digits, crate::specs::ResponsePayloads::read_response_payload))]
+    #[tactic(auto, unfolding(crate::specs::ResponsePayloads::read_response_payload))]
     fn from_content(inner: AttributeResponse<A>) -> ResponsePayload<A> {
         ResponsePayload::ModifyAttribute(inner)
     }
@@ -1389,7 +1365,7 @@ impl<A: Allocator + Copy> reader::VariantOf<
     ResponsePayload<A>,
     A,
 > for ResponsePayloadDeleteAttributeRule {
-    #[tactic(auto, unfolding(kmip_ttlv_types::specs::Digits::six_digits, crate::specs::ResponsePayloads::read_response_payload))]
+    #[tactic(auto, unfolding(crate::specs::ResponsePayloads::read_response_payload))]
     fn from_content(inner: AttributeResponse<A>) -> ResponsePayload<A> {
         ResponsePayload::DeleteAttribute(inner)
     }
@@ -1419,7 +1395,7 @@ impl<A: Allocator + Copy> reader::VariantOf<
     ResponsePayload<A>,
     A,
 > for ResponsePayloadActivateRule {
-    #[tactic(auto, unfolding(kmip_ttlv_types::specs::Digits::six_digits, crate::specs::ResponsePayloads::read_response_payload))]
+    #[tactic(auto, unfolding(crate::specs::ResponsePayloads::read_response_payload))]
     fn from_content(inner: ObjectResponse<A>) -> ResponsePayload<A> {
         ResponsePayload::Activate(inner)
     }
@@ -1449,7 +1425,7 @@ impl<A: Allocator + Copy> reader::VariantOf<
     ResponsePayload<A>,
     A,
 > for ResponsePayloadRevokeRule {
-    #[tactic(auto, unfolding(kmip_ttlv_types::specs::Digits::six_digits, crate::specs::ResponsePayloads::read_response_payload))]
+    #[tactic(auto, unfolding(crate::specs::ResponsePayloads::read_response_payload))]
     fn from_content(inner: ObjectResponse<A>) -> ResponsePayload<A> {
         ResponsePayload::Revoke(inner)
     }
@@ -1479,7 +1455,7 @@ impl<A: Allocator + Copy> reader::VariantOf<
     ResponsePayload<A>,
     A,
 > for ResponsePayloadDestroyRule {
-    #[tactic(auto, unfolding(kmip_ttlv_types::specs::Digits::six_digits, crate::specs::ResponsePayloads::read_response_payload))]
+    #[tactic(auto, unfolding(crate::specs::ResponsePayloads::read_response_payload))]
     fn from_content(inner: ObjectResponse<A>) -> ResponsePayload<A> {
         ResponsePayload::Destroy(inner)
     }
@@ -1509,7 +1485,7 @@ impl<A: Allocator + Copy> reader::VariantOf<
     ResponsePayload<A>,
     A,
 > for ResponsePayloadQueryRule {
-    #[tactic(auto, unfolding(kmip_ttlv_types::specs::Digits::six_digits, crate::specs::ResponsePayloads::read_response_payload))]
+    #[tactic(auto, unfolding(crate::specs::ResponsePayloads::read_response_payload))]
     fn from_content(inner: QueryResponse<A>) -> ResponsePayload<A> {
         ResponsePayload::Query(inner)
     }
@@ -1539,7 +1515,7 @@ impl<A: Allocator + Copy> reader::VariantOf<
     ResponsePayload<A>,
     A,
 > for ResponsePayloadDiscoverVersionsRule {
-    #[tactic(auto, unfolding(kmip_ttlv_types::specs::Digits::six_digits, crate::specs::ResponsePayloads::read_response_payload))]
+    #[tactic(auto, unfolding(crate::specs::ResponsePayloads::read_response_payload))]
     fn from_content(inner: DiscoverVersionsResponse<A>) -> ResponsePayload<A> {
         ResponsePayload::DiscoverVersions(inner)
     }
@@ -1691,7 +1667,6 @@ impl<A: Allocator + Copy> reader::Choice<A> for ResponsePayload<A> {
         ),
     );
 
-    #[tactic(auto, unfolding(kmip_ttlv_types::specs::Digits::six_digits))]
     fn has_form() {}
 }
 

@@ -1,8 +1,8 @@
 -- Written by codegen from types.table: change that, and run codegen/codegen.
 -- Values of a type are equal if they stand for the same: each part is, and numbers tell apart the variants of an Enumeration.
-use Rattle.kmip_ttlv_laws.proofs.Equal.{apart, both, constant_equal, date_times_equal, first_same, found_same, in_structure, in_unit, in_variant}
-use Rattle.kmip_ttlv_laws.proofs.Equal.{integers_equal, last_equal, later_same, newtypes_equal, part_equal, row_of, several_equal, structures_equal}
-use Rattle.kmip_ttlv_laws.proofs.Equal.{texts_equal}
+use Rattle.kmip_ttlv_parts.proofs.Equal.{apart, both, constant_equal, date_times_equal, first_same, found_same, in_structure, in_unit, in_variant}
+use Rattle.kmip_ttlv_parts.proofs.Equal.{integers_equal, last_equal, later_same, newtypes_equal, part_equal, row_of, several_equal, structures_equal}
+use Rattle.kmip_ttlv_parts.proofs.Equal.{texts_equal}
 use Rattle.std.proofs.Common.{refl}
 use Rattle.std.specs.Prelude.{List, Some, [], codes, ℕ, ◌∷◌, ◌≡◌}
 use denote.Enum.Bare.{true_same}
@@ -65,7 +65,7 @@ returns-clause-attribute g c x y e =
 pub returns-clause-request_payload : goal.returns-clause-request_payload
 unfolding read_request_payload read_create_payload read_destroy_payload read_template
 returns-clause-request_payload g c (request_payload.Create x) (request_payload.Create y) e =
-    several_equal read_attribute read_attribute _ (returns-clause-attribute g c) x.items y.items
+    several_equal read_attribute _ (returns-clause-attribute g c) x.items y.items
     (first_same (in_structure (first_same (later_same (in_structure (in_variant e))))))
 returns-clause-request_payload g c (request_payload.Destroy x) (request_payload.Destroy y) e =
     newtypes_equal (texts_equal x y) (first_same (in_structure (in_variant e)))
@@ -85,7 +85,7 @@ returns-clause-request g c x y e =
     both (newtypes_equal (integers_equal x.minor y.minor) (first_same (later_same (in_structure (first_same (in_structure (first_same e))))))) (
     both (newtypes_equal (integers_equal x.batch_count y.batch_count) (first_same (later_same (in_structure (first_same e))))) (
     let e = later_same e in
-    several_equal read_request_item read_request_item _ (returns-clause-request_item g c) x.items.items y.items.items (first_same e))))
+    several_equal read_request_item _ (returns-clause-request_item g c) x.items.items y.items.items (first_same e))))
 
 pub returns-clause-response_payload : goal.returns-clause-response_payload
 unfolding read_response_payload created_value destroyed_value
@@ -110,4 +110,4 @@ returns-clause-response g c x y e =
     both (newtypes_equal (date_times_equal x.timestamp y.timestamp) (first_same (later_same (in_structure (first_same e))))) (
     both (newtypes_equal (integers_equal x.batch_count y.batch_count) (first_same (later_same (later_same (in_structure (first_same e)))))) (
     let e = later_same e in
-    several_equal read_response_item read_response_item _ (returns-clause-response_item g c) x.items.items y.items.items (first_same e)))))
+    several_equal read_response_item _ (returns-clause-response_item g c) x.items.items y.items.items (first_same e)))))

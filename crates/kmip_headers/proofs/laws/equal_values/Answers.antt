@@ -1,17 +1,16 @@
 -- Written by codegen from types.table: change that, and run codegen/codegen.
 -- Values of a type are equal if they stand for the same: each part is, and numbers tell apart the variants of an Enumeration.
-use Rattle.kmip_ttlv.specs.Values.{boolean_value, newtype_value, text_value}
-use Rattle.kmip_ttlv_laws.proofs.Equal.{apart, booleans_equal, date_times_equal, in_variant, integers_equal, last_equal, newtypes_equal, numbers_equal}
-use Rattle.kmip_ttlv_laws.proofs.Equal.{options_equal, options_same, others_equal, part_equal, several_equal, structures_equal, texts_equal}
+use Rattle.kmip_ttlv_parts.specs.Enumerations.{enumeration_value}
+use Rattle.kmip_ttlv_parts.specs.MessageParts.{tagged}
+use Rattle.kmip_ttlv_parts.specs.Values.{boolean_value, text_value}
+use Rattle.kmip_ttlv_parts.proofs.Enumerations.{enumerations_equal}
+use Rattle.kmip_ttlv_parts.proofs.Equal.{apart, booleans_equal, date_times_equal, in_variant, integers_equal, last_equal, newtypes_equal, options_equal}
+use Rattle.kmip_ttlv_parts.proofs.Equal.{part_equal, several_equal, structures_equal, texts_equal}
 use Rattle.std.proofs.Common.{refl}
-use Rattle.std.specs.Prelude.{codes, string_bytes}
-use Rattle.kmip_headers.specs.Headers.{protocol_version_value, credential_type_number, credential_type_numbers, written_credential_type, read_credential_type}
-use Rattle.kmip_headers.specs.Headers.{read_username_and_password, read_device, read_credential_value, returned_credential, read_credential}
-use Rattle.kmip_headers.specs.Headers.{returned_authentication, read_authentication, batch_error_continuation_option_number}
-use Rattle.kmip_headers.specs.Headers.{batch_error_continuation_option_numbers, written_batch_error_continuation_option, read_batch_error_continuation_option}
-use Rattle.kmip_headers.specs.Headers.{maximum_response_size_value, time_stamp_value, returned_request_header, read_request_header, response_header_value}
-use Rattle.kmip_headers.specs.Headers.{operation_number, operation_numbers, written_operation, read_operation, message_extension_value}
-use Rattle.kmip_headers.specs.declared.header.{CredentialType.TheVariants.Other, BatchErrorContinuationOption.TheVariants.Other, Operation.TheVariants.Other}
+use Rattle.std.specs.Prelude.{string_bytes}
+use Rattle.kmip_headers.specs.Headers.{protocol_version_value, read_username_and_password, read_device, read_credential_value, read_credential}
+use Rattle.kmip_headers.specs.Headers.{read_authentication, maximum_response_size_value, time_stamp_value, read_request_header, response_header_value}
+use Rattle.kmip_headers.specs.Headers.{message_extension_value}
 use Rattle.kmip_headers.specs.declared.header.CredentialValue.TheVariants as credential_value
 use Rattle.kmip_headers.proofs.laws.equal_values.Goals as goal
 
@@ -20,34 +19,27 @@ unfolding protocol_version_value
 returns-clause-protocol_version g c x y e =
     structures_equal (part_equal (newtypes_equal (integers_equal x.major y.major)) (last_equal (newtypes_equal (integers_equal x.minor y.minor)))) e
 
-pub returns-clause-credential_type : goal.returns-clause-credential_type
-unfolding written_credential_type read_credential_type
-returns-clause-credential_type g c x (Other n) e = newtypes_equal (others_equal credential_type_numbers (credential_type_number x) n) e
-returns-clause-credential_type g c x y e = newtypes_equal (numbers_equal (credential_type_number x) (credential_type_number y)) e
-
 pub returns-clause-username_and_password : goal.returns-clause-username_and_password
 unfolding read_username_and_password
 returns-clause-username_and_password g c x y e =
     structures_equal (part_equal (newtypes_equal (texts_equal x.username y.username)) (
-    last_equal (options_same (λ y. newtype_value (codes "Transparent:0x4200A1") (text_value (string_bytes y))) _ (λ a b. newtypes_equal (texts_equal a b))
-    x.password y.password))) e
+    last_equal (options_equal (λ y. tagged 0x4200A1 (text_value (string_bytes y))) _ (λ a b. newtypes_equal (texts_equal a b)) x.password y.password))) e
 
 pub returns-clause-device : goal.returns-clause-device
 unfolding read_device
 returns-clause-device g c x y e =
     structures_equal (part_equal
-    (options_same (λ y. newtype_value (codes "Transparent:0x4200B0") (text_value (string_bytes y))) _ (λ a b. newtypes_equal (texts_equal a b))
-    x.device_serial_number y.device_serial_number) (
-    part_equal (options_same (λ y. newtype_value (codes "Transparent:0x4200A1") (text_value (string_bytes y))) _ (λ a b. newtypes_equal (texts_equal a b))
-    x.password y.password) (
-    part_equal (options_same (λ y. newtype_value (codes "Transparent:0x4200A2") (text_value (string_bytes y))) _ (λ a b. newtypes_equal (texts_equal a b))
-    x.device_identifier y.device_identifier) (
-    part_equal (options_same (λ y. newtype_value (codes "Transparent:0x4200AB") (text_value (string_bytes y))) _ (λ a b. newtypes_equal (texts_equal a b))
-    x.network_identifier y.network_identifier) (
-    part_equal (options_same (λ y. newtype_value (codes "Transparent:0x4200A9") (text_value (string_bytes y))) _ (λ a b. newtypes_equal (texts_equal a b))
-    x.machine_identifier y.machine_identifier) (
-    last_equal (options_same (λ y. newtype_value (codes "Transparent:0x4200AA") (text_value (string_bytes y))) _ (λ a b. newtypes_equal (texts_equal a b))
-    x.media_identifier y.media_identifier))))))) e
+    (options_equal (λ y. tagged 0x4200B0 (text_value (string_bytes y))) _ (λ a b. newtypes_equal (texts_equal a b)) x.device_serial_number
+    y.device_serial_number) (
+    part_equal (options_equal (λ y. tagged 0x4200A1 (text_value (string_bytes y))) _ (λ a b. newtypes_equal (texts_equal a b)) x.password y.password) (
+    part_equal (options_equal (λ y. tagged 0x4200A2 (text_value (string_bytes y))) _ (λ a b. newtypes_equal (texts_equal a b)) x.device_identifier
+    y.device_identifier) (
+    part_equal (options_equal (λ y. tagged 0x4200AB (text_value (string_bytes y))) _ (λ a b. newtypes_equal (texts_equal a b)) x.network_identifier
+    y.network_identifier) (
+    part_equal (options_equal (λ y. tagged 0x4200A9 (text_value (string_bytes y))) _ (λ a b. newtypes_equal (texts_equal a b)) x.machine_identifier
+    y.machine_identifier) (
+    last_equal (options_equal (λ y. tagged 0x4200AA (text_value (string_bytes y))) _ (λ a b. newtypes_equal (texts_equal a b)) x.media_identifier
+    y.media_identifier))))))) e
 
 pub returns-clause-credential_value : goal.returns-clause-credential_value
 unfolding read_credential_value
@@ -57,23 +49,15 @@ returns-clause-credential_value g c (credential_value.Device x) (credential_valu
 returns-clause-credential_value g c x y e = absurd (apart e refl)
 
 pub returns-clause-credential : goal.returns-clause-credential
-unfolding returned_credential read_credential
+unfolding read_credential
 returns-clause-credential g c x y e =
-    structures_equal (part_equal (returns-clause-credential_type g c x.credential_type y.credential_type) (
+    structures_equal (part_equal (enumerations_equal x.credential_type y.credential_type) (
     last_equal (returns-clause-credential_value g c x.credential_value y.credential_value))) e
 
 pub returns-clause-authentication : goal.returns-clause-authentication
-unfolding returned_authentication read_authentication
+unfolding read_authentication
 returns-clause-authentication g c x y e =
-    structures_equal (last_equal (several_equal returned_credential read_credential _ (returns-clause-credential g c) x.credentials.items y.credentials.items))
-    e
-
-pub returns-clause-batch_error_continuation_option : goal.returns-clause-batch_error_continuation_option
-unfolding written_batch_error_continuation_option read_batch_error_continuation_option
-returns-clause-batch_error_continuation_option g c x (Other n) e =
-    newtypes_equal (others_equal batch_error_continuation_option_numbers (batch_error_continuation_option_number x) n) e
-returns-clause-batch_error_continuation_option g c x y e =
-    newtypes_equal (numbers_equal (batch_error_continuation_option_number x) (batch_error_continuation_option_number y)) e
+    structures_equal (last_equal (several_equal read_credential _ (returns-clause-credential g c) x.credentials.items y.credentials.items)) e
 
 pub returns-clause-maximum_response_size : goal.returns-clause-maximum_response_size
 returns-clause-maximum_response_size g c x y e = newtypes_equal (integers_equal x.bytes y.bytes) e
@@ -85,18 +69,17 @@ pub returns-clause-batch_count : goal.returns-clause-batch_count
 returns-clause-batch_count g c x y e = newtypes_equal (integers_equal x.count y.count) e
 
 pub returns-clause-request_header : goal.returns-clause-request_header
-unfolding returned_request_header read_request_header
+unfolding read_request_header
 returns-clause-request_header g c x y e =
     structures_equal (part_equal (returns-clause-protocol_version g c x.version y.version) (
-    part_equal (options_same maximum_response_size_value _ (returns-clause-maximum_response_size g c) x.maximum_response_size y.maximum_response_size) (
-    part_equal (options_same (λ y. newtype_value (codes "Transparent:0x420007") (boolean_value y)) _ (λ a b. newtypes_equal (booleans_equal a b))
-    x.asynchronous_indicator y.asynchronous_indicator) (
-    part_equal (options_equal returned_authentication read_authentication _ (returns-clause-authentication g c) x.authentication y.authentication) (
-    part_equal (options_equal written_batch_error_continuation_option read_batch_error_continuation_option _
-    (returns-clause-batch_error_continuation_option g c) x.batch_error_continuation_option y.batch_error_continuation_option) (
-    part_equal (options_same (λ y. newtype_value (codes "Transparent:0x420010") (boolean_value y)) _ (λ a b. newtypes_equal (booleans_equal a b))
-    x.batch_order_option y.batch_order_option) (
-    part_equal (options_same time_stamp_value _ (returns-clause-time_stamp g c) x.time_stamp y.time_stamp) (
+    part_equal (options_equal maximum_response_size_value _ (returns-clause-maximum_response_size g c) x.maximum_response_size y.maximum_response_size) (
+    part_equal (options_equal (λ y. tagged 0x420007 (boolean_value y)) _ (λ a b. newtypes_equal (booleans_equal a b)) x.asynchronous_indicator
+    y.asynchronous_indicator) (
+    part_equal (options_equal read_authentication _ (returns-clause-authentication g c) x.authentication y.authentication) (
+    part_equal (options_equal enumeration_value _ enumerations_equal x.batch_error_continuation_option y.batch_error_continuation_option) (
+    part_equal (options_equal (λ y. tagged 0x420010 (boolean_value y)) _ (λ a b. newtypes_equal (booleans_equal a b)) x.batch_order_option y.batch_order_option)
+    (
+    part_equal (options_equal time_stamp_value _ (returns-clause-time_stamp g c) x.time_stamp y.time_stamp) (
     last_equal (returns-clause-batch_count g c x.batch_count y.batch_count))))))))) e
 
 pub returns-clause-response_header : goal.returns-clause-response_header
@@ -104,11 +87,6 @@ unfolding response_header_value
 returns-clause-response_header g c x y e =
     structures_equal (part_equal (returns-clause-protocol_version g c x.version y.version) (
     part_equal (newtypes_equal (date_times_equal x.time_stamp y.time_stamp)) (last_equal (newtypes_equal (integers_equal x.batch_count y.batch_count))))) e
-
-pub returns-clause-operation : goal.returns-clause-operation
-unfolding written_operation read_operation
-returns-clause-operation g c x (Other n) e = newtypes_equal (others_equal operation_numbers (operation_number x) n) e
-returns-clause-operation g c x y e = newtypes_equal (numbers_equal (operation_number x) (operation_number y)) e
 
 pub returns-clause-message_extension : goal.returns-clause-message_extension
 unfolding message_extension_value

@@ -6,8 +6,8 @@ use Rattle.create_destroy.proofs.response.ResponseItemSerialize.visit.Goals as g
 pub returns-clause-received : goal.returns-clause-received
 unfolding written_response_item
 returns-clause-received g c = λ s known.
-    c.in_ok-end_struct.ensures.received _ (
+    c.in_ok-end_structure.ensures.received _ (
     c.in_ok-visit-2.ensures.received _ (
     c.in_ok-unit_variant.ensures.received _ (
     c.in_ok-visit.ensures.received _ (
-    c.in_ok-begin_struct.ensures.received s known))))
+    c.in_ok-begin_structure.ensures.received s known))))

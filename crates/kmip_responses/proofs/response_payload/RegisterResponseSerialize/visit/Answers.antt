@@ -1,6 +1,6 @@
 -- Written by codegen from types.table: change that, and run codegen/codegen.
 -- What a visitor receives: a line for each part, by what its call ensures.
-use Rattle.kmip_ttlv_laws.proofs.Receiving.{all_received, optional_received, part_received, structure_received}
+use Rattle.kmip_ttlv_parts.proofs.Receiving.{all_received, optional_received, part_received, structure_received}
 use Rattle.std.proofs.Common.{refl}
 use Rattle.kmip_responses.specs.ResponsePayloads.{written_register_response}
 use Rattle.kmip_objects.specs.Templates.{written_template_attribute}
@@ -10,7 +10,7 @@ pub returns-clause-received : goal.returns-clause-received
 unfolding written_register_response
 returns-clause-received g c =
     let x = c.args.self.now in
-    structure_received g.V.Visitor.knows g.V.Visitor.step (written_register_response x) refl c.in_ok-begin_struct.ensures.received (
+    structure_received g.V.Visitor.knows g.V.Visitor.step (written_register_response x) refl c.in_ok-begin_structure.ensures.received (
     part_received c.in_ok-string.ensures.received (
     optional_received written_template_attribute x.template_attribute c.in_ok-option.ensures.received (
-    all_received))) c.in_ok-end_struct.ensures.received
+    all_received))) c.in_ok-end_structure.ensures.received

@@ -1,7 +1,18 @@
-//! Reads messages of another implementation from standard input, a line each with a name and hexadecimal digits. Each has to be
-//! decoded as a request or a response of `kmip_messages`, to be sound, and to be encoded as the same bytes, and those behind a line
-//! that gives a reason (`## ..`) must not be. What is otherwise is printed.
+//! Tests of messages, and a program that reads messages of another implementation from standard input, a line each with a name and
+//! hexadecimal digits. Each has to be decoded as a request or a response of `kmip_messages`, to be sound, and to be encoded as the
+//! same bytes, and those behind a line that gives a reason (`## ..`) must not be. What is otherwise is printed.
+//!
+//! `key_gets`, `object_rereads` and `registering` are tests of kmip_messages, and `key_messages` of create_destroy.
 #![tactic(auto)]
+
+#[cfg(test)]
+mod key_gets;
+#[cfg(test)]
+mod key_messages;
+#[cfg(test)]
+mod object_rereads;
+#[cfg(test)]
+mod registering;
 
 use kmip_messages::request::Request;
 use kmip_messages::response::Response;
