@@ -10,15 +10,15 @@ use Rattle.json.proofs.Grammar.{read_key-shorter, value-begin_array, value-begin
 use Rattle.serde_json.specs.Data.{Num, Data, array, object, Items, no_items, item, Members, no_members}
 use Rattle.serde_json.specs.Read.{of_json, of_items, of_members, converted}
 use Rattle.kmip_ttlv_types.specs.Trees.{Tree, no_trees, bytes, bytes_below, IsStructure, Fits}
-use Rattle.kmip_ttlv_json.specs.declared.failure.BadMember.{BadMember}
+use Rattle.kmip_ttlv_json.specs.declared.failure.{BadItem.BadItem, BadMember.BadMember}
 use Rattle.kmip_ttlv_json.specs.declared.seen.Seen.{Seen}
-use Rattle.kmip_ttlv_json.specs.declared.seen.Seen.TheVariants.{Items as SeenItems, Item as SeenItem}
+use Rattle.kmip_ttlv_json.specs.declared.seen.Seen.TheVariants.{Text, Truth, Items as SeenItems, Item as SeenItem, Other}
 use Rattle.kmip_ttlv_json.specs.declared.members.Members.{Members as SeenMembers}
 use Rattle.kmip_ttlv_json.specs.declared.read.Stop.{Stop}
 use Rattle.kmip_ttlv_json.specs.declared.read.Stop.TheVariants.{NotJson, NoMemory}
 use Rattle.kmip_ttlv_json.specs.JsonTrees.{tree_of, trees_of, both}
-use Rattle.kmip_ttlv_json.specs.Events.{both_seen, kept, item_in, room, AddsItem, IsItem, Stops, IsSeen, Reads, ReadsItems, ReadsMember, ReadsMembers}
-use Rattle.kmip_ttlv_json.specs.Events.{ReadsText, Meets}
+use Rattle.kmip_ttlv_json.specs.Events.{unplaced, item_at, both_at, both_seen, kept, item_in, room, AddsItem, IsItem, Stops, IsSeen, Reads}
+use Rattle.kmip_ttlv_json.specs.Events.{ReadsItems, ReadsMember, ReadsMembers, ReadsText, Meets}
 use Rattle.kmip_ttlv_json.specs.Readings.{ReadsAs, IsReadAs}
 use Rattle.kmip_ttlv_json.proofs.Converted.{converted_array, converted_object, item_read, item_refused, items_over, member_read, member_refused}
 use Rattle.kmip_ttlv_json.proofs.Converted.{key_refused, members_over}
@@ -31,6 +31,24 @@ mapped_twice f g (Some p) = refl
 same_mapped : {A : Type 0} (r : Option (A × List Token)) → r ≡ parse_map (λ a. a) r
 same_mapped None = refl
 same_mapped (Some p) = refl
+
+-- ---- what is wrong, without its place
+
+pub same_item : (at : ℕ) (seen : Seen) → unplaced (item_at at seen) ≡ item_in seen
+same_item at (SeenItem r) = refl
+same_item at (SeenItems r) = refl
+same_item at (Text s) = refl
+same_item at (Truth b) = refl
+same_item at Other = refl
+
+same_both : (items : Result (Unit {0}) BadItem) (one : Result Bool BadItem) → unplaced (both_at items one) ≡ both_seen (unplaced items) (unplaced one)
+same_both (Ok done) (Ok structure) = refl
+same_both (Ok done) (Err bad) = refl
+same_both (Err bad) one = refl
+
+pub both_plain : (items : Result (Unit {0}) BadItem) (at : ℕ) (seen : Seen)
+    → unplaced (both_at items (item_at at seen)) ≡ both_seen (unplaced items) (item_in seen)
+both_plain items at seen = same_both items (item_at at seen) ∙ ap (both_seen (unplaced items)) (same_item at seen)
 
 -- ---- items
 
@@ -104,7 +122,7 @@ module _ (depth : ℕ) (first : List Token) (old : List ℕ) where
 
     pub items_stop : (going : after_end_array now ≡ None) (e : Stop) → Stops (converted of_json (value depth now)) e
         → Stops (converted of_items (items (value depth) (length first) first)) e
-    items_stop going NotJson h = so.is ∙ ap (parse_map so.wrap) (item_refused (value depth) so.turns now going h)
+    items_stop going (NotJson at) h = so.is ∙ ap (parse_map so.wrap) (item_refused (value depth) so.turns now going h)
     items_stop going NoMemory h = tt
 
   pub items_end : (now : List Token) (all : Result (Unit {0}) BadMember) (out : List ℕ) → ItemsSoFar depth first now all old out → (rest : List Token)
@@ -173,17 +191,21 @@ module _ (depth : ℕ) (first : List Token) (old : List ℕ) where
     pub members_stop : (name : List ℕ) (s : List Token) → read_key now ≡ Some (Some name, s) → (e : Stop)
         → Stops (converted of_json (value depth s)) e
         → Stops (converted (λ ms. of_members ms no_members) (members (value depth) (length first) first)) e
-    members_stop name s key NotJson h = so.is ∙ member_refused (value depth) so.json so.turns name now s key h
+    members_stop name s key (NotJson at) h = so.is ∙ member_refused (value depth) so.json so.turns name now s key h
     members_stop name s key NoMemory h = tt
 
     pub no_key : read_key now ≡ None → converted (λ ms. of_members ms no_members) (members (value depth) (length first) first) ≡ None
     no_key h = so.is ∙ key_refused (value depth) so.json so.turns now h
 
+    pub members_parsed : (rest : List Token) → read_key now ≡ Some (None, rest)
+        → converted (λ ms. of_members ms no_members) (members (value depth) (length first) first) ≡ Some (so.json, rest)
+    members_parsed rest e = so.is ∙ members_over (value depth) so.json so.turns now rest so.enough e
+
     pub members_end : (rest : List Token) (new : List ℕ) (result : Result Bool BadMember) → read_key now ≡ Some (None, rest)
         → AddsItem (tree_of (object so.json)) old new result → ReadsMembers depth first rest old new result
     members_end rest new result e adds = record {
       json = so.json;
-      parsed = so.is ∙ members_over (value depth) so.json so.turns now rest so.enough e;
+      parsed = members_parsed rest e;
       adds = adds;
     }
 
@@ -191,7 +213,7 @@ module _ (depth : ℕ) (first : List Token) (old : List ℕ) where
 
 -- what is none is refused, whatever the reason
 stops : {A : Type 0} (read : Option A) (e : Stop) → read ≡ None → Stops read e
-stops read NotJson h = h
+stops read (NotJson at) h = h
 stops read NoMemory h = tt
 
 pub refused : {A : Type 0} {T : Type 0} (read : Option A) (r : Result T Stop) → read ≡ None → IfErr r (Stops read)
@@ -201,7 +223,7 @@ refused read (Err e) h = stops read e h
 -- what stands in something else is refused with it
 pub stops_in : {A B : Type 0} (f : A → B) (whole : Option (B × List Token)) (read : Option (A × List Token)) → whole ≡ parse_map f read → (e : Stop)
     → Stops read e → Stops whole e
-stops_in f whole read is NotJson h = is ∙ ap (parse_map f) h
+stops_in f whole read is (NotJson at) h = is ∙ ap (parse_map f) h
 stops_in f whole read is NoMemory h = tt
 
 module _ (depth : ℕ) (tokens rest : List Token) (old : List ℕ) where
@@ -209,26 +231,26 @@ module _ (depth : ℕ) (tokens rest : List Token) (old : List ℕ) where
       → Reads depth tokens rest old old seen
   plain_read json seen e is = record { json = json; parsed = e; added = []; all = sym (append-nil old); is = is }
 
-  pub array_read : (inner : ℕ) (s : List Token) (new : List ℕ) (r : Result (Unit {0}) BadMember)
+  pub array_read : (inner : ℕ) (s : List Token) (new : List ℕ) (r : Result (Unit {0}) BadItem)
       → converted of_json (value depth tokens) ≡ parse_map array (converted of_items (items (value inner) (length s) s))
-      → ReadsItems inner s rest old new r → Reads depth tokens rest old new (SeenItems r)
+      → ReadsItems inner s rest old new (unplaced r) → Reads depth tokens rest old new (SeenItems r)
   array_read inner s new r opened h = record {
     json = array h.json;
     parsed = opened ∙ ap (parse_map array) h.parsed;
     added = h.added;
     all = h.all;
-    is = record { text = refl; truth = refl; below = h.are; item = refl };
+    is = record { text = refl; truth = refl; below = h.are; item = refl; array = refl };
   }
 
-  pub object_read : (inner : ℕ) (s : List Token) (new : List ℕ) (r : Result Bool BadMember)
+  pub object_read : (inner : ℕ) (s : List Token) (new : List ℕ) (r : Result Bool BadItem)
       → converted of_json (value depth tokens) ≡ parse_map object (converted (λ ms. of_members ms no_members) (members (value inner) (length s) s))
-      → ReadsMembers inner s rest old new r → Reads depth tokens rest old new (SeenItem r)
+      → ReadsMembers inner s rest old new (unplaced r) → Reads depth tokens rest old new (SeenItem r)
   object_read inner s new r opened h = record {
     json = object h.json;
     parsed = opened ∙ ap (parse_map object) h.parsed;
     added = h.adds.added;
     all = h.adds.all;
-    is = record { text = refl; truth = refl; below = refl; item = h.adds.is };
+    is = record { text = refl; truth = refl; below = refl; item = h.adds.is; array = refl };
   }
 
 pub array_opened : (depth : ℕ) (tokens s : List Token) → tokens ≡ begin_array ∷ s → 0 < depth

@@ -12,3 +12,5 @@ pub mod Sounding
 pub mod Converted
 pub mod Events
 pub mod MembersMet
+pub mod Spotting
+pub mod Counted

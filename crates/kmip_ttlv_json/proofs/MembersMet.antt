@@ -1,6 +1,6 @@
 -- The members of an object that were met, and the item that they make.
 use Rattle.std.proofs.Common.{◌≡◌, ◌≢◌, ◌∙◌, ℕ, ◌+◌, ◌-◌, ◌≤◌, Bool, true, false, not, ◌&&◌, ◌||◌, List, ◌++◌, length, take, drop, Option}
-use Rattle.std.proofs.Common.{Some, None, Ordering, Less, Equal, Greater}
+use Rattle.std.proofs.Common.{Some, None, Ordering, Less, Equal, Greater, inl, inr}
 use Rattle.std.proofs.Common.{Result, Ok, Err, refl, ap, sym, subst, arith, length-append, append_assoc}
 use Rattle.std.proofs.lemmas.List.{take_at, drop_at}
 use Rattle.std.proofs.lemmas.Map.Lookups.{exact_bytes}
@@ -12,14 +12,17 @@ use Rattle.serde_json.specs.Data.{Data, object, Members, no_members, member, put
 use Rattle.serde_json.specs.Find.{as_str, as_bool}
 use Rattle.kmip_ttlv_types.specs.declared.typ.TtlvType.{TtlvType, TheVariants.Structure}
 use Rattle.kmip_ttlv_types.specs.Items.{header}
-use Rattle.kmip_ttlv_types.specs.Trees.{Tree, Trees, node, bytes, node_bytes, bytes_below}
+use Rattle.kmip_ttlv_types.specs.Trees.{Trees, node, bytes, node_bytes, bytes_below}
 use Rattle.kmip_ttlv_json.specs.declared.failure.BadMember.{BadMember}
 use Rattle.kmip_ttlv_json.specs.declared.failure.BadMember.TheVariants.{Members as BadMembers, Tag, Typ}
 use Rattle.kmip_ttlv_json.specs.declared.seen.Seen.{Seen}
+use Rattle.kmip_ttlv_json.specs.declared.seen.Seen.TheVariants.{Text, Truth, Items as SeenItems, Item as SeenItem, Other}
+use Rattle.kmip_ttlv_json.specs.declared.failure.BadItem.{BadItem}
+use Rattle.kmip_ttlv_json.specs.Spots.{is_open, is_tagged_open, is_typed_open, IsEndPlaced}
 use Rattle.kmip_ttlv_json.specs.declared.members.Members.{Members as SeenMembers}
 use Rattle.kmip_ttlv_json.specs.JsonTrees.{tag_in, tag_of_text, type_of_text, content_of, leaf_in, leaf_of, node_of, typed_in, tagged_in, tree_of, below_of}
-use Rattle.kmip_ttlv_json.specs.Events.{text_in, truth_in, items_in, room, AddsItem, AreSeen, IsItem, IsSeen, is_other, has_other, three}
-use Rattle.kmip_ttlv_json.specs.Events.{HasText, HasValue, AreThree}
+use Rattle.kmip_ttlv_json.specs.Events.{text_in, truth_in, items_in, items_at, is_items, placed, unplaced, room, AddsItem, AreSeen, IsItem, IsSeen}
+use Rattle.kmip_ttlv_json.specs.Events.{is_other, has_other, three, HasText, HasValue, AreThree}
 use Rattle.kmip_ttlv_json.specs.Events.{AreMet, Meets}
 
 -- ---- members with other names
@@ -60,18 +63,18 @@ other_put : (k : List ℕ) (d : Data) (ms : Members) → is_other k ≡ true →
 other_put k d no_members h = front_other (is_other k) false h
 other_put k d (member l e ms) h = put_front (slice_cmp nat_cmp k l) k l d e ms refl h (other_put k d ms h)
 
-named_none : (a b c a2 a3 b1 b3 c1 c2 : Bool) (r : Result Tree BadMember)
+named_none : {A : Type 0} (a b c a2 a3 b1 b3 c1 c2 : Bool) (x y : A)
     → (not (a || (a2 || a3)) || (not (b1 || (b || b3)) || (not (c1 || (c2 || c)) || false))) ≡ true
-    → (if a && b && c then r else Err BadMembers) ≡ Err BadMembers
-named_none false b c a2 a3 b1 b3 c1 c2 r h = refl
-named_none true false c a2 a3 b1 b3 c1 c2 r h = refl
-named_none true true false a2 a3 b1 b3 c1 c2 r h = refl
-named_none true true true a2 a3 true b3 true c2 r h = absurd (cc)
-named_none true true true a2 a3 true b3 false true r h = absurd (cc)
-named_none true true true a2 a3 true b3 false false r h = absurd (cc)
-named_none true true true a2 a3 false b3 true c2 r h = absurd (cc)
-named_none true true true a2 a3 false b3 false true r h = absurd (cc)
-named_none true true true a2 a3 false b3 false false r h = absurd (cc)
+    → (if a && b && c then x else y) ≡ y
+named_none false b c a2 a3 b1 b3 c1 c2 x y h = refl
+named_none true false c a2 a3 b1 b3 c1 c2 x y h = refl
+named_none true true false a2 a3 b1 b3 c1 c2 x y h = refl
+named_none true true true a2 a3 true b3 true c2 x y h = absurd (cc)
+named_none true true true a2 a3 true b3 false true x y h = absurd (cc)
+named_none true true true a2 a3 true b3 false false x y h = absurd (cc)
+named_none true true true a2 a3 false b3 true c2 x y h = absurd (cc)
+named_none true true true a2 a3 false b3 false true x y h = absurd (cc)
+named_none true true true a2 a3 false b3 false false x y h = absurd (cc)
 
 -- an object with another member is no item
 other_none : (ms : Members) → has_other ms ≡ true → tree_of (object ms) ≡ Err BadMembers
@@ -80,8 +83,18 @@ other_none (member a d no_members) h = refl
 other_none (member a d (member b e no_members)) h = refl
 other_none (member a d (member b e (member c f no_members))) h =
     named_none (bytes_eq a (codes "tag")) (bytes_eq b (codes "type")) (bytes_eq c (codes "value")) (bytes_eq a (codes "type")) (bytes_eq a (codes "value"))
-    (bytes_eq b (codes "tag")) (bytes_eq b (codes "value")) (bytes_eq c (codes "tag")) (bytes_eq c (codes "type")) (tagged_in (tag_in d) e f (below_of f)) h
+    (bytes_eq b (codes "tag")) (bytes_eq b (codes "value")) (bytes_eq c (codes "tag")) (bytes_eq c (codes "type")) (tagged_in (tag_in d) e f (below_of f))
+    (Err BadMembers) h
 other_none (member a d (member b e (member c f (member k g ms)))) h = refl
+
+other_closed : (ms : Members) → has_other ms ≡ true → is_open (object ms) ≡ false
+other_closed no_members h = refl
+other_closed (member a d no_members) h = refl
+other_closed (member a d (member b e no_members)) h = refl
+other_closed (member a d (member b e (member c f no_members))) h =
+    named_none (bytes_eq a (codes "tag")) (bytes_eq b (codes "type")) (bytes_eq c (codes "value")) (bytes_eq a (codes "type")) (bytes_eq a (codes "value"))
+    (bytes_eq b (codes "tag")) (bytes_eq b (codes "value")) (bytes_eq c (codes "tag")) (bytes_eq c (codes "type")) (is_tagged_open (tag_in d) e f) false h
+other_closed (member a d (member b e (member c f (member k g ms)))) h = refl
 
 -- ---- members of an item
 
@@ -219,23 +232,27 @@ value_lacks added None o h e = refl
 value_lacks added (Some d) None h e = absurd h
 value_lacks added (Some d) (Some t) h e = absurd (cc)
 
-lacks_tag : (b c : Option Data) → tree_of (object (three None b c)) ≡ Err BadMembers
-lacks_tag None None = refl
-lacks_tag None (Some z) = refl
-lacks_tag (Some y) None = refl
-lacks_tag (Some y) (Some z) = refl
+lacks_tag : (b c : Option Data) → (tree_of (object (three None b c)) ≡ Err BadMembers) × (is_open (object (three None b c)) ≡ false)
+lacks_tag None None = (refl, refl)
+lacks_tag None (Some z) = (refl, refl)
+lacks_tag (Some y) None = (refl, refl)
+lacks_tag (Some y) (Some z) = (refl, refl)
 
-lacks_type : (a c : Option Data) → tree_of (object (three a None c)) ≡ Err BadMembers
-lacks_type None None = refl
-lacks_type None (Some z) = refl
-lacks_type (Some x) None = refl
-lacks_type (Some x) (Some z) = refl
+lacks_type : (a c : Option Data) → (tree_of (object (three a None c)) ≡ Err BadMembers) × (is_open (object (three a None c)) ≡ false)
+lacks_type None None = (refl, refl)
+lacks_type None (Some z) = (refl, refl)
+lacks_type (Some x) None = (refl, refl)
+lacks_type (Some x) (Some z) = (refl, refl)
 
-lacks_value : (a b : Option Data) → tree_of (object (three a b None)) ≡ Err BadMembers
-lacks_value None None = refl
-lacks_value None (Some y) = refl
-lacks_value (Some x) None = refl
-lacks_value (Some x) (Some y) = refl
+lacks_value : (a b : Option Data) → (tree_of (object (three a b None)) ≡ Err BadMembers) × (is_open (object (three a b None)) ≡ false)
+lacks_value None None = (refl, refl)
+lacks_value None (Some y) = (refl, refl)
+lacks_value (Some x) None = (refl, refl)
+lacks_value (Some x) (Some y) = (refl, refl)
+
+-- an object is wrong itself
+abbrev pub IsWrong : Members → Type 0
+IsWrong ms = (tree_of (object ms) ≡ Err BadMembers) × (is_open (object ms) ≡ false)
 
 module _ (json : Members) (met : SeenMembers) (front out : List ℕ) (m : Meets json met front out) where
   -- it is no item, and the bytes stay
@@ -245,24 +262,45 @@ module _ (json : Members) (met : SeenMembers) (front out : List ℕ) (m : Meets 
   pub has_others : met.others ≡ true → tree_of (object json) ≡ Err BadMembers
   has_others e = other_none json (subst (λ b. AreMet b json met m.added) e m.are)
 
+  pub others_closed : met.others ≡ true → is_open (object json) ≡ false
+  others_closed e = other_closed json (subst (λ b. AreMet b json met m.added) e m.are)
+
   module _ (only : met.others ≡ false) where
     are_three : AreThree json met m.added
     are_three = subst (λ b. AreMet b json met m.added) only m.are
 
-    pub has_no_tag : met.tag ≡ None → tree_of (object json) ≡ Err BadMembers
-    has_no_tag e =
+    lacking_tag : met.tag ≡ None → IsWrong json
+    lacking_tag e =
         let t = are_three in
-        ap (λ ms. tree_of (object ms)) (t.are ∙ ap (λ a. three a t.typ t.value) (text_lacks t.tag met.tag t.has_tag e)) ∙ lacks_tag t.typ t.value
+        subst IsWrong (sym (t.are ∙ ap (λ a. three a t.typ t.value) (text_lacks t.tag met.tag t.has_tag e))) (lacks_tag t.typ t.value)
+
+    lacking_type : met.typ ≡ None → IsWrong json
+    lacking_type e =
+        let t = are_three in
+        subst IsWrong (sym (t.are ∙ ap (λ b. three t.tag b t.value) (text_lacks t.typ met.typ t.has_type e))) (lacks_type t.tag t.value)
+
+    lacking_value : met.value ≡ None → IsWrong json
+    lacking_value e =
+        let t = are_three in
+        subst IsWrong (sym (t.are ∙ ap (three t.tag t.typ) (value_lacks m.added t.value met.value t.has_value e))) (lacks_value t.tag t.typ)
+
+    pub has_no_tag : met.tag ≡ None → tree_of (object json) ≡ Err BadMembers
+    has_no_tag e = (lacking_tag e).0
 
     pub has_no_type : met.typ ≡ None → tree_of (object json) ≡ Err BadMembers
-    has_no_type e =
-        let t = are_three in
-        ap (λ ms. tree_of (object ms)) (t.are ∙ ap (λ b. three t.tag b t.value) (text_lacks t.typ met.typ t.has_type e)) ∙ lacks_type t.tag t.value
+    has_no_type e = (lacking_type e).0
 
     pub has_no_value : met.value ≡ None → tree_of (object json) ≡ Err BadMembers
-    has_no_value e =
-        let t = are_three in
-        ap (λ ms. tree_of (object ms)) (t.are ∙ ap (three t.tag t.typ) (value_lacks m.added t.value met.value t.has_value e)) ∙ lacks_value t.tag t.typ
+    has_no_value e = (lacking_value e).0
+
+    pub no_tag_closed : met.tag ≡ None → is_open (object json) ≡ false
+    no_tag_closed e = (lacking_tag e).1
+
+    pub no_type_closed : met.typ ≡ None → is_open (object json) ≡ false
+    no_type_closed e = (lacking_type e).1
+
+    pub no_value_closed : met.value ≡ None → is_open (object json) ≡ false
+    no_value_closed e = (lacking_value e).1
 
     -- room for a header is there if the value is items
     pub room_is_there : (seen : Seen) → met.value ≡ Some seen → items_in seen ≡ Ok tt → length front + 8 ≤ length out
@@ -298,9 +336,30 @@ complete json met added tag typ value m e f g =
       seen = z.2;
     }
 
+pub items_plain : (at : ℕ) (seen : Seen) → items_in seen ≡ unplaced (items_at at seen)
+items_plain at (SeenItems r) = refl
+items_plain at (SeenItem r) = refl
+items_plain at (Text s) = refl
+items_plain at (Truth b) = refl
+items_plain at Other = refl
+
+-- what is wrong with a leaf, with its place and without
+pub placed_plain : (at : ℕ) (r : Result Bool BadMember) → unplaced (placed at r) ≡ r
+placed_plain at (Ok structure) = refl
+placed_plain at (Err why) = refl
+
 typed_leaf : (tag : ℕ) (typ : TtlvType) (v : Data) (r : Result Trees BadMember) → typ ≢ Structure → typed_in tag (Some typ) v r ≡ leaf_in tag typ v
 typed_leaf tag Structure v r ne = absurd (ne refl)
 typed_leaf tag typ v r ne = refl
+
+closed_leaf : (typ : TtlvType) (v : Data) → typ ≢ Structure → is_typed_open (Some typ) v ≡ false
+closed_leaf Structure v ne = absurd (ne refl)
+closed_leaf typ v ne = refl
+
+-- where something wrong is said to be
+abbrev place_in : {A : Type 0} → Result A BadItem → ℕ
+place_in (Ok a) = 0
+place_in (Err bad) = bad.at
 
 module _ (json : Members) (met : SeenMembers) (front out : List ℕ) (m : Meets json met front out) (only : met.others ≡ false)
     (tag typ value : Seen) (has_tag : met.tag ≡ Some tag) (has_type : met.typ ≡ Some typ) (has_value : met.value ≡ Some value) where
@@ -312,8 +371,16 @@ module _ (json : Members) (met : SeenMembers) (front out : List ℕ) (m : Meets 
       ap (λ ms. tree_of (object ms)) all.is ∙ ap (λ s. tagged_in (tag_of_text s) all.b all.c (below_of all.c)) all.tag_text
       ∙ ap (λ t. tagged_in t all.b all.c (below_of all.c)) e
 
+  open_as : (o : Option ℕ) → tag_of_text (text_in tag) ≡ o → is_open (object json) ≡ is_tagged_open o all.b all.c
+  open_as o e =
+      ap (λ ms. is_open (object ms)) all.is ∙ ap (λ s. is_tagged_open (tag_of_text s) all.b all.c) all.tag_text
+      ∙ ap (λ t. is_tagged_open t all.b all.c) e
+
   pub bad_tag : tag_of_text (text_in tag) ≡ None → tree_of (object json) ≡ Err Tag
   bad_tag e = tagged None e
+
+  pub bad_tag_closed : tag_of_text (text_in tag) ≡ None → is_open (object json) ≡ false
+  bad_tag_closed e = open_as None e
 
   module _ (t : ℕ) (tag_is : tag_of_text (text_in tag) ≡ Some t) where
     typed : (p : Option TtlvType) → type_of_text (text_in typ) ≡ p → tree_of (object json) ≡ typed_in t p all.c (below_of all.c)
@@ -321,8 +388,36 @@ module _ (json : Members) (met : SeenMembers) (front out : List ℕ) (m : Meets 
         tagged (Some t) tag_is ∙ ap (λ s. typed_in t (type_of_text s) all.c (below_of all.c)) all.type_text
         ∙ ap (λ k. typed_in t k all.c (below_of all.c)) e
 
+    open_typed : (p : Option TtlvType) → type_of_text (text_in typ) ≡ p → is_open (object json) ≡ is_typed_open p all.c
+    open_typed p e =
+        open_as (Some t) tag_is ∙ ap (λ s. is_typed_open (type_of_text s) all.c) all.type_text ∙ ap (λ k. is_typed_open k all.c) e
+
     pub bad_type : type_of_text (text_in typ) ≡ None → tree_of (object json) ≡ Err Typ
     bad_type e = typed None e
+
+    pub bad_type_closed : type_of_text (text_in typ) ≡ None → is_open (object json) ≡ false
+    bad_type_closed e = open_typed None e
+
+    -- a leaf is wrong itself
+    pub leaf_placed : (at : ℕ) (k : TtlvType) → k ≢ Structure → type_of_text (text_in typ) ≡ Some k → (r : Result Bool BadMember)
+        → IsEndPlaced at met.value (object json) (placed at r)
+    leaf_placed at k ne e (Ok structure) = tt
+    leaf_placed at k ne e (Err why) = inl (refl, open_typed (Some k) e ∙ closed_leaf k all.c ne)
+
+    -- and a structure, unless its value is items
+    value_is : (at : ℕ) (seen : Seen) (bad : BadItem) → items_at at seen ≡ Err bad → is_open (object json) ≡ is_items seen → met.value ≡ Some seen
+        → IsEndPlaced at met.value (object json) (Err bad)
+    value_is at (SeenItems (Ok u)) bad e is there = absurd (cc)
+    value_is at (SeenItems (Err b)) bad e is there = inr (is, there ∙ ap (λ (r : Result (Unit {0}) BadItem). Some (SeenItems r)) e)
+    value_is at (SeenItem r) bad e is there = inl (sym (ap place_in e), is)
+    value_is at (Text s) bad e is there = inl (sym (ap place_in e), is)
+    value_is at (Truth b) bad e is there = inl (sym (ap place_in e), is)
+    value_is at Other bad e is there = inl (sym (ap place_in e), is)
+
+    pub structure_placed : (at : ℕ) → type_of_text (text_in typ) ≡ Some Structure → (r : Result Bool BadItem)
+        → (Q : Type 0) → IfErr r (λ bad. (items_at at value ≡ Err bad) × Q) → IsEndPlaced at met.value (object json) r
+    structure_placed at e (Ok structure) Q err = tt
+    structure_placed at e (Err bad) Q err = value_is at value bad err.0 (open_typed (Some Structure) e ∙ all.seen.array) has_value
 
     module _ (top : ℕ) (top_is : length front ≡ top) (new : List ℕ) where
       -- the header of a structure is put in
@@ -355,11 +450,16 @@ module _ (json : Members) (met : SeenMembers) (front out : List ℕ) (m : Meets 
           let b = subst (λ i. AreSeen below i m.added) err.0 seen in
           record { added = m.added; all = err.1 ∙ m.all; is = is ∙ ap (node_of t) b }
 
-      pub structure_ends : (r : Result Bool BadMember) → type_of_text (text_in typ) ≡ Some Structure
-          → IfOk r (λ structure. (structure ≡ true) × (items_in value ≡ Ok tt)
+      pub structure_ends : (at : ℕ) (r : Result Bool BadItem) → type_of_text (text_in typ) ≡ Some Structure
+          → IfOk r (λ structure. (structure ≡ true) × (items_at at value ≡ Ok tt)
           × (new ≡ take top out ++ (header t Structure (length out - (top + 8)) ++ drop (top + 8) out)))
-          → IfErr r (λ bad. (items_in value ≡ Err bad) × (new ≡ out)) → AddsItem (tree_of (object json)) front new r
-      structure_ends r e ok err = structure_item r (below_of all.c) (items_in value) (typed (Some Structure) e) all.seen.below ok err
+          → IfErr r (λ bad. (items_at at value ≡ Err bad) × (new ≡ out)) → AddsItem (tree_of (object json)) front new (unplaced r)
+      structure_ends at (Ok s) e ok err =
+          structure_item (Ok s) (below_of all.c) (items_in value) (typed (Some Structure) e) all.seen.below
+          (ok.0, items_plain at value ∙ ap unplaced ok.1, ok.2) tt
+      structure_ends at (Err bad) e ok err =
+          structure_item (Err bad.bad) (below_of all.c) (items_in value) (typed (Some Structure) e) all.seen.below tt
+          (items_plain at value ∙ ap unplaced err.0, err.1)
 
       pub leaf_ends : (k : TtlvType) → k ≢ Structure → type_of_text (text_in typ) ≡ Some k → (r : Result Bool BadMember)
           → AddsItem (leaf_of t k (content_of k (text_in value) (truth_in value))) (take top out) new r → AddsItem (tree_of (object json)) front new r

@@ -7,15 +7,17 @@ use Rattle.serde_json.specs.Data.{Data, object, Items, Members, no_members, memb
 use Rattle.serde_json.specs.Find.{as_str, as_bool}
 use Rattle.serde_json.specs.Read.{read, converted, of_json, of_items, of_members}
 use Rattle.kmip_ttlv_types.specs.Trees.{Tree, Trees, bytes, bytes_below}
+use Rattle.kmip_ttlv_json.specs.declared.failure.BadItem.{BadItem}
 use Rattle.kmip_ttlv_json.specs.declared.failure.BadMember.{BadMember}
 use Rattle.kmip_ttlv_json.specs.declared.failure.BadMember.TheVariants.{Members as BadMembers, Value}
 use Rattle.kmip_ttlv_json.specs.declared.seen.Seen.{Seen}
-use Rattle.kmip_ttlv_json.specs.declared.seen.Seen.TheVariants.{Text, Truth, Items as SeenItems, Item as SeenItem}
+use Rattle.kmip_ttlv_json.specs.declared.seen.Seen.TheVariants.{Text, Truth, Items as SeenItems, Item as SeenItem, Other}
 use Rattle.kmip_ttlv_json.specs.declared.members.Members.{Members as SeenMembers}
 use Rattle.kmip_ttlv_json.specs.declared.read.Stop.{Stop}
 use Rattle.kmip_ttlv_json.specs.declared.read.Stop.TheVariants.{NotJson, NoMemory}
 use Rattle.kmip_ttlv_json.specs.JsonTrees.{tree_of, below_of, trees_of}
 use Rattle.kmip_ttlv_json.specs.Readings.{is_node}
+use Rattle.kmip_ttlv_json.specs.Spots.{is_array}
 
 -- ---- a value
 
@@ -29,17 +31,51 @@ abbrev pub truth_in : Seen → Option Bool
 truth_in (Truth b) = Some b
 truth_in seen = None
 
--- what is wrong with it as a structure's value
+-- it is an array
+abbrev pub is_items : Seen → Bool
+is_items (Text s) = false
+is_items (Truth b) = false
+is_items (SeenItems r) = true
+is_items (SeenItem r) = false
+is_items Other = false
+
+-- what is wrong, without its place
+abbrev pub unplaced : {A : Type 0} → Result A BadItem → Result A BadMember
+unplaced (Ok a) = Ok a
+unplaced (Err bad) = Err bad.bad
+
+-- what is wrong with the item behind so many tokens itself
+abbrev pub bad_at : {A : Type 0} → ℕ → BadMember → Result A BadItem
+bad_at at bad = Err (record { bad = bad; at = at })
+
+abbrev pub placed : ℕ → Result Bool BadMember → Result Bool BadItem
+placed at (Ok structure) = Ok structure
+placed at (Err bad) = bad_at at bad
+
+-- what is wrong with it as a structure's value, where this is behind so many tokens
+abbrev pub items_at : ℕ → Seen → Result (Unit {0}) BadItem
+items_at at (SeenItems r) = r
+items_at at seen = bad_at at Value
+
 abbrev pub items_in : Seen → Result (Unit {0}) BadMember
-items_in (SeenItems r) = r
+items_in (SeenItems r) = unplaced r
 items_in seen = Err Value
 
 -- what is wrong with it as an item, or whether it is a structure
+abbrev pub item_at : ℕ → Seen → Result Bool BadItem
+item_at at (SeenItem r) = r
+item_at at seen = bad_at at BadMembers
+
 abbrev pub item_in : Seen → Result Bool BadMember
-item_in (SeenItem r) = r
+item_in (SeenItem r) = unplaced r
 item_in seen = Err BadMembers
 
 -- what is wrong with items, behind which there is one more
+abbrev pub both_at : Result (Unit {0}) BadItem → Result Bool BadItem → Result (Unit {0}) BadItem
+both_at (Ok done) (Ok structure) = Ok done
+both_at (Ok done) (Err bad) = Err bad
+both_at (Err bad) item = Err bad
+
 abbrev pub both_seen : Result (Unit {0}) BadMember → Result Bool BadMember → Result (Unit {0}) BadMember
 both_seen (Ok done) (Ok structure) = Ok done
 both_seen (Ok done) (Err bad) = Err bad
@@ -76,12 +112,13 @@ pub record IsSeen (seen : Seen) (json : Data) (added : List ℕ) : Type 0 where
   pub truth : as_bool json ≡ truth_in seen
   pub below : AreSeen (below_of json) (items_in seen) added
   pub item : IsItem (tree_of json) (item_in seen) added
+  pub array : is_array json ≡ is_items seen
 
 -- ---- what tokens are read as
 
 -- why they are not read
 abbrev pub Stops : {A : Type 0} → Option A → Stop → Type 0
-Stops read NotJson = read ≡ None
+Stops read (NotJson at) = read ≡ None
 Stops read NoMemory = Unit {0}
 
 -- a value was read, and bytes were added

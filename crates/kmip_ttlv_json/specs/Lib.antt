@@ -3,6 +3,8 @@ pub mod Jsons
 pub mod Parts
 pub mod Printings
 pub mod JsonTrees
+pub mod Places
+pub mod Spots
 pub mod Readings
 pub mod Events
 pub mod Laws

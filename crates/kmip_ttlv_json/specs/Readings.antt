@@ -10,6 +10,8 @@ use Rattle.kmip_ttlv_json.specs.declared.failure.BadMember.TheVariants.{Members,
 use Rattle.kmip_ttlv_json.specs.declared.failure.JsonError.{JsonError}
 use Rattle.kmip_ttlv_json.specs.declared.failure.JsonError.TheVariants.{NotJson, TooDeep, NotItem, NotStructure, TooLong, OutOfMemory}
 use Rattle.kmip_ttlv_json.specs.JsonTrees.{tree_of}
+use Rattle.kmip_ttlv_json.specs.Places.{offset_of}
+use Rattle.kmip_ttlv_json.specs.Spots.{Breaks, Blamed}
 
 -- the text is JSON, which reads as this tree, or not
 pub record ReadsAs (text : List ℕ) (result : Result Tree BadMember) : Type 0 where
@@ -44,24 +46,42 @@ is_deep depth (t ∷ ts) = nat_lt max_depth (depth_behind depth t) || is_deep (d
 
 -- why a text is not read as a message
 abbrev pub FailsToRead : List ℕ → JsonError → Type 0
-FailsToRead text (NotJson line column) = read text ≡ None
-FailsToRead text (TooDeep line column) = (read text ≡ None) × (is_deep 0 (tokens text) ≡ true)
-FailsToRead text (NotItem bad) = ReadsAs text (Err bad)
-FailsToRead text NotStructure = (t : Tree) × ReadsAs text (Ok t) × ¬ (IsStructure t)
-FailsToRead text TooLong = (t : Tree) × ReadsAs text (Ok t) × IsStructure t × ¬ (Fits t)
+FailsToRead text (NotJson offset) = (read text ≡ None) × Breaks text offset
+FailsToRead text (TooDeep offset) = (read text ≡ None) × (is_deep 0 (tokens text) ≡ true) × Breaks text offset
+FailsToRead text (NotItem bad offset) = ReadsAs text (Err bad) × Blamed text offset
+FailsToRead text (NotStructure offset) = ((t : Tree) × ReadsAs text (Ok t) × ¬ (IsStructure t)) × (offset ≡ offset_of 0 text)
+FailsToRead text (TooLong offset) = ((t : Tree) × ReadsAs text (Ok t) × IsStructure t × ¬ (Fits t)) × (offset ≡ offset_of 0 text)
 FailsToRead text OutOfMemory = Unit {0}
 
 -- the words for it
 abbrev pub error_words : JsonError → List ℕ
-error_words (NotJson line column) = codes "not JSON"
-error_words (TooDeep line column) = codes "nested more than 127 deep"
-error_words (NotItem Members) = codes "an item without exactly tag, type and value"
-error_words (NotItem Tag) = codes "a tag is not 0x and six hexadecimal digits"
-error_words (NotItem Typ) = codes "the name of a type is unknown"
-error_words (NotItem Value) = codes "a value is none of its type"
-error_words NotStructure = codes "the root is no Structure"
-error_words TooLong = codes "a length has more than four bytes"
+error_words (NotJson offset) = codes "not JSON"
+error_words (TooDeep offset) = codes "nested more than 127 deep"
+error_words (NotItem Members offset) = codes "an item without exactly tag, type and value"
+error_words (NotItem Tag offset) = codes "a tag is not 0x and six hexadecimal digits"
+error_words (NotItem Typ offset) = codes "the name of a type is unknown"
+error_words (NotItem Value offset) = codes "a value is none of its type"
+error_words (NotStructure offset) = codes "the root is no Structure"
+error_words (TooLong offset) = codes "a length has more than four bytes"
 error_words OutOfMemory = codes "out of memory"
+
+-- where it is
+abbrev pub error_offset : JsonError → ℕ
+error_offset (NotJson offset) = offset
+error_offset (TooDeep offset) = offset
+error_offset (NotItem bad offset) = offset
+error_offset (NotStructure offset) = offset
+error_offset (TooLong offset) = offset
+error_offset OutOfMemory = 0
+
+-- the same in a text that has so many bytes more in front
+abbrev pub moved : ℕ → JsonError → JsonError
+moved count (NotJson offset) = NotJson (offset + count)
+moved count (TooDeep offset) = TooDeep (offset + count)
+moved count (NotItem bad offset) = NotItem bad (offset + count)
+moved count (NotStructure offset) = NotStructure (offset + count)
+moved count (TooLong offset) = TooLong (offset + count)
+moved count OutOfMemory = OutOfMemory
 
 -- a tree is a structure
 abbrev pub is_node : Tree → Bool

@@ -3,9 +3,10 @@
 //! `print` prints a message as a line of JSON, item by item, over the walk of kmip_ttlv_items, and `quoted` a text in
 //! it. The JSON of a message is defined over trees in specs/Jsons, in the words of the toolchain's `serde_json`.
 //!
-//! `read` reads a message back from JSON as `serde_json` parses it, into canonical bytes, with no tree between: `seen` has what a value is
-//! seen as, `number` which numbers there are, `members` what the members of an item stand for, `adding` the bytes of items, `nesting`
-//! whether it nests too deep, and `failure` why a text is no message. The tree that JSON is, is defined in specs/JsonTrees.
+//! `read` reads a message back from JSON as `serde_json` parses it, into canonical bytes, with no tree between: `tokens` counts the tokens
+//! that are taken, `seen` has what a value is seen as, `number` which numbers there are, `members` what the members of an item stand for,
+//! `adding` the bytes of items, `nesting` whether it nests too deep, `places` where a token begins, and `failure` why a text is no message.
+//! The tree that JSON is, is defined in specs/JsonTrees, and where it is none in specs/Spots.
 #![tactic(auto)]
 
 mod adding;
@@ -14,10 +15,12 @@ pub mod laws;
 mod members;
 mod nesting;
 mod number;
+mod places;
 mod print;
 mod quoted;
 mod read;
 mod seen;
+mod tokens;
 
 pub use failure::{BadMember, JsonError};
 pub use print::{Hiding, push_json};

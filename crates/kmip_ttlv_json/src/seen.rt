@@ -1,9 +1,9 @@
 //! What a value of JSON is seen as: as much of it as an item's members can be told from, whatever they are.
 
 ghost use Rattle.std.specs.Prelude.{◌≡◌, option_map};
-ghost use Rattle.kmip_ttlv_json.specs.Events.{text_in, truth_in, items_in, item_in};
+ghost use Rattle.kmip_ttlv_json.specs.Events.{text_in, truth_in, items_at, item_at};
 
-use crate::failure::BadMember;
+use crate::failure::{BadItem, BadMember};
 
 /// What a value of JSON is seen as.
 #[derive(Clone, Copy)]
@@ -13,9 +13,9 @@ pub enum Seen<'t> {
     /// `true` or `false`.
     Truth(bool),
     /// An array: of items, whose bytes were added behind room for a header, or what is wrong with the first that isn't one.
-    Items(Result<(), BadMember>),
+    Items(Result<(), BadItem>),
     /// An object: an item, whose bytes were added, and whether it is a Structure, or what is wrong with it.
-    Item(Result<bool, BadMember>),
+    Item(Result<bool, BadItem>),
     /// A number or `null`.
     Other,
 }
@@ -41,23 +41,29 @@ impl<'t> Seen<'t> {
         }
     }
 
-    /// What is wrong with it as a Structure's value.
-    pub fn items(self) -> Result<(), BadMember>
-        ensures { result ≡ items_in self.entry }
+    /// What is wrong with it as the value of a Structure behind so many tokens.
+    pub fn items(self, at: usize) -> Result<(), BadItem>
+        ensures { result ≡ items_at at self.entry }
     {
         match self {
             Seen::Items(items) => items,
-            _ => Err(BadMember::Value),
+            _ => Err(BadItem {
+                bad: BadMember::Value,
+                at,
+            }),
         }
     }
 
-    /// What is wrong with it as an item, or whether it is a Structure.
-    pub fn item(self) -> Result<bool, BadMember>
-        ensures { result ≡ item_in self.entry }
+    /// What is wrong with it as an item behind so many tokens, or whether it is a Structure.
+    pub fn item(self, at: usize) -> Result<bool, BadItem>
+        ensures { result ≡ item_at at self.entry }
     {
         match self {
             Seen::Item(item) => item,
-            _ => Err(BadMember::Members),
+            _ => Err(BadItem {
+                bad: BadMember::Members,
+                at,
+            }),
         }
     }
 }
