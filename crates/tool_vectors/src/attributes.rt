@@ -4,7 +4,7 @@ use crate::runs::{Outcome, names_in, of, run_with};
 use kmip_ttlv_types::TtlvTag;
 use std::alloc::{AllocError, Global};
 use ttlv_run::run::run;
-use ttlv_run::{Encoding, Job, Look, Task, Values};
+use ttlv_run::{Asked, Encoding, Look, Task, Values};
 
 // How lines are printed, a message, and its lines.
 type Row = (Look<'static>, &'static str, &'static str);
@@ -100,8 +100,7 @@ fn secret_names(alloc: Global) -> Result<Outcome, AllocError> {
     {
         return Err(AllocError);
     }
-    let job = Job {
-        name: "capture",
+    let asked = Asked::Print {
         task: Task::Show { look: SECRETS },
         encoding: Encoding::Hexadecimal,
     };
@@ -109,7 +108,8 @@ fn secret_names(alloc: Global) -> Result<Outcome, AllocError> {
     let mut errors = Vec::new(alloc);
     let status = run(
         of(alloc),
-        &job,
+        asked,
+        "capture",
         &names,
         &mut NAMED.as_bytes(),
         &mut output,

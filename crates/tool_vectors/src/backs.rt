@@ -1,14 +1,14 @@
 //! Diagnostics that come in pieces: each line is read back once it is whole, in memory of the longest line's size.
 
-use crate::pieces::{Counted, Slow, times};
+use crate::pieces::{asked_slow, times};
 use crate::runs::{Outcome, names_in, repeated};
 use kmip_ttlv_memory::BoundedAllocator;
 use std::alloc::{AllocError, Allocator, Global};
 use std::cell::Cell;
 use std::io;
 use std::io::{ErrorKind, Read, Write};
-use ttlv_run::run::read_back;
-use ttlv_run::{BackJob, Memory};
+use ttlv_run::run::run;
+use ttlv_run::{Asked, Memory};
 
 // A diagnostic with the prefix 4200, and its line.
 const DIAGNOSTIC: &str = "69[6Ai]\n";
@@ -25,37 +25,8 @@ fn back_slow<A: Allocator + Copy>(
     fails: bool,
 ) -> Result<(Outcome, usize), AllocError> {
     let names = names_in(alloc)?;
-    let job = BackJob {
-        name: "capture",
-        prefix: "4200",
-    };
-    let memory = Memory {
-        input: heap,
-        rest: alloc,
-    };
-    let written = Cell::new(0);
-    let by_second = Cell::new(0);
-    let mut input = Slow {
-        bytes,
-        most,
-        fails,
-        reads: 0,
-        written: &written,
-        by_second: &by_second,
-    };
-    let mut output = Vec::new(alloc);
-    let mut errors = Vec::new(alloc);
-    let mut counted = Counted {
-        taken: &mut output,
-        written: &written,
-    };
-    let status = read_back(memory, &job, &names, &mut input, &mut counted, &mut errors);
-    let outcome = Outcome {
-        status,
-        output,
-        errors,
-    };
-    Ok((outcome, by_second.get()))
+    let asked = Asked::ReadBack { prefix: "4200" };
+    Ok(asked_slow(heap, alloc, &names, asked, bytes, most, fails))
 }
 
 // Whether the first of two lines, which comes in the first read, is printed before the second read.
@@ -209,10 +180,7 @@ impl Write for Closed {
 // The status of reading back lines without an end into a closed pipe, and after how many reads it ended.
 fn closed_status(alloc: Global) -> Result<(u8, u64), AllocError> {
     let names = names_in(alloc)?;
-    let job = BackJob {
-        name: "capture",
-        prefix: "4200",
-    };
+    let asked = Asked::ReadBack { prefix: "4200" };
     let memory = Memory {
         input: alloc,
         rest: alloc,
@@ -220,7 +188,15 @@ fn closed_status(alloc: Global) -> Result<(u8, u64), AllocError> {
     let reads = Cell::new(0);
     let mut input = Endless { reads: &reads };
     let mut errors = Vec::new(alloc);
-    let status = read_back(memory, &job, &names, &mut input, &mut Closed, &mut errors);
+    let status = run(
+        memory,
+        asked,
+        "capture",
+        &names,
+        &mut input,
+        &mut Closed,
+        &mut errors,
+    );
     Ok((status, reads.get()))
 }
 

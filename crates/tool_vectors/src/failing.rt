@@ -9,7 +9,7 @@ use std::alloc::{AllocError, Global};
 use std::io;
 use std::io::{ErrorKind, Read, Write};
 use ttlv_run::run::run;
-use ttlv_run::{Encoding, Hiding, Job, Look, Task, Values};
+use ttlv_run::{Asked, Encoding, Hiding, Look, Task, Values};
 
 const SHOW: Task<'static> = Task::Show { look: Look::PLAIN };
 
@@ -177,8 +177,7 @@ fn run_between(
     writes: (usize, ErrorKind),
 ) -> Result<Outcome, AllocError> {
     let names = names_in(alloc)?;
-    let job = Job {
-        name: "capture",
+    let asked = Asked::Print {
         task: Task::Hexadecimal,
         encoding: Encoding::Detected,
     };
@@ -196,7 +195,8 @@ fn run_between(
     };
     let status = run(
         of(alloc),
-        &job,
+        asked,
+        "capture",
         &names,
         &mut input,
         &mut narrow,

@@ -1,10 +1,9 @@
 //! The memory that lines of JSON take, and what comes of it when some is refused.
 
-use crate::runs::{Outcome, repeated};
+use crate::runs::{Outcome, no_names, repeated, run_asked};
 use kmip_ttlv_memory::BoundedAllocator;
 use std::alloc::{AllocError, Allocator, Global};
-use ttlv_run::JsonJob;
-use ttlv_run::from_json::read_json;
+use ttlv_run::Asked;
 
 // What a line begins with, what comes so often that it has 120,000 bytes, what it ends with, and the status.
 type Row = (&'static str, &'static str, &'static str, u8);
@@ -85,19 +84,8 @@ fn line_of(alloc: Global, row: Row) -> Result<String, AllocError> {
 
 // A run over a line; what it takes comes from `heap`.
 fn outcome_of<A: Allocator + Copy>(alloc: Global, heap: A, line: &str) -> Outcome {
-    let job = JsonJob {
-        name: "capture",
-        raw: false,
-    };
-    let mut input = line.as_bytes();
-    let mut output = Vec::new(alloc);
-    let mut errors = Vec::new(alloc);
-    let status = read_json(heap, &job, &mut input, &mut output, &mut errors);
-    Outcome {
-        status,
-        output,
-        errors,
-    }
+    let asked = Asked::FromJson { raw: false };
+    run_asked(heap, alloc, &no_names(heap), asked, line.as_bytes())
 }
 
 // Whether a line is read within four times its length and a constant.

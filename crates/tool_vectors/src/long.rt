@@ -9,7 +9,7 @@ use std::alloc::{AllocError, Global};
 use std::io;
 use std::io::{ErrorKind, Write};
 use ttlv_run::run::run;
-use ttlv_run::{Encoding, Job, Look, Memory, Task};
+use ttlv_run::{Asked, Encoding, Look, Memory, Task};
 
 const SHOW: Task<'static> = Task::Show { look: Look::PLAIN };
 
@@ -89,8 +89,7 @@ const ONE_NUMBER: &str = "QgBpAQAAABBCAGoCAAAABAAAAAEAAAAA";
 // How many allocations a run makes for its input.
 fn growths(alloc: Global, encoding: Encoding, input: &str) -> Result<u64, AllocError> {
     let names = names_in(alloc)?;
-    let job = Job {
-        name: "capture",
+    let asked = Asked::Print {
         task: Task::Check {
             kmip: false,
             empty: false,
@@ -106,7 +105,15 @@ fn growths(alloc: Global, encoding: Encoding, input: &str) -> Result<u64, AllocE
         let mut input = input.as_bytes();
         let mut output = Vec::new(alloc);
         let mut errors = Vec::new(alloc);
-        run(memory, &job, &names, &mut input, &mut output, &mut errors);
+        run(
+            memory,
+            asked,
+            "capture",
+            &names,
+            &mut input,
+            &mut output,
+            &mut errors,
+        );
         if !heap.has_failed() {
             return Ok(before);
         }
@@ -149,8 +156,7 @@ fn nested_status(alloc: Global, depth: u32, most: usize) -> Result<u8, AllocErro
     let text = nested(alloc, depth)?;
     let small = BoundedAllocator::in_blocks(alloc, most);
     let names = names_in(&small)?;
-    let job = Job {
-        name: "capture",
+    let asked = Asked::Print {
         task: Task::Check {
             kmip: false,
             empty: false,
@@ -164,7 +170,15 @@ fn nested_status(alloc: Global, depth: u32, most: usize) -> Result<u8, AllocErro
     let mut input = text.as_bytes();
     let mut output = Vec::new(alloc);
     let mut errors = Vec::new(alloc);
-    Ok(run(memory, &job, &names, &mut input, &mut output, &mut errors))
+    Ok(run(
+        memory,
+        asked,
+        "capture",
+        &names,
+        &mut input,
+        &mut output,
+        &mut errors,
+    ))
 }
 
 #[test]
@@ -229,8 +243,7 @@ impl Write for Full<'_> {
 // A run whose output is full after this many bytes.
 fn run_into(alloc: Global, input: &str, room: usize) -> Result<Outcome, AllocError> {
     let names = names_in(alloc)?;
-    let job = Job {
-        name: "capture",
+    let asked = Asked::Print {
         task: SHOW,
         encoding: Encoding::Detected,
     };
@@ -241,7 +254,15 @@ fn run_into(alloc: Global, input: &str, room: usize) -> Result<Outcome, AllocErr
         taken: &mut output,
         room,
     };
-    let status = run(of(alloc), &job, &names, &mut input, &mut full, &mut errors);
+    let status = run(
+        of(alloc),
+        asked,
+        "capture",
+        &names,
+        &mut input,
+        &mut full,
+        &mut errors,
+    );
     Ok(Outcome {
         status,
         output,

@@ -9,7 +9,7 @@ use kmip_ttlv_names::{
 use std::alloc::Global;
 use ttlv_run::run::run;
 use ttlv_run::table::own_table;
-use ttlv_run::{Encoding, Job, Look, Names, Task};
+use ttlv_run::{Asked, Encoding, Look, Names, Task};
 
 // A user's table, a message, and its lines.
 const ROWS: [(&str, &str, &str); 6] = [
@@ -76,14 +76,14 @@ fn printed(alloc: Global, table: &str, message: &str) -> Result<Outcome, TableEr
         own: own.values,
         secrets: standard_secrets(alloc)?,
     };
-    let job = Job {
-        name: "capture",
+    let asked = Asked::Print {
         task: Task::Show { look: Look::PLAIN },
         encoding: Encoding::Hexadecimal,
     };
     let status = run(
         of(alloc),
-        &job,
+        asked,
+        "capture",
         &names,
         &mut message.as_bytes(),
         &mut output,

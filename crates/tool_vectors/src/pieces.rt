@@ -8,7 +8,7 @@ use std::cell::Cell;
 use std::io;
 use std::io::{ErrorKind, Read, Write};
 use ttlv_run::run::run;
-use ttlv_run::{Encoding, Job, Look, Memory, Task};
+use ttlv_run::{Asked, Encoding, Look, Memory, Names, Task};
 
 const SHOW: Task<'static> = Task::Show { look: Look::PLAIN };
 
@@ -20,13 +20,13 @@ const VERSION: [u8; 40] = [
 
 /// Gives so many bytes a read, notes how much was written by the second read, and may fail in place of the input's end.
 #[derive(Drop)]
-pub struct Slow<'a> {
-    pub bytes: &'a [u8],
-    pub most: usize,
-    pub fails: bool,
-    pub reads: usize,
-    pub written: &'a Cell<usize>,
-    pub by_second: &'a Cell<usize>,
+struct Slow<'a> {
+    bytes: &'a [u8],
+    most: usize,
+    fails: bool,
+    reads: usize,
+    written: &'a Cell<usize>,
+    by_second: &'a Cell<usize>,
 }
 
 impl Read for Slow<'_> {
@@ -45,9 +45,9 @@ impl Read for Slow<'_> {
 
 /// Counts what is written.
 #[derive(Drop)]
-pub struct Counted<'a> {
-    pub taken: &'a mut Vec<u8>,
-    pub written: &'a Cell<usize>,
+struct Counted<'a> {
+    taken: &'a mut Vec<u8>,
+    written: &'a Cell<usize>,
 }
 
 impl Write for Counted<'_> {
@@ -71,22 +71,16 @@ pub fn times(alloc: Global, bytes: &[u8], times: u64) -> Result<Vec<u8>, AllocEr
     Ok(all)
 }
 
-/// A run over pieces of so many bytes, and how much was written by the second read.
-pub fn run_slow<A: Allocator + Copy>(
+/// A run over pieces of so many bytes, and how much was written by the second read. The input's memory comes from `heap`.
+pub fn asked_slow<A: Allocator + Copy>(
     heap: A,
     alloc: Global,
-    task: Task<'_>,
-    encoding: Encoding,
+    names: &Names<'_, Global>,
+    asked: Asked<'_>,
     bytes: &[u8],
     most: usize,
     fails: bool,
-) -> Result<(Outcome, usize), AllocError> {
-    let names = names_in(alloc)?;
-    let job = Job {
-        name: "capture",
-        task,
-        encoding,
-    };
+) -> (Outcome, usize) {
     let memory = Memory {
         input: heap,
         rest: alloc,
@@ -107,13 +101,36 @@ pub fn run_slow<A: Allocator + Copy>(
         taken: &mut output,
         written: &written,
     };
-    let status = run(memory, &job, &names, &mut input, &mut counted, &mut errors);
+    let status = run(
+        memory,
+        asked,
+        "capture",
+        names,
+        &mut input,
+        &mut counted,
+        &mut errors,
+    );
     let outcome = Outcome {
         status,
         output,
         errors,
     };
-    Ok((outcome, by_second.get()))
+    (outcome, by_second.get())
+}
+
+/// The same, of a run that prints, with the standard's names.
+pub fn run_slow<A: Allocator + Copy>(
+    heap: A,
+    alloc: Global,
+    task: Task<'_>,
+    encoding: Encoding,
+    bytes: &[u8],
+    most: usize,
+    fails: bool,
+) -> Result<(Outcome, usize), AllocError> {
+    let names = names_in(alloc)?;
+    let asked = Asked::Print { task, encoding };
+    Ok(asked_slow(heap, alloc, &names, asked, bytes, most, fails))
 }
 
 // Whether the first of two messages, which comes in the first read, is printed before the second read.

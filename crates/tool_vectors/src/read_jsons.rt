@@ -1,13 +1,11 @@
 //! Lines of JSON read back as messages, whole and in pieces. What JSON is read back as are tests that are data (crates/vectors).
 
 use crate::jsons::VERSION_JSON;
-use crate::pieces::{Counted, Slow};
-use crate::runs::{Outcome, run_with};
+use crate::pieces::asked_slow;
+use crate::runs::{Outcome, no_names, run_asked, run_with};
 use kmip_ttlv_json::from_json;
 use std::alloc::{AllocError, Global};
-use std::cell::Cell;
-use ttlv_run::from_json::read_json;
-use ttlv_run::{Encoding, Hiding, JsonJob, Task};
+use ttlv_run::{Asked, Encoding, Hiding, Task};
 
 // Structures in one another, with a leaf in the last: 62 around it are read, and 63 nest too deep.
 fn nested(alloc: Global, count: u32) -> bool {
@@ -42,25 +40,19 @@ fn structures_nest(rt: HostRuntime) {
 
 // A run that reads JSON back.
 fn lines_with(alloc: Global, raw: bool, input: &[u8]) -> Outcome {
-    let job = JsonJob {
-        name: "capture",
-        raw,
-    };
-    let mut input = input;
-    let mut output = Vec::new(alloc);
-    let mut errors = Vec::new(alloc);
-    let status = read_json(alloc, &job, &mut input, &mut output, &mut errors);
-    Outcome {
-        status,
-        output,
-        errors,
-    }
+    run_asked(
+        alloc,
+        alloc,
+        &no_names(alloc),
+        Asked::FromJson { raw },
+        input,
+    )
 }
 
 const EMPTY: &str = "{\"tag\":\"0x420069\",\"type\":\"Structure\",\"value\":[]}";
 
 // An input, the status, what is printed, and what on standard error.
-const LINES: [(&str, u8, &str, &str); 11] = [
+const LINES: [(&str, u8, &str, &str); 12] = [
     ("", 0, "", ""),
     ("\n \t\r\n\n", 0, "", ""),
     (EMPTY, 0, "4200690100000000\n", ""),
@@ -77,7 +69,7 @@ const LINES: [(&str, u8, &str, &str); 11] = [
         "4200690100000000\n",
         "capture: byte 50: the root is no Structure\n",
     ),
-    ("\n[1,2\n", 1, "", "capture: byte 1: not JSON, column 4\n"),
+    ("\n[1,2\n", 1, "", "capture: byte 5: not JSON\n"),
     (
         "\n{}\n",
         1,
@@ -95,15 +87,22 @@ const LINES: [(&str, u8, &str, &str); 11] = [
         "\u{feff}\n\u{feff}[1,2\n",
         1,
         "",
-        "capture: byte 4: not JSON, column 4\n",
+        "capture: byte 11: not JSON\n",
+    ),
+    // An item in the second line is wrong.
+    (
+        "{\"tag\":\"0x420069\",\"type\":\"Structure\",\"value\":[]}\n{\"tag\":\"0x420069\",\"type\":\"Structure\",\"value\":[{\"tag\":\"0x42006A\",\"type\":\"Integer\",\"value\":\"0x01\"}]}\n",
+        1,
+        "4200690100000000\n",
+        "capture: byte 95: a value is none of its type\n",
     ),
     // White space of Unicode is none of JSON.
-    ("\u{a0}\n", 1, "", "capture: byte 0: not JSON, column 1\n"),
+    ("\u{a0}\n", 1, "", "capture: byte 0: not JSON\n"),
     (
         "{\"tag\":\"0x420069\",\"type\":\"Structure\",\"value\":[]}\u{2028}\n",
         1,
         "",
-        "capture: byte 0: not JSON, column 49\n",
+        "capture: byte 48: not JSON\n",
     ),
 ];
 
@@ -132,33 +131,8 @@ fn json_comes_back(rt: HostRuntime) {
 
 // A run over pieces of so many bytes, and how much was written by the second read.
 fn lines_slow(alloc: Global, bytes: &[u8], most: usize, fails: bool) -> (Outcome, usize) {
-    let job = JsonJob {
-        name: "capture",
-        raw: false,
-    };
-    let written = Cell::new(0);
-    let by_second = Cell::new(0);
-    let mut input = Slow {
-        bytes,
-        most,
-        fails,
-        reads: 0,
-        written: &written,
-        by_second: &by_second,
-    };
-    let mut output = Vec::new(alloc);
-    let mut errors = Vec::new(alloc);
-    let mut counted = Counted {
-        taken: &mut output,
-        written: &written,
-    };
-    let status = read_json(alloc, &job, &mut input, &mut counted, &mut errors);
-    let outcome = Outcome {
-        status,
-        output,
-        errors,
-    };
-    (outcome, by_second.get())
+    let asked = Asked::FromJson { raw: false };
+    asked_slow(alloc, alloc, &no_names(alloc), asked, bytes, most, fails)
 }
 
 #[test]
@@ -186,7 +160,7 @@ fn a_line_of_json_is_printed_at_once(rt: HostRuntime) {
 #[test]
 fn a_bad_line_of_json_is_the_last(rt: HostRuntime) {
     let (outcome, _) = lines_slow(rt.alloc(), b"[1,2\n", 5, true);
-    assert!(rt; outcome.is(1, "", "capture: byte 0: not JSON, column 4\n"));
+    assert!(rt; outcome.is(1, "", "capture: byte 4: not JSON\n"));
 }
 
 #[test]

@@ -5,8 +5,8 @@ use kmip_ttlv_names::{
 };
 use std::alloc::{AllocError, Allocator, Global};
 use std::collections::HashMap;
-use ttlv_run::run::{read_back, run};
-use ttlv_run::{BackJob, Encoding, Job, Memory, Names, Task};
+use ttlv_run::run::run;
+use ttlv_run::{Asked, Encoding, Memory, Names, Task};
 
 /// A version of the protocol: two numbers.
 pub const VERSION: &str =
@@ -83,7 +83,46 @@ pub fn names_in<A: Allocator + Copy>(heap: A) -> Result<Names<'static, A>, Alloc
     })
 }
 
-/// A run on an input in memory, with the standard's names.
+/// No names. Takes no memory.
+pub fn no_names<A: Allocator + Copy>(heap: A) -> Names<'static, A> {
+    Names {
+        tags: HashMap::new(heap),
+        by_name: HashMap::new(heap),
+        values: HashMap::new(heap),
+        masks: HashMap::new(heap),
+        own: HashMap::new(heap),
+        secrets: HashMap::new(heap),
+    }
+}
+
+/// A run on an input in memory.
+pub fn run_asked<A: Allocator + Copy>(
+    heap: A,
+    alloc: Global,
+    names: &Names<'_, A>,
+    asked: Asked<'_>,
+    input: &[u8],
+) -> Outcome {
+    let mut input = input;
+    let mut output = Vec::new(alloc);
+    let mut errors = Vec::new(alloc);
+    let status = run(
+        of(heap),
+        asked,
+        "capture",
+        names,
+        &mut input,
+        &mut output,
+        &mut errors,
+    );
+    Outcome {
+        status,
+        output,
+        errors,
+    }
+}
+
+/// A run that prints, with the standard's names.
 pub fn run_with<A: Allocator + Copy>(
     heap: A,
     alloc: Global,
@@ -91,42 +130,17 @@ pub fn run_with<A: Allocator + Copy>(
     encoding: Encoding,
     input: &[u8],
 ) -> Result<Outcome, AllocError> {
-    let names = names_in(heap)?;
-    let job = Job {
-        name: "capture",
-        task,
-        encoding,
-    };
-    let mut input = input;
-    let mut output = Vec::new(alloc);
-    let mut errors = Vec::new(alloc);
-    let status = run(of(heap), &job, &names, &mut input, &mut output, &mut errors);
-    Ok(Outcome {
-        status,
-        output,
-        errors,
-    })
+    let asked = Asked::Print { task, encoding };
+    Ok(run_asked(heap, alloc, &names_in(heap)?, asked, input))
 }
 
-/// A run that reads diagnostics back.
+/// A run that reads diagnostics back, with the standard's names.
 pub fn back_with<A: Allocator + Copy>(
     heap: A,
     alloc: Global,
     prefix: &str,
     input: &[u8],
 ) -> Result<Outcome, AllocError> {
-    let names = names_in(heap)?;
-    let job = BackJob {
-        name: "capture",
-        prefix,
-    };
-    let mut input = input;
-    let mut output = Vec::new(alloc);
-    let mut errors = Vec::new(alloc);
-    let status = read_back(of(heap), &job, &names, &mut input, &mut output, &mut errors);
-    Ok(Outcome {
-        status,
-        output,
-        errors,
-    })
+    let asked = Asked::ReadBack { prefix };
+    Ok(run_asked(heap, alloc, &names_in(heap)?, asked, input))
 }

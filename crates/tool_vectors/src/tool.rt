@@ -6,7 +6,7 @@ use std::alloc::{AllocError, Global};
 use std::io;
 use std::io::Read;
 use ttlv_run::files::Opener;
-use ttlv_words::{Request, Terminal, report_usage, request_of, run_request};
+use ttlv_run::{Request, Terminal, report_usage, request_of, run_request};
 
 // A key block, with an enumeration in its key.
 const KEY: &str =

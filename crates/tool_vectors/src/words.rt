@@ -1,8 +1,7 @@
 //! What the command line asks for.
 
 use std::alloc::{AllocError, Global};
-use ttlv_run::{Asked, Encoding, Hiding, Look, Strict, Task, Values};
-use ttlv_words::request_of;
+use ttlv_run::{Asked, Encoding, Hiding, Look, Strict, Task, Values, request_of};
 
 // Arguments, what they ask for, the file of names, and how many files are read.
 type Row = (&'static str, Asked<'static>, Option<&'static str>, usize);

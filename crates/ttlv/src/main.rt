@@ -1,7 +1,7 @@
 //! Prints and checks messages in TTLV: `ttlv show|diag|undiag|check|hex|json|from-json [FILE..]`.
 //!
 //! Here the words of the command line, the files and the streams of the process are handed to
-//! `ttlv_words`, which does the rest over any reader and any writers.
+//! `ttlv_run`, which does the rest over any reader and any writers.
 #![tactic(auto)]
 
 use either::Either;
@@ -15,8 +15,7 @@ use std::{env, fs, io};
 use ttlv_run::files::Opener;
 use ttlv_run::progress::Progress;
 use ttlv_run::run::report_words;
-use ttlv_run::{Asked, Task};
-use ttlv_words::{Request, Terminal, report_usage, request_of, run_request};
+use ttlv_run::{Asked, Request, Task, Terminal, report_usage, request_of, run_request};
 
 /// The status of usage, and of input that can't be read.
 const USAGE: u8 = 2;
@@ -64,7 +63,7 @@ fn opened(rt: &HostRuntime, name: &str) -> Option<File> {
 }
 
 // Whether it is shown how far an input was read: on a terminal, if nothing is printed there meanwhile.
-fn is_shown(rt: &HostRuntime, asked: Asked<'_>) -> bool {
+fn shows_progress(rt: &HostRuntime, asked: Asked<'_>) -> bool {
     let is_printing = match asked {
         Asked::Print {
             task: Task::Check { .. },
@@ -132,7 +131,7 @@ impl Opener for Tables<'_> {
 
 // Does what a request asks for.
 fn run_all(rt: &HostRuntime, request: &Request<'_>) -> u8 {
-    let shown = is_shown(rt, request.asked);
+    let shown = shows_progress(rt, request.asked);
     let variable = env::var(rt, "NO_COLOR");
     let terminal = Terminal {
         is_one: rt.stdout().is_terminal(),

@@ -11,10 +11,10 @@ use Rattle.kmip_ttlv_types.specs.Held.{Held, Gets}
 use Rattle.kmip_ttlv_types.proofs.Held.{gets_none, gets_both}
 use Rattle.kmip_ttlv_util.specs.Pieces.{SomeText}
 use Rattle.ttlv_run.specs.{declared.back.BackFault.BackFault, declared.back.BackReached.BackReached, declared.back.BackReached.TheVariants.Behind}
-use Rattle.ttlv_run.specs.{declared.back.BackReached.TheVariants.NoText, declared.job.BackJob.BackJob, declared.run_error.RunError.RunError, Inputs.IsUnread}
+use Rattle.ttlv_run.specs.{declared.back.BackReached.TheVariants.NoText, declared.run_error.RunError.RunError, Inputs.IsUnread}
 use Rattle.ttlv_run.specs.{Streaming.Yields, Streaming.LinesFail, Texts.Names, Texts.text_back}
 use Rattle.ttlv_run.specs.Backs.{FirstBreak, IsOneLine, AreLines, Finds, ReadsLines, ReadsBack, ReadsFront}
-use Rattle.ttlv_run.specs.Runs.{PrintedBack, NoTextBack, UnwrittenBack, FailsBack}
+use Rattle.ttlv_run.specs.Runs.{streams, PrintedBack, NoTextBack, UnwrittenBack, FailsBack}
 use Rattle.ttlv_run.specs.{declared.run_error.RunError.TheVariants.NoMemory, Reasons.PrintsFront}
 use Rattle.ttlv_run.proofs.{Appending.prints_behind, Appending.memory_ended, BackEnds.first_break, Decided.unread_by, Windows.left_of}
 use Rattle.ttlv_run.proofs.BackLines.{Lined, lined_none, lines_append, back_append, finds_on, finds_last, first_text, rest_text, front_none}
@@ -60,26 +60,26 @@ module _ {tags : ℕ → Option (List ℕ)} {prefix s : List ℕ} {base : ℕ} {
     }
 
 -- what is known of an input whose lines are read back as they come
-pub record BackReading (names : Names) (job : BackJob) (known now : Option (List ℕ)) (output output_now : Held) (base : ℕ) (bytes : List ℕ)
+pub record BackReading (names : Names) (prefix : List ℕ) (known now : Option (List ℕ)) (output output_now : Held) (base : ℕ) (bytes : List ℕ)
     (found : Option BackFault) : Type 0 where
   pub taken : List ℕ
   pub text : List ℕ
   pub consumed : Consumes known now taken
-  pub lined : Lined names.tags job.prefix.now 0 taken base found text
+  pub lined : Lined names.tags prefix 0 taken base found text
   pub are : drop base taken ≡ bytes
   pub appended : Gets output output_now text
 
-pub back_starts : {names : Names} {job : BackJob} {known : Option (List ℕ)} {output : Held} → Consumes known known []
-    → BackReading names job known known output output 0 [] None
+pub back_starts : {names : Names} {prefix : List ℕ} {known : Option (List ℕ)} {output : Held} → Consumes known known []
+    → BackReading names prefix known known output output 0 [] None
 back_starts {output = output} consumed =
     record { taken = []; text = []; consumed = consumed; lined = lined_none; are = refl; appended = gets_none output }
 
-module _ {names : Names} {job : BackJob} {known now : Option (List ℕ)} {output mid : Held} {base : ℕ} {bytes : List ℕ} {found : Option BackFault}
-    (p : BackReading names job known now output mid base bytes found) where
-  pub back_of : {b : List ℕ} → b ≡ bytes → BackReading names job known now output mid base b found
-  back_of is = subst (λ (b : List ℕ). BackReading names job known now output mid base b found) (sym is) p
+module _ {names : Names} {prefix : List ℕ} {known now : Option (List ℕ)} {output mid : Held} {base : ℕ} {bytes : List ℕ} {found : Option BackFault}
+    (p : BackReading names prefix known now output mid base bytes found) where
+  pub back_of : {b : List ℕ} → b ≡ bytes → BackReading names prefix known now output mid base b found
+  back_of is = subst (λ (b : List ℕ). BackReading names prefix known now output mid base b found) (sym is) p
 
-  lines : ReadsLines names.tags job.prefix.now p.taken base p.text
+  lines : ReadsLines names.tags prefix p.taken base p.text
   lines = p.lined.reads
 
   here : 0 + length (take base p.taken) ≡ base
@@ -87,28 +87,28 @@ module _ {names : Names} {job : BackJob} {known now : Option (List ℕ)} {output
 
   -- more bytes came
   pub back_came : {next : Option (List ℕ)} {before after : List ℕ} → before ≡ bytes → Yields now next before after
-      → BackReading names job known next output mid base after found
+      → BackReading names prefix known next output mid base after found
   back_came {next} is yields = record {
     taken = p.taken ++ yields.came;
     text = p.text;
     consumed = Consumes-trans known now next p.taken yields.came p.consumed yields.consumed;
     lined = record {
       reads = reads_longer yields.came lines;
-      finds = subst (λ (s : List ℕ). Finds job.prefix.now 0 s found) (sym (take-append-le base p.taken yields.came lines.within)) p.lined.finds;
+      finds = subst (λ (s : List ℕ). Finds prefix 0 s found) (sym (take-append-le base p.taken yields.came lines.within)) p.lined.finds;
     };
     are = drop-append-le base p.taken yields.came lines.within ∙ ap (λ (s : List ℕ). s ++ yields.came) (p.are ∙ sym is) ∙ sym yields.are;
     appended = p.appended;
   }
 
   module _ {last : Bool} {reached : BackReached} (new : Held)
-      (reported : SomeText (ReadsBack names.tags job.prefix.now base bytes last reached) (Gets mid new))
+      (reported : SomeText (ReadsBack names.tags prefix base bytes last reached) (Gets mid new))
     where
       -- lines were read back, and others are waited for
       pub back_goes : {count : ℕ} {more all : Option BackFault} → last ≡ false → reached ≡ Behind count more → all ≡ option_or found more
-          → BackReading names job known now output new (base + count) (drop count bytes) all × IsOneLine (drop count bytes)
+          → BackReading names prefix known now output new (base + count) (drop count bytes) all × IsOneLine (drop count bytes)
       back_goes {count} {more} unended is all_is =
           let q = rw (unended, is) at reported.is in
-          let finds = subst (λ (n : ℕ). Finds job.prefix.now n (take count bytes) more) (sym here) q.1 in (
+          let finds = subst (λ (n : ℕ). Finds prefix n (take count bytes) more) (sym here) q.1 in (
             record {
               taken = p.taken;
               text = p.text ++ reported.text;
@@ -116,7 +116,7 @@ module _ {names : Names} {job : BackJob} {known now : Option (List ℕ)} {output
               lined = record {
                 reads = reads_on lines p.are q.0;
                 finds = rw (all_is, up_to lines p.are count)
-                    (finds_on job.prefix.now 0 (take base p.taken) (take count bytes) found more p.lined.finds finds);
+                    (finds_on prefix 0 (take base p.taken) (take count bytes) found more p.lined.finds finds);
               };
               are = sym (drop-drop count base p.taken) ∙ ap (drop count) p.are;
               appended = gets_both p.text reported.text p.appended reported.holds;
@@ -126,10 +126,10 @@ module _ {names : Names} {job : BackJob} {known now : Option (List ℕ)} {output
 
       -- all lines were read back
       pub back_printed : {can_fail : Bool} {count : ℕ} {more all : Option BackFault} → last ≡ true → reached ≡ Behind count more → all ≡ option_or found more
-          → IsAtEnd now → PrintedBack names job (record { can_fail = can_fail; input = known; input_left = now; output = output; output_now = new }) all
+          → IsAtEnd now → PrintedBack names prefix (streams can_fail known now output new) all
       back_printed {count = count} {more} ended is all_is end =
           let q = rw (ended, is) at reported.is in
-          let first = subst (λ (n : ℕ). FirstBreak job.prefix.now n (lines_of bytes) more) (sym here) q.3 in
+          let first = subst (λ (n : ℕ). FirstBreak prefix n (lines_of bytes) more) (sym here) q.3 in
           let whole : take base p.taken ++ bytes ≡ p.taken = ap (λ (s : List ℕ). take base p.taken ++ s) (sym p.are) ∙ take-append-drop base p.taken in
           record {
             text = p.text ++ reported.text;
@@ -137,15 +137,15 @@ module _ {names : Names} {job : BackJob} {known now : Option (List ℕ)} {output
               input = p.taken;
               taken = record { taken = p.consumed; ended = end };
               is_text = subst IsUtf8 whole (IsUtf8-append (take base p.taken) bytes lines.is_text q.1);
-              is = texts lines p.are reported.text bytes q.2 ∙ ap (text_back names.tags job.prefix.now) whole;
-              first = rw (all_is, ← whole) (finds_last job.prefix.now 0 (take base p.taken) bytes found more p.lined.finds first);
+              is = texts lines p.are reported.text bytes q.2 ∙ ap (text_back names.tags prefix) whole;
+              first = rw (all_is, ← whole) (finds_last prefix 0 (take base p.taken) bytes found more p.lined.finds first);
             };
             appended = gets_both p.text reported.text p.appended reported.holds;
           }
 
       -- a line is no text
       pub back_no_text : {can_fail : Bool} → reached ≡ NoText → (last ≡ true → IsAtEnd now)
-          → NoTextBack names job (record { can_fail = can_fail; input = known; input_left = now; output = output; output_now = new })
+          → NoTextBack names prefix (streams can_fail known now output new)
       back_no_text is end =
           let q = rw is at reported.is in
           let l = left_of now last end in
@@ -173,8 +173,8 @@ module _ {names : Names} {job : BackJob} {known now : Option (List ℕ)} {output
 
   -- printing failed
   pub back_unwritten : {can_fail : Bool} {why : RunError} {new : Held} {last : Bool} → (last ≡ true → IsAtEnd now)
-      → SomeText (ReadsFront names.tags job.prefix.now bytes last) (PrintsFront why mid new)
-      → UnwrittenBack names job (record { can_fail = can_fail; input = known; input_left = now; output = output; output_now = new }) why
+      → SomeText (ReadsFront names.tags prefix bytes last) (PrintsFront why mid new)
+      → UnwrittenBack names prefix (streams can_fail known now output new) why
   back_unwritten {can_fail} {why} {new} {last} end reported =
       let l = left_of now last end in
       let n = reported.is.count in
@@ -185,14 +185,14 @@ module _ {names : Names} {job : BackJob} {known now : Option (List ℕ)} {output
       let are : all ≡ front ++ more = ap (λ (s : List ℕ). s ++ l.left) (sym (take-append-drop (base + n) p.taken))
       ∙ append_assoc front (drop (base + n) p.taken) l.left in
       let ends = by l.left l.none reported.is.ends in
-      let continues = goes_on names.tags job.prefix.now front more ends in
-      let first = first_break job.prefix.now 0 (lines_of all) in
+      let continues = goes_on names.tags prefix front more ends in
+      let first = first_break prefix 0 (lines_of all) in
       record {
         input = all;
         fault = first.0;
         first = first.1;
         rest = continues.0;
-        is = ap (text_back names.tags job.prefix.now) are ∙ continues.1;
+        is = ap (text_back names.tags prefix) are ∙ continues.1;
         taken = record { front = p.taken; left = l.left; are = refl; taken = p.consumed; rest = l.are };
         front = front;
         more = more;
@@ -200,7 +200,7 @@ module _ {names : Names} {job : BackJob} {known now : Option (List ℕ)} {output
         ends = ends;
         is_text = subst IsUtf8 (sym whole) (IsUtf8-append (take base p.taken) (take n bytes) lines.is_text reported.is.is_text);
         appended = subst (PrintsFront why output new) (texts lines p.are reported.text (take n bytes) reported.is.is
-            ∙ ap (text_back names.tags job.prefix.now) (sym whole)) (prints_behind p.text reported.text p.appended reported.holds);
+            ∙ ap (text_back names.tags prefix) (sym whole)) (prints_behind p.text reported.text p.appended reported.holds);
       }
     where
       by : (left : List ℕ) → (last ≡ true → left ≡ []) → AreLines (take reported.is.count bytes) ⊎ ((last ≡ true) × (reported.is.count ≡ length bytes))
@@ -211,15 +211,15 @@ module _ {names : Names} {job : BackJob} {known now : Option (List ℕ)} {output
 
   -- nothing more was printed
   pub back_no_memory : {can_fail : Bool}
-      → UnwrittenBack names job (record { can_fail = can_fail; input = known; input_left = now; output = output; output_now = mid }) NoMemory
+      → UnwrittenBack names prefix (streams can_fail known now output mid) NoMemory
   back_no_memory =
       let none = memory_ended [] (gets_none mid) in
-      back_unwritten (λ e. cc) (record { text = []; is = front_none names.tags job.prefix.now bytes false; holds = none })
+      back_unwritten (λ e. cc) (record { text = []; is = front_none names.tags prefix bytes false; holds = none })
 
   unread : (can_fail : Bool) → IsOneLine bytes → (why : RunError) → IsUnread can_fail why
-      → FailsBack names job (record { can_fail = can_fail; input = known; input_left = now; output = output; output_now = mid }) why
+      → FailsBack names prefix (streams can_fail known now output mid) why
   unread can_fail one why h =
-      unread_by (FailsBack names job (record { can_fail = can_fail; input = known; input_left = now; output = output; output_now = mid })) why h (λ can. (
+      unread_by (FailsBack names prefix (streams can_fail known now output mid)) why h (λ can. (
         can,
         record {
           bytes = p.taken;
@@ -233,9 +233,9 @@ module _ {names : Names} {job : BackJob} {known now : Option (List ℕ)} {output
       )) back_no_memory
 
 -- reading failed, or memory ran out for it
-pub back_read_fails : {names : Names} {job : BackJob} (can_fail : Bool) {known now next : Option (List ℕ)} {output mid : Held} {base : ℕ}
+pub back_read_fails : {names : Names} {prefix : List ℕ} (can_fail : Bool) {known now next : Option (List ℕ)} {output mid : Held} {base : ℕ}
     {bytes before after : List ℕ} {found : Option BackFault}
-    → BackReading names job known now output mid base bytes found → before ≡ bytes → IsOneLine bytes → LinesFail now next before after
+    → BackReading names prefix known now output mid base bytes found → before ≡ bytes → IsOneLine bytes → LinesFail now next before after
     → (why : RunError) → IsUnread can_fail why
-    → FailsBack names job (record { can_fail = can_fail; input = known; input_left = next; output = output; output_now = mid }) why
+    → FailsBack names prefix (streams can_fail known next output mid) why
 back_read_fails can_fail p is one f = unread (back_came p is f.yields) can_fail (f.one_line (subst IsOneLine (sym is) one))

@@ -5,10 +5,10 @@ use Rattle.std.specs.{Io.KnownBytes.Appends, Fmt.decimal}
 use Rattle.kmip_ttlv_types.specs.Streams.{AppendsFront, UsesRoom, IsTight}
 use Rattle.kmip_ttlv_types.specs.Held.{Held}
 use Rattle.kmip_ttlv_types.proofs.Held.{gets_both, front_behind}
-use Rattle.ttlv_run.specs.{declared.job.Job.Job, declared.run_error.RunError.RunError, declared.job.BackJob.BackJob, declared.misread.Misread.Misread}
+use Rattle.ttlv_run.specs.{declared.job.Job.Job, declared.run_error.RunError.RunError, declared.misread.Misread.Misread}
 use Rattle.ttlv_run.specs.{Inputs.IsUnread, Reasons.IsOfPrinting, Reasons.Reports, Texts.Names}
 use Rattle.ttlv_run.specs.declared.run_error.RunError.TheVariants.{UnreadableInput, UnwritableOutput, ClosedPipe, NoMemory}
-use Rattle.ttlv_run.specs.Escapes.{escaped}
+use Rattle.ttlv_run.specs.Escapes.{escape}
 use Rattle.ttlv_run.specs.Misreadings.{encoding_words, with_kind, line_end, misread_line}
 use Rattle.ttlv_run.specs.Runs.{Streams, Unwritten, Fails, UnwrittenBack, FailsBack}
 
@@ -33,9 +33,9 @@ printing_by P (inr (inr is)) output pipe memory = subst P (sym is) memory
 pub unwritten : {names : Names} {job : Job} {s : Streams} {why : RunError} → IsOfPrinting why → Unwritten names job s why → Fails names job s why
 unwritten {names} {job} {s} is h = printing_by (λ why. Unwritten names job s why → Fails names job s why) is (λ h. h) (λ h. h) (λ h. inr h) h
 
-pub unwritten_back : {names : Names} {job : BackJob} {s : Streams} {why : RunError} → IsOfPrinting why → UnwrittenBack names job s why
-    → FailsBack names job s why
-unwritten_back {names} {job} {s} is h = printing_by (λ why. UnwrittenBack names job s why → FailsBack names job s why) is (λ h. h) (λ h. h) (λ h. h) h
+pub unwritten_back : {names : Names} {prefix : List ℕ} {s : Streams} {why : RunError} → IsOfPrinting why → UnwrittenBack names prefix s why
+    → FailsBack names prefix s why
+unwritten_back {names} {prefix} {s} is h = printing_by (λ why. UnwrittenBack names prefix s why → FailsBack names prefix s why) is (λ h. h) (λ h. h) (λ h. h) h
 
 -- an input was not read
 pub unread_by : (P : RunError → Type 0) {can_fail : Bool} (why : RunError) → IsUnread can_fail why → (IsTrue can_fail → P UnreadableInput) → P NoMemory
@@ -48,5 +48,5 @@ unread_by P why h read memory = absurd h
 pub misread_is : (name words digits end : List ℕ) (m : Misread) → words ≡ encoding_words m.taken
     → digits ≡ decimal m.offset
     → end ≡ line_end m.guessed
-    → with_kind (escaped name ++ codes ": taken as " ++ words ++ codes ": byte " ++ digits) m.kind ++ end ≡ misread_line name m
+    → with_kind (escape name ++ codes ": taken as " ++ words ++ codes ": byte " ++ digits) m.kind ++ end ≡ misread_line name m
 misread_is name words digits end m w d e = rw (w, d, e) refl

@@ -10,7 +10,8 @@ use Rattle.ttlv_run.specs.declared.{run_error.RunError.RunError, coding.Undecode
 use Rattle.ttlv_run.specs.Columns.{first_part, step, Reads, begins, counts, skips}
 use Rattle.ttlv_run.specs.declared.decoder.Made.TheVariants.{Nothing, Bytes, Failed}
 use Rattle.ttlv_run.specs.declared.decoder.Phase.TheVariants.{Groups, Padded, Spoilt}
-use Rattle.ttlv_run.specs.Decoding.{one_or_none, bytes_in, begun, Continues, IsOpen, IsPadded, IsSpoilt, Knows, Yields, Ends, Holds, Takes, Reading, Stuck}
+use Rattle.ttlv_run.specs.Decoding.{one_or_none, bytes_in, open_digits, Continues, IsOpen, IsPadded, IsSpoilt, Knows, Yields}
+use Rattle.ttlv_run.specs.Decoding.{Ends, Holds, Takes, Reading, Stuck}
 use Rattle.ttlv_run.specs.Decoding.{Pushes, AllBytes, Finishes, Grows, Puts, DecodesPiece, DecodesMore}
 use Rattle.ttlv_run.specs.Fronts.{ReadsBytes}
 use Rattle.ttlv_run.specs.Inputs.{decode_form, width, Makes}
@@ -182,7 +183,7 @@ pub counted_takes :
     {old : Decoder} {s bytes : List ℕ} {b : ℕ} {rest : List ℕ} {then_ : LinePart} (new : Decoder) (made : Made)
     → Holds old s bytes (b ∷ rest)
     → step old.form old.part b (slice_index rest 0) ≡ Counts then_
-    → ((digits all : List ℕ) → Knows old.phase old.form digits (begun old) all → Yields new (digits ++ b ∷ []) all made)
+    → ((digits all : List ℕ) → Knows old.phase old.form digits (open_digits old) all → Yields new (digits ++ b ∷ []) all made)
     → new.form ≡ old.form
     → new.part ≡ then_
     → Takes old new s bytes b rest made
@@ -201,13 +202,13 @@ pub record Same (new old : Decoder) : Type 0 where
   pub form : new.form ≡ old.form
   pub part : new.part ≡ old.part
   pub phase : new.phase ≡ old.phase
-  pub begun : begun new ≡ begun old
+  pub begun : open_digits new ≡ open_digits old
 
 -- it holds what the other read, whatever the part is
 pub holds_as : {new : Decoder} {s bytes digits rest : List ℕ} {part : LinePart} (old : Decoder) → new.form ≡ old.form → new.part ≡ part → new.phase ≡ old.phase
-    → begun new ≡ begun old
+    → open_digits new ≡ open_digits old
     → Reads old.form (first_part old.form) s digits part rest
-    → Knows old.phase old.form digits (begun old) bytes
+    → Knows old.phase old.form digits (open_digits old) bytes
     → Holds new s bytes rest
 holds_as {new} {s} {bytes} {digits} {rest} {part} old form part_is phase begun_is reads knows = record {
   digits = digits;
@@ -225,7 +226,7 @@ pub skipped_takes : {old new : Decoder} {s bytes : List ℕ} {b : ℕ} {rest : L
     → new.form ≡ old.form
     → new.part ≡ then_
     → new.phase ≡ old.phase
-    → begun new ≡ begun old
+    → open_digits new ≡ open_digits old
     → Holds new s bytes rest
 skipped_takes {old} {b = b} {rest} {then_} h is form part phase begun_is =
     holds_as old form part phase begun_is (skips h.digits old.part then_ b rest h.reads is) h.knows
@@ -233,7 +234,7 @@ skipped_takes {old} {b = b} {rest} {then_} h is form part phase begun_is =
 -- what a decoder has read
 abbrev pub holds_bytes : {d : Decoder} {s bytes rest : List ℕ} → Holds d s bytes rest → ReadsBytes d.form s bytes rest
 holds_bytes {d} {bytes = bytes} h =
-    record { digits = h.digits; part = d.part; reads = h.reads; makes = knows_makes d.phase d.form h.digits (begun d) bytes h.knows }
+    record { digits = h.digits; part = d.part; reads = h.reads; makes = knows_makes d.phase d.form h.digits (open_digits d) bytes h.knows }
 
 -- ---- a decoder
 

@@ -15,7 +15,7 @@ use Rattle.ttlv_run.specs.declared.form.Form.TheVariants.{HexadecimalText, Base6
 use Rattle.ttlv_run.specs.declared.form.LinePart.TheVariants.{Free}
 use Rattle.ttlv_run.specs.declared.decoder.Phase.TheVariants.{Groups}
 use Rattle.ttlv_run.specs.Columns.{is_hex_digit, is_base64_digit, is_url_digit, is_plain, first_part, step, Reads, counts}
-use Rattle.ttlv_run.specs.Decoding.{begun, one_or_none, BeginsGroup, IsOpen, Knows, Holds, Reading, IsRun, Grows, DecodesRun, DecodesPiece}
+use Rattle.ttlv_run.specs.Decoding.{open_digits, one_or_none, BeginsGroup, IsOpen, Knows, Holds, Reading, IsRun, Grows, DecodesRun, DecodesPiece}
 use Rattle.ttlv_run.specs.Inputs.{decode_form, width}
 use Rattle.ttlv_run.proofs.Groups.{AreWhole, both_whole, prepended, run_decodes}
 use Rattle.ttlv_run.proofs.Decoders.{holds_as}
@@ -94,7 +94,7 @@ open_so : {phase : Phase} {form : Form} {digits left all : List ℕ} → phase �
 open_so {phase} {form} {digits} {left} {all} phase_is left_is o =
     subst (λ (p : Phase). Knows p form digits left all) (sym phase_is) (subst (λ (l : List ℕ). IsOpen form digits l all) (sym left_is) o)
 
-none_begun : (d : Decoder) → d.count ≡ 0 → begun d ≡ []
+none_begun : (d : Decoder) → d.count ≡ 0 → open_digits d ≡ []
 none_begun d is = ap (λ (n : ℕ). take n d.digits) is
 
 module _ {old : Decoder} {mark : ℕ} {s all : List ℕ} (new : Decoder) (d : ℕ) (ds : List ℕ) (next : ℕ) (x : List ℕ)

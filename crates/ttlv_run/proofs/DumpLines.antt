@@ -6,7 +6,8 @@ use Rattle.std.specs.Prelude.{slice_index}
 use Rattle.ttlv_run.specs.declared.form.{Form.Form, Form.TheVariants.DumpText, LinePart.LinePart, Step.TheVariants.Counts, Step.TheVariants.Skips}
 use Rattle.ttlv_run.specs.declared.form.LinePart.TheVariants.{Begin, Offset, Colon, Group, Gap, Between, Half, Whole, Aside}
 use Rattle.ttlv_run.specs.Columns.{is_hex_digit, step, Reads, counts, skips}
-use Rattle.ttlv_run.specs.DumpLines.{only, is_space, is_in_line, is_offset, spaced, joined, are_groups, ColonLine, DumpedByte, is_dumped, are_dumped, dumped}
+use Rattle.ttlv_run.specs.DumpLines.{only, is_space, is_in_line, is_offset, space_groups, join_groups, are_groups, ColonLine}
+use Rattle.ttlv_run.specs.DumpLines.{DumpedByte, is_dumped, are_dumped, write_bytes}
 use Rattle.ttlv_run.specs.DumpLines.{digits_of, BareLine}
 
 -- two tests at once
@@ -65,12 +66,12 @@ module _ (form : Form) (s : List ℕ) where
       → ((n : ℕ) → step form Group 32 n ≡ Skips Gap)
       → (groups : List (List ℕ)) (digits rest : List ℕ)
       → are_groups groups ≡ true
-      → Reads form Begin s digits Gap (spaced groups rest)
-      → Reads form Begin s (digits ++ joined groups) Gap rest
+      → Reads form Begin s digits Gap (space_groups groups rest)
+      → Reads form Begin s (digits ++ join_groups groups) Gap rest
   groups_read first more blank [] digits rest of reads = subst (λ (d : List ℕ). Reads form Begin s d Gap rest) (sym (append-nil digits)) reads
   groups_read first more blank (group ∷ groups) digits rest of reads =
-      let one = group_read Gap first more blank digits group (spaced groups rest) (left (is_offset group) (are_groups groups) of) reads in
-      subst (λ (d : List ℕ). Reads form Begin s d Gap rest) (append_assoc digits group (joined groups))
+      let one = group_read Gap first more blank digits group (space_groups groups rest) (left (is_offset group) (are_groups groups) of) reads in
+      subst (λ (d : List ℕ). Reads form Begin s d Gap rest) (append_assoc digits group (join_groups groups))
       (groups_read first more blank groups (digits ++ group) rest (right (is_offset group) (are_groups groups) of) one)
 
 -- ---- lines of a dump
@@ -112,18 +113,18 @@ module _ (s : List ℕ) where
 
   -- bytes behind an offset without a colon
   dumped_read : (bytes : List DumpedByte) (digits rest : List ℕ) → are_dumped bytes ≡ true
-      → Reads DumpText Begin s digits Between (dumped bytes rest)
+      → Reads DumpText Begin s digits Between (write_bytes bytes rest)
       → Reads DumpText Begin s (digits ++ digits_of bytes) Between rest
   dumped_read [] digits rest of reads = subst (λ (d : List ℕ). Reads DumpText Begin s d Between rest) (sym (append-nil digits)) reads
   dumped_read (d ∷ ds) digits rest of reads =
       let one = left (is_dumped d) (are_dumped ds) of in
       let two = right (is_hex_digit d.high) (is_hex_digit d.low && only is_space d.spaces) one in
-      let high = counts digits (digits ++ d.high ∷ []) Between Half d.high (d.low ∷ 32 ∷ (d.spaces ++ dumped ds rest)) reads
+      let high = counts digits (digits ++ d.high ∷ []) Between Half d.high (d.low ∷ 32 ∷ (d.spaces ++ write_bytes ds rest)) reads
       (cond-true (is_hex_digit d.high) _ _ (left (is_hex_digit d.high) (is_hex_digit d.low && only is_space d.spaces) one)) refl in
-      let low = counts (digits ++ d.high ∷ []) (digits ++ (d.high ∷ d.low ∷ [])) Half Whole d.low (32 ∷ (d.spaces ++ dumped ds rest)) high
+      let low = counts (digits ++ d.high ∷ []) (digits ++ (d.high ∷ d.low ∷ [])) Half Whole d.low (32 ∷ (d.spaces ++ write_bytes ds rest)) high
       (cond-true (is_hex_digit d.low) _ _ (left (is_hex_digit d.low) (only is_space d.spaces) two)) (sym (append_assoc digits (d.high ∷ []) (d.low ∷ []))) in
-      let behind = skips (digits ++ (d.high ∷ d.low ∷ [])) Whole Between 32 (d.spaces ++ dumped ds rest) low refl in
-      let apart = skip_all DumpText s Between is_space between_space (digits ++ (d.high ∷ d.low ∷ [])) d.spaces (dumped ds rest)
+      let behind = skips (digits ++ (d.high ∷ d.low ∷ [])) Whole Between 32 (d.spaces ++ write_bytes ds rest) low refl in
+      let apart = skip_all DumpText s Between is_space between_space (digits ++ (d.high ∷ d.low ∷ [])) d.spaces (write_bytes ds rest)
       (right (is_hex_digit d.low) (only is_space d.spaces) two) behind in
       subst (λ (e : List ℕ). Reads DumpText Begin s e Between rest) (append_assoc digits (d.high ∷ d.low ∷ []) (digits_of ds))
       (dumped_read ds (digits ++ (d.high ∷ d.low ∷ [])) rest (right (is_dumped d) (are_dumped ds) of) apart)
@@ -136,12 +137,12 @@ module _ (s : List ℕ) where
       let from = subst (λ (u : List ℕ). Reads DumpText Begin s digits Begin u) l.is reads in
       let behind = skips digits Offset Colon 58 _ (offset_read digits l.offset _ l.of_offset from) refl in
       let first = skip_all DumpText s Colon is_space colon_space digits l.spaces _ l.of_spaces behind in
-      let one = group_read DumpText s Colon colon_digit group_digit (λ n. refl) digits l.group (spaced l.groups end)
+      let one = group_read DumpText s Colon colon_digit group_digit (λ n. refl) digits l.group (space_groups l.groups end)
       (left (is_offset l.group) (are_groups l.groups) l.of_groups) first in
       let all = groups_read DumpText s gap_digit group_digit (λ n. refl) l.groups (digits ++ l.group) end
       (right (is_offset l.group) (are_groups l.groups) l.of_groups) one in
-      let done = characters_read ((digits ++ l.group) ++ joined l.groups) l.characters rest l.in_line (skips _ Gap Aside 32 _ all refl) in
-      subst (λ (d : List ℕ). Reads DumpText Begin s d Begin rest) (append_assoc digits l.group (joined l.groups)
+      let done = characters_read ((digits ++ l.group) ++ join_groups l.groups) l.characters rest l.in_line (skips _ Gap Aside 32 _ all refl) in
+      subst (λ (d : List ℕ). Reads DumpText Begin s d Begin rest) (append_assoc digits l.group (join_groups l.groups)
       ∙ ap (λ (d : List ℕ). digits ++ d) (sym l.column_is)) done
 
   -- a line of hexdump

@@ -7,7 +7,7 @@ use Rattle.kmip_ttlv_types.proofs.Held.{rests}
 use Rattle.ttlv_run.specs.declared.run_error.RunError.TheVariants.{NoMemory}
 use Rattle.ttlv_run.specs.{declared.job.Job.Job, declared.messages.Place.Place, declared.run_error.RunError.RunError, Fronts.front_size, Fronts.BeginFails}
 use Rattle.ttlv_run.specs.{Inputs.IsUnread, Texts.Names}
-use Rattle.ttlv_run.specs.Runs.{Streams, Faults, Unwritten, FrontsIf, Fails}
+use Rattle.ttlv_run.specs.Runs.{Streams, streams, Faults, Unwritten, FrontsIf, Fails}
 use Rattle.ttlv_run.proofs.{Appending.memory_ended, Decided.unread_by}
 
 -- a fault whose line there was no memory for
@@ -26,9 +26,9 @@ line_lost {names} {job} {s} {place} h = record {
 -- reading failed before the encoding was decided
 pub begin_fails : (names : Names) (job : Job) (can_fail : Bool) {old new : Option (List ℕ)} (output : Held) {before after : List ℕ} → before ≡ []
     → BeginFails job.encoding old new before after → (why : RunError) → IsUnread can_fail why
-    → Fails names job (record { can_fail = can_fail; input = old; input_left = new; output = output; output_now = output }) why
+    → Fails names job (streams can_fail old new output output) why
 begin_fails names job can_fail {old} {new} output {before} {after} none fails why h =
-    unread_by (Fails names job (record { can_fail = can_fail; input = old; input_left = new; output = output; output_now = output })) why h (λ can. (
+    unread_by (Fails names job (streams can_fail old new output output)) why h (λ can. (
       can,
       record {
         bytes = after;

@@ -1,20 +1,20 @@
 -- Lines of JSON that come piece by piece, printed one after the other.
-use Rattle.std.proofs.Common.{arith, ◌≡◌, ◌∙◌, inl, inr, ℕ, ◌+◌, Bool, true, false, List, [], ◌∷◌, ◌++◌, length, take, drop, Option, Some, None, Ok, refl, ap}
-use Rattle.std.proofs.Common.{sym, subst, append_assoc, append-nil, length-append, take-append-drop}
+use Rattle.std.proofs.Common.{arith, ◌≡◌, ◌∙◌, inl, inr, ℕ, ◌+◌, ◌<◌, ◌≤◌, ◌^◌, Bool, true, false, List, [], ◌∷◌, ◌++◌, length, take, drop}
+use Rattle.std.proofs.Common.{Option, Some, None, Ok, refl, ap, sym, subst, append_assoc, append-nil, length-append, take-append-drop}
 use Rattle.std.specs.Io.KnownBytes.{Consumes, IsAtEnd}
-use Rattle.std.specs.{Prelude.slice_index, Str.IsUtf8}
+use Rattle.std.specs.{Prelude.slice_index, Prelude.IfSome, Str.IsUtf8}
 use Rattle.std.proofs.KnownBytes.{Consumes-trans}
 use Rattle.kmip_ttlv_types.specs.Held.{Held, Gets}
 use Rattle.kmip_ttlv_types.proofs.Held.{gets_none, gets_both}
 use Rattle.std.proofs.lemmas.List.{drop-drop, length-drop, take-append-le, drop-append-le, get_or-drop}
 use Rattle.std.proofs.lemmas.Str.{IsUtf8-append, IsUtf8-nil}
 use Rattle.kmip_ttlv_names.specs.NameTables.{lines_of}
-use Rattle.kmip_ttlv_json.specs.declared.failure.JsonError.{JsonError}
-use Rattle.ttlv_run.specs.{declared.job.JsonJob.JsonJob, declared.run_error.RunError.RunError, declared.run_error.RunError.TheVariants.NotUtf8, Backs.IsOneLine}
-use Rattle.ttlv_run.specs.{Backs.IsLineAt, Inputs.IsUnread, Inputs.TakesSome, Runs.Streams, Streaming.Yields, Streaming.LinesFail}
+use Rattle.kmip_ttlv_json.specs.{declared.failure.JsonError.JsonError, Readings.error_offset}
+use Rattle.ttlv_run.specs.{declared.run_error.RunError.RunError, declared.run_error.RunError.TheVariants.NotUtf8, Backs.IsOneLine}
+use Rattle.ttlv_run.specs.{Backs.IsLineAt, Inputs.IsUnread, Inputs.TakesSome, Runs.Streams, Runs.streams, Streaming.Yields, Streaming.LinesFail}
 use Rattle.ttlv_run.specs.JsonLines.{GivesLine, Spoils, PrintsBytes, FailsAt, no_line, one_more, GivesLines, NextLine, FaultsJson, UnwrittenJson, FailsJson}
 use Rattle.ttlv_run.specs.{declared.run_error.RunError.TheVariants.NoMemory, Reasons.PrintsFront}
-use Rattle.ttlv_run.specs.JsonLines.{RespondsJson, fault_at}
+use Rattle.ttlv_run.specs.JsonLines.{RespondsJson, line_fault, fault_at}
 use Rattle.ttlv_run.proofs.{Appending.prints_behind, Appending.memory_ended, Windows.Left, Windows.left_of}
 use Rattle.ttlv_run.proofs.BackLines.{with_feed, first_of_lines, only_line, line_text, through_line, behind_line, within_line}
 use Rattle.ttlv_run.proofs.Decided.{printing_by, unread_by}
@@ -78,24 +78,34 @@ module _ {raw : Bool} {bytes : List ℕ} {place : ℕ} {text : List ℕ} (g : Gi
     first = ap lines_of (rest_behind left ∙ ap (λ (t : List ℕ). drop place bytes ++ t) none ∙ append-nil (drop place bytes)) ∙ only_line (drop place bytes) one;
   }
 
+-- a line is wrong within it
+pub bad_within : (raw : Bool) {line : List ℕ} (mid new : Held) {error : JsonError} {found : Option JsonError} → found ≡ Some error
+    → PrintsBytes raw line mid new found → error_offset error ≤ length line
+bad_within raw {line} mid new is printed = (subst (PrintsBytes raw line mid new) is printed).1.0.within
+
+pub end_within : (raw : Bool) {line : List ℕ} (mid new : Held) (place : ℕ) (error : Option JsonError) → PrintsBytes raw line mid new error
+    → place + length line < 2 ^ 64 → IfSome error (λ e. place + error_offset e < 2 ^ 64)
+end_within raw mid new place None printed fits = tt
+end_within raw mid new place (Some e) printed fits = omega (arith, fits, printed.1.0.within)
+
 -- ---- an input whose lines are printed as they come
 
-pub record JsonReading (job : JsonJob) (known now : Option (List ℕ)) (output output_now : Held) (base at : ℕ) (bytes : List ℕ) : Type 0 where
+pub record JsonReading (raw : Bool) (known now : Option (List ℕ)) (output output_now : Held) (base at : ℕ) (bytes : List ℕ) : Type 0 where
   pub taken : List ℕ
   pub text : List ℕ
   pub consumed : Consumes known now taken
   pub are : drop base taken ≡ bytes
-  pub gives : GivesLines job.raw taken (base + at) text
+  pub gives : GivesLines raw taken (base + at) text
   pub appended : Gets output output_now text
 
-pub json_starts : {job : JsonJob} {known : Option (List ℕ)} {output : Held} → Consumes known known [] → JsonReading job known known output output 0 0 []
-json_starts {job} {output = output} consumed =
-    record { taken = []; text = []; consumed = consumed; are = refl; gives = gives_none job.raw []; appended = gets_none output }
+pub json_starts : {raw : Bool} {known : Option (List ℕ)} {output : Held} → Consumes known known [] → JsonReading raw known known output output 0 0 []
+json_starts {raw} {output = output} consumed =
+    record { taken = []; text = []; consumed = consumed; are = refl; gives = gives_none raw []; appended = gets_none output }
 
-module _ {job : JsonJob} {known now : Option (List ℕ)} {output mid : Held} {base at : ℕ} {bytes : List ℕ}
-    (p : JsonReading job known now output mid base at bytes) where
-  pub json_of : {b : List ℕ} → b ≡ bytes → JsonReading job known now output mid base at b
-  json_of is = subst (JsonReading job known now output mid base at) (sym is) p
+module _ {raw : Bool} {known now : Option (List ℕ)} {output mid : Held} {base at : ℕ} {bytes : List ℕ}
+    (p : JsonReading raw known now output mid base at bytes) where
+  pub json_of : {b : List ℕ} → b ≡ bytes → JsonReading raw known now output mid base at b
+  json_of is = subst (JsonReading raw known now output mid base at) (sym is) p
 
   long : length bytes + base ≡ length p.taken
   long = omega (arith, p.gives.within, ap (λ (t : List ℕ). length t) p.are, length-drop base p.taken)
@@ -116,17 +126,17 @@ module _ {job : JsonJob} {known now : Option (List ℕ)} {output mid : Held} {ba
 
   -- a line more
   pub json_line : {new : Held} {line : List ℕ} {error : Option JsonError} → IsLineAt bytes at line → error ≡ None
-      → PrintsBytes job.raw line mid new error
-      → JsonReading job known now output new base (at + (length line + 1)) bytes
+      → PrintsBytes raw line mid new error
+      → JsonReading raw known now output new base (at + (length line + 1)) bytes
   json_line {new} {line} l none printed =
       let here : base + at + (length line + 1) ≡ base + (at + (length line + 1)) = omega arith in
-      let reported = subst (PrintsBytes job.raw line mid new) none printed in
+      let reported = subst (PrintsBytes raw line mid new) none printed in
       record {
         taken = p.taken;
         text = p.text ++ reported.1.0;
         consumed = p.consumed;
         are = p.are;
-        gives = subst (λ (n : ℕ). GivesLines job.raw p.taken n (p.text ++ reported.1.0)) here (gives_line p.gives (line_here l) reported.1.0 reported.0
+        gives = subst (λ (n : ℕ). GivesLines raw p.taken n (p.text ++ reported.1.0)) here (gives_line p.gives (line_here l) reported.1.0 reported.0
             reported.1.1);
         appended = gets_both p.text reported.1.0 p.appended reported.1.2;
       }
@@ -145,8 +155,8 @@ module _ {job : JsonJob} {known now : Option (List ℕ)} {output mid : Held} {ba
       (l, subst (NextLine (p.taken ++ l.left) (base + at)) (place_is ∙ sym is) next)
 
   module _ (can_fail : Bool) (new : Held) where
-    abbrev streams : Streams
-    streams = record { can_fail = can_fail; input = known; input_left = now; output = output; output_now = new }
+    abbrev outcome : Streams
+    outcome = streams can_fail known now output new
 
     same_text : Gets mid new [] → Gets output new p.text
     same_text none = subst (Gets output new) (append-nil p.text) (gets_both p.text [] p.appended none)
@@ -156,10 +166,10 @@ module _ {job : JsonJob} {known now : Option (List ℕ)} {output mid : Held} {ba
       taken_some : TakesSome known now (p.taken ++ n.0.left)
       taken_some = record { front = p.taken; left = n.0.left; are = refl; taken = p.consumed; rest = n.0.are }
 
-      pub json_bad : {error : JsonError} {found : Option JsonError} → found ≡ Some error → PrintsBytes job.raw line mid new found
-          → FaultsJson job streams (record { offset = base + at; error = error })
+      pub json_bad : {error : JsonError} {found : Option JsonError} → found ≡ Some error → PrintsBytes raw line mid new found
+          → FaultsJson raw outcome (line_fault (base + at) error)
       json_bad is printed =
-          let reported = subst (PrintsBytes job.raw line mid new) is printed in
+          let reported = subst (PrintsBytes raw line mid new) is printed in
           record {
             input = p.taken ++ n.0.left;
             text = p.text;
@@ -169,6 +179,7 @@ module _ {job : JsonJob} {known now : Option (List ℕ)} {output mid : Held} {ba
             next = n.1;
             is_text = reported.0;
             bad = reported.1.0;
+            place = refl;
             appended = same_text reported.1.1;
           }
 
@@ -176,7 +187,7 @@ module _ {job : JsonJob} {known now : Option (List ℕ)} {output mid : Held} {ba
       whole = all_lines p.gives n.0.left ∙ ap (λ (t : List ℕ). p.gives.lines ++ lines_of t) (sym (rest_behind p.gives n.0.left))
           ∙ ap (λ (ls : List (List ℕ)). p.gives.lines ++ ls) n.1.first
 
-      spoiled : (why : RunError) → Spoils job.raw why line mid new → UnwrittenJson job streams why
+      spoiled : (why : RunError) → Spoils raw why line mid new → UnwrittenJson raw outcome why
       spoiled why (inl h) = record {
         input = p.taken ++ n.0.left;
         front = p.gives.lines ++ line ∷ [];
@@ -201,7 +212,7 @@ module _ {job : JsonJob} {known now : Option (List ℕ)} {output mid : Held} {ba
         appended = subst (λ (w : RunError). PrintsFront w output new p.text) (sym memory) (memory_ended p.text (same_text none));
       }
 
-      pub json_fails : (why : RunError) → FailsAt job.raw line mid new why → FailsJson job streams why
+      pub json_fails : (why : RunError) → FailsAt raw line mid new why → FailsJson raw outcome why
       json_fails NotUtf8 reported = record {
         input = p.taken ++ n.0.left;
         place = base + at;
@@ -214,12 +225,12 @@ module _ {job : JsonJob} {known now : Option (List ℕ)} {output mid : Held} {ba
         appended = same_text reported.1;
       }
       json_fails why reported =
-          printing_by (λ why. UnwrittenJson job streams why → FailsJson job streams why) reported.0 (λ u. u) (λ u. u) (λ u. u) (spoiled why reported.1)
+          printing_by (λ why. UnwrittenJson raw outcome why → FailsJson raw outcome why) reported.0 (λ u. u) (λ u. u) (λ u. u) (spoiled why reported.1)
 
     -- the input ended behind a line
     pub json_ended : {line : List ℕ} → line ≡ drop at bytes → IsOneLine (drop at bytes) → IsAtEnd now → (error : Option JsonError)
-        → PrintsBytes job.raw line mid new error
-        → RespondsJson job streams (Ok (fault_at (base + at) error))
+        → PrintsBytes raw line mid new error
+        → RespondsJson raw outcome (Ok (fault_at (base + at) error))
     json_ended {line} is one end None reported =
         let rest : line ≡ drop (base + at) p.taken = is ∙ sym place_is in
         let one_rest : IsOneLine (drop (base + at) p.taken) = subst IsOneLine (sym place_is) one in
@@ -242,7 +253,7 @@ module _ {job : JsonJob} {known now : Option (List ℕ)} {output mid : Held} {ba
 
   -- more bytes came
   pub json_came : {next : Option (List ℕ)} {before after : List ℕ} → before ≡ drop at bytes → Yields now next before after
-      → JsonReading job known next output mid (base + at) 0 after
+      → JsonReading raw known next output mid (base + at) 0 after
   json_came {next} is yields =
       let here : base + at ≡ base + at + 0 = omega arith in
       record {
@@ -250,13 +261,13 @@ module _ {job : JsonJob} {known now : Option (List ℕ)} {output mid : Held} {ba
         text = p.text;
         consumed = Consumes-trans known now next p.taken yields.came p.consumed yields.consumed;
         are = rest_behind p.gives yields.came ∙ ap (λ (t : List ℕ). t ++ yields.came) (place_is ∙ sym is) ∙ sym yields.are;
-        gives = subst (λ (n : ℕ). GivesLines job.raw (p.taken ++ yields.came) n p.text) here (gives_longer p.gives yields.came);
+        gives = subst (λ (n : ℕ). GivesLines raw (p.taken ++ yields.came) n p.text) here (gives_longer p.gives yields.came);
         appended = p.appended;
       }
 
   -- nothing more was printed
   pub json_no_memory : {can_fail : Bool}
-      → UnwrittenJson job (record { can_fail = can_fail; input = known; input_left = now; output = output; output_now = mid }) NoMemory
+      → UnwrittenJson raw (streams can_fail known now output mid) NoMemory
   json_no_memory =
       let l = left_of now false (λ e. cc e) in
       record {
@@ -272,9 +283,9 @@ module _ {job : JsonJob} {known now : Option (List ℕ)} {output mid : Held} {ba
       }
 
   unread : (can_fail : Bool) → IsOneLine (drop at bytes) → (why : RunError) → IsUnread can_fail why
-      → FailsJson job (record { can_fail = can_fail; input = known; input_left = now; output = output; output_now = mid }) why
+      → FailsJson raw (streams can_fail known now output mid) why
   unread can_fail one why h =
-      unread_by (FailsJson job (record { can_fail = can_fail; input = known; input_left = now; output = output; output_now = mid })) why h (λ can. (
+      unread_by (FailsJson raw (streams can_fail known now output mid)) why h (λ can. (
         can,
         record {
           bytes = p.taken;
@@ -288,8 +299,8 @@ module _ {job : JsonJob} {known now : Option (List ℕ)} {output mid : Held} {ba
       )) json_no_memory
 
 -- reading failed, or memory ran out for it
-pub json_read_fails : {job : JsonJob} (can_fail : Bool) {known now next : Option (List ℕ)} {output mid : Held} {base at : ℕ} {bytes before after : List ℕ}
-    → JsonReading job known now output mid base at bytes → before ≡ drop at bytes → IsOneLine (drop at bytes) → LinesFail now next before after
+pub json_read_fails : {raw : Bool} (can_fail : Bool) {known now next : Option (List ℕ)} {output mid : Held} {base at : ℕ} {bytes before after : List ℕ}
+    → JsonReading raw known now output mid base at bytes → before ≡ drop at bytes → IsOneLine (drop at bytes) → LinesFail now next before after
     → (why : RunError) → IsUnread can_fail why
-    → FailsJson job (record { can_fail = can_fail; input = known; input_left = next; output = output; output_now = mid }) why
+    → FailsJson raw (streams can_fail known next output mid) why
 json_read_fails can_fail p is one f = unread (json_came p is f.yields) can_fail (f.one_line (subst IsOneLine (sym is) one))

@@ -29,3 +29,7 @@ pub mod TextStreams
 pub mod Decided
 pub mod Windows
 pub mod JsonReads
+pub mod Asking
+pub mod OwnTables
+pub mod Tagging
+pub mod Written

@@ -5,9 +5,9 @@ use Rattle.kmip_ttlv_types.specs.{declared.typ.TtlvType.TtlvType, declared.typ.T
 use Rattle.kmip_ttlv_items.specs.{declared.found.FoundItem.FoundItem, ItemWalks.content_at}
 use Rattle.ttlv_run.specs.declared.{job.Look.Look, job.Values.Values, lines.Reach.Reach}
 use Rattle.ttlv_run.specs.Attributes.{naming_tag}
-use Rattle.ttlv_run.specs.Texts.{Names, shown, painted, painted_value, values_shown, value_part}
+use Rattle.ttlv_run.specs.Texts.{Names, value_text, paint, painted_value, values_shown, value_part}
 
-painted_leaf : (colored : Bool) (t : TtlvType) (text : List ℕ) → t ≢ Structure → painted colored (27 ∷ codes "[32m") text ≡ painted_value colored t text
+painted_leaf : (colored : Bool) (t : TtlvType) (text : List ℕ) → t ≢ Structure → paint colored (27 ∷ codes "[32m") text ≡ painted_value colored t text
 painted_leaf colored Structure text ne = absurd (ne refl)
 painted_leaf colored t text ne = refl
 
@@ -21,7 +21,7 @@ content_is bytes i len =
 module _ (names : Names) (look : Look) (r : Reach) (bytes : List ℕ) (i : FoundItem) where
   -- of a content
   abbrev said : TtlvType → List ℕ → List ℕ
-  said typ content = shown names (values_shown look r.secret i) look.width (naming_tag r.attribute i) typ content
+  said typ content = value_text names (values_shown look r.secret i) look.width (naming_tag r.attribute i) typ content
 
   -- a structure has none
   pub value_structure : i.typ ≡ Structure → [] ≡ value_part names look r bytes i
@@ -31,8 +31,8 @@ module _ (names : Names) (look : Look) (r : Reach) (bytes : List ℕ) (i : Found
   -- that of a leaf, as the code takes it out of the bytes, and says what is said of it
   pub value_leaf : (values : Values) (tag : ℕ) → values ≡ values_shown look r.secret i → tag ≡ naming_tag r.attribute i
       → i.typ ≢ Structure → i.length ≡ length_at bytes i.offset
-      → painted look.colored (27 ∷ codes "[32m")
-      (shown names values look.width tag i.typ (take (i.offset + 8 + i.length - (i.offset + 8)) (drop (i.offset + 8) bytes)))
+      → paint look.colored (27 ∷ codes "[32m")
+      (value_text names values look.width tag i.typ (take (i.offset + 8 + i.length - (i.offset + 8)) (drop (i.offset + 8) bytes)))
       ≡ value_part names look r bytes i
   unfolding value_part
   value_leaf values tag v t leaf len =

@@ -11,7 +11,7 @@ use Rattle.std.proofs.lemmas.Str.{encode_ascii, chars-append, chars-IsAscii, IsU
 use Rattle.std.proofs.lemmas.Grind.{flat_map-append}
 use Rattle.std.proofs.lemmas.List.{take-append-drop}
 use Rattle.ttlv_run.specs.Columns.{in_range}
-use Rattle.ttlv_run.specs.Escapes.{is_unseen, is_unseen_low, is_unseen_middle, is_unseen_high, is_shown, escaped_char, escaped}
+use Rattle.ttlv_run.specs.Escapes.{is_unseen, is_unseen_low, is_unseen_middle, is_unseen_high, is_bare_ascii, escaped_char, escape}
 
 -- what a character that is shown is not
 record Shown (b : ℕ) : Type 0 where
@@ -19,7 +19,7 @@ record Shown (b : ℕ) : Type 0 where
   most : b < 127
   other : b ≢ 92
 
-shown_is : (b : ℕ) → is_shown b ≡ true → Shown b
+shown_is : (b : ℕ) → is_bare_ascii b ≡ true → Shown b
 shown_is b is =
     let one = and_parts (nat_lt 31 b && nat_lt b 127) (not (b == 92)) is in
     let two = and_parts (nat_lt 31 b) (nat_lt b 127) one.0 in
@@ -65,7 +65,7 @@ shown_seen b s =
     ) refl in
     rw (low, middle, high) refl
 
-shown_char : (b : ℕ) → is_shown b ≡ true → escaped_char b ≡ b ∷ []
+shown_char : (b : ℕ) → is_bare_ascii b ≡ true → escaped_char b ≡ b ∷ []
 unfolding escaped_char
 shown_char b is =
     let s = shown_is b is in
@@ -84,20 +84,20 @@ shown_char b is =
     by true = refl
     by false = refl
 
-front_chars : (front : List ℕ) → list_all is_shown front ≡ true → flat_map escaped_char front ≡ front
+front_chars : (front : List ℕ) → list_all is_bare_ascii front ≡ true → flat_map escaped_char front ≡ front
 front_chars [] all = refl
 front_chars (b ∷ front) all =
-    let a = and_parts (is_shown b) (list_all is_shown front) all in
+    let a = and_parts (is_bare_ascii b) (list_all is_bare_ascii front) all in
     ap (λ (t : List ℕ). t ++ flat_map escaped_char front) (shown_char b a.0) ∙ ap (λ (t : List ℕ). b ∷ t) (front_chars front a.1)
 
-front_ascii : (front : List ℕ) → list_all is_shown front ≡ true → IsAscii front
+front_ascii : (front : List ℕ) → list_all is_bare_ascii front ≡ true → IsAscii front
 front_ascii [] all i = omega arith
-front_ascii (b ∷ front) all zero = omega (arith, (shown_is b (and_parts (is_shown b) (list_all is_shown front) all).0).most)
-front_ascii (b ∷ front) all (suc i) = front_ascii front (and_parts (is_shown b) (list_all is_shown front) all).1 i
+front_ascii (b ∷ front) all zero = omega (arith, (shown_is b (and_parts (is_bare_ascii b) (list_all is_bare_ascii front) all).0).most)
+front_ascii (b ∷ front) all (suc i) = front_ascii front (and_parts (is_bare_ascii b) (list_all is_bare_ascii front) all).1 i
 
 -- they stand in front of the rest of a text, escaped
-pub front_escaped : (text : List ℕ) (n : ℕ) → list_all is_shown (take n text) ≡ true → take n text ++ escaped (drop n text) ≡ escaped text
-unfolding escaped
+pub front_escaped : (text : List ℕ) (n : ℕ) → list_all is_bare_ascii (take n text) ≡ true → take n text ++ escape (drop n text) ≡ escape text
+unfolding escape
 front_escaped text n all =
     let front = take n text in
     let rest = drop n text in
@@ -107,5 +107,5 @@ front_escaped text n all =
     ∙ flat_map-append escaped_char front (chars rest) ∙ ap (λ (t : List ℕ). t ++ flat_map escaped_char (chars rest)) (front_chars front all))
 
 -- a text can be cut behind them
-pub front_boundary : (text : List ℕ) (n : ℕ) → IsUtf8 text → n ≤ length text → list_all is_shown (take n text) ≡ true → IsCharBoundary text n
+pub front_boundary : (text : List ℕ) (n : ℕ) → IsUtf8 text → n ≤ length text → list_all is_bare_ascii (take n text) ≡ true → IsCharBoundary text n
 front_boundary text n utf8 le all = IsCharBoundary-from_take text n utf8 le (IsUtf8-from_ascii (take n text) (front_ascii (take n text) all))

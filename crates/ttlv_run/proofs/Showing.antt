@@ -6,7 +6,7 @@ use Rattle.std.specs.List.{list_any}
 use Rattle.std.proofs.lemmas.Bool.Decides.{nat_tests}
 use Rattle.kmip_ttlv_items.specs.declared.found.FoundItem.{FoundItem}
 use Rattle.ttlv_run.specs.declared.{job.Look.Look, lines.Reach.Reach}
-use Rattle.ttlv_run.specs.Texts.{Names, reached, is_asked, reach_after, reach_all, no_reach, covers, is_passed}
+use Rattle.ttlv_run.specs.Texts.{Names, reach_end, is_asked, reach_after, reach_all, no_reach, covers, is_passed}
 
 greater_reaches : (place own end : ℕ) → nat_lt place (if nat_lt end own then own else end) ≡ (nat_lt place end || nat_lt place own)
 greater_reaches place own end = grind (arith, nat_tests)
@@ -21,7 +21,7 @@ or_both false b c = refl
 
 -- with one more item, the items of the tags reach behind a place if they did, or if that item does
 one_reaches : (is_one : Bool) (place end : ℕ) (i : FoundItem)
-    → nat_lt place (reached is_one end i) ≡ (nat_lt place end || (is_one && nat_lt place (i.offset + 8 + i.length)))
+    → nat_lt place (reach_end is_one end i) ≡ (nat_lt place end || (is_one && nat_lt place (i.offset + 8 + i.length)))
 one_reaches true place end i = greater_reaches place (i.offset + 8 + i.length) end
 one_reaches false place end i = or_false (nat_lt place end)
 
@@ -35,7 +35,7 @@ module _ (names : Names) (look : Look) (bytes : List ℕ) (tags : Bor (List ℕ)
   after_reaches : (r : Reach) (i : FoundItem)
       → nat_lt place (reach_after names look bytes r i).asked ≡ (nat_lt place r.asked || covers tags.now place i)
   after_reaches r i =
-      ap (λ (only : Option (Bor (List ℕ))). nat_lt place (reached (is_asked only i.tag) r.asked i)) is
+      ap (λ (only : Option (Bor (List ℕ))). nat_lt place (reach_end (is_asked only i.tag) r.asked i)) is
       ∙ one_reaches (list_any (λ tag. tag == i.tag) tags.now) place r.asked i
 
   all_reach : (r : Reach) (met : List FoundItem)

@@ -15,7 +15,7 @@ use Rattle.ttlv_run.specs.Columns.{first_part, mark_length, body, Reads, begins,
 use Rattle.ttlv_run.specs.Decoding.{one_or_none, Reading, StuckBy, Stuck, AllBytes, Grows, DecodesLast, DecodesMore, is_last}
 use Rattle.ttlv_run.specs.Fronts.{front_size, taken_as, ReadsBytes, DecodesTo, StandsFrontIn}
 use Rattle.ttlv_run.specs.Inputs.{TakesSome, IsUnread, IsMisread, form_of, is_detected, encoding_of, StandsIn, Stands}
-use Rattle.ttlv_run.specs.Runs.{FrontsIn, Fails}
+use Rattle.ttlv_run.specs.Runs.{streams, FrontsIn, Fails}
 use Rattle.ttlv_run.specs.Streaming.{EndsAt, PrintsOn, YieldsBy}
 use Rattle.ttlv_run.specs.Texts.{Names}
 use Rattle.ttlv_run.proofs.{Decided.unread_by, Decoders.holds_bytes}
@@ -206,7 +206,7 @@ module _ {names : Names} {job : Job} {form : Form} {known now : Option (List ℕ
     {ended : Bool} (p : TextPrinting names job form known now output mid base d mark piece bytes ended) where
   -- memory ran out for their bytes
   pub memory_before : {can_fail : Bool}
-      → Fails names job (record { can_fail = can_fail; input = known; input_left = now; output = output; output_now = mid }) NoMemory
+      → Fails names job (streams can_fail known now output mid) NoMemory
   memory_before =
       let left = (left_here p.input).left in
       let there = subst (λ (t : List ℕ). ReadsBytes form t p.all (one_or_none d.waiting ++ (piece ++ left))) (sym (append_assoc p.s piece left))
@@ -261,7 +261,7 @@ module _ {names : Names} {job : Job} {form : Form} {known now : Option (List ℕ
   module _ {new : Held} {place : ℕ} {rest : List ℕ} (f : Further names job.task output new place r.all rest) where
     -- an error, behind whole messages
     pub wrong_there : {can_fail : Bool} {why : Undecoded} → wrong ≡ Some why
-        → Fails names job (record { can_fail = can_fail; input = known; input_left = now; output = output; output_now = new })
+        → Fails names job (streams can_fail known now output new)
         (MisreadInput (record { taken = taken_as form; guessed = is_detected job.encoding; offset = why.offset; kind = why.kind }))
     wrong_there {why = why} is =
         let all = r.s ++ left.left in
@@ -279,9 +279,9 @@ module _ {names : Names} {job : Job} {form : Form} {known now : Option (List ℕ
     module _ (is : wrong ≡ None) (unended : ended ≡ false) where
       -- reading failed, or memory ran out for it
       pub text_read_fails : (can_fail : Bool) (next : Option (List ℕ)) (why : RunError) → IsUnread can_fail why → Keeps now next
-          → Fails names job (record { can_fail = can_fail; input = known; input_left = next; output = output; output_now = new }) why
+          → Fails names job (streams can_fail known next output new) why
       text_read_fails can_fail next why h keeps =
-          unread_by (Fails names job (record { can_fail = can_fail; input = known; input_left = next; output = output; output_now = new })) why h (λ can. (
+          unread_by (Fails names job (streams can_fail known next output new)) why h (λ can. (
             can,
             record {
               bytes = r.m ++ r.s;
@@ -333,7 +333,7 @@ module _ {names : Names} {job : Job} {form : Form} {known now : Option (List ℕ
   -- all is printed
   pub text_printed : {can_fail : Bool} {new : Held} {last : Bool} {reached : Reached} {count : ℕ} → last ≡ is_last ended wrong → wrong ≡ None → ended ≡ true
       → reached ≡ Behind count → EndsAt bytes last reached → SomeText (PrintsOn names job.task base bytes last reached) (Gets mid new)
-      → AllPrinted names job (record { can_fail = can_fail; input = known; input_left = now; output = output; output_now = new }) (base + count)
+      → AllPrinted names job (streams can_fail known now output new) (base + count)
   text_printed last_is is end at ends reported =
       let all : AllBytes form r.s r.all = subst (λ (f : Form). AllBytes f r.s r.all) r.form_is (last_decoded is end) in
       printed_all r.shown reported at ends (last_is ∙ ap (is_last ended) is ∙ end) (record { taken = r.input.consumed; ended = r.input.at_end end })

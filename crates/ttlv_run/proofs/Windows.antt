@@ -17,7 +17,7 @@ use Rattle.ttlv_run.specs.{declared.run_error.RunError.TheVariants.NoMessage, de
 use Rattle.ttlv_run.specs.Fronts.{front_size, StandsFrontIn, StandsUpTo}
 use Rattle.ttlv_run.specs.Inputs.{TakesAll, TakesSome, IsUnread, form_of, encoding_of, StandsIn, Stands}
 use Rattle.ttlv_run.specs.Messages.{is_there, first_size, message_at, is_taken, wants_message, Whole, whole_none, whole_more, IsWrong, Continues}
-use Rattle.ttlv_run.specs.Runs.{Streams, HasText, Places, Faults, Unwritten, Fronts, Fails}
+use Rattle.ttlv_run.specs.Runs.{Streams, streams, HasText, Places, Faults, Unwritten, Fronts, Fails}
 use Rattle.ttlv_run.specs.Streaming.{is_due, StandsAt, EndsAt, PrintsUpTo, PrintsOn, ContinuesBehind, Yields, YieldsBy}
 use Rattle.ttlv_run.specs.Texts.{Names, IsMessageText}
 use Rattle.ttlv_run.proofs.{Appending.prints_behind, Appending.memory_ended, Completion.whole_goes, Completion.goes_behind, Decided.unread_by}
@@ -347,7 +347,7 @@ module _ {names : Names} {job : Job} {output mid : Held} {base : ℕ} {came byte
         pub printed_all : {can_fail : Bool} {count : ℕ} {input : List ℕ} → reached ≡ Behind count → EndsAt bytes last reached → last ≡ true
             → TakesAll known left input
             → Stands job.encoding input came
-            → AllPrinted names job (record { can_fail = can_fail; input = known; input_left = left; output = output; output_now = now }) (base + count)
+            → AllPrinted names job (streams can_fail known left output now) (base + count)
         printed_all {count = count} {input} is ends end taken stands_for =
             let all : count ≡ length bytes = subst (λ (b : Bool). EndsAt bytes b (Behind count)) end (subst (EndsAt bytes last) is ends) in
             let text = p.text ++ reported.text in
@@ -369,7 +369,7 @@ module _ {names : Names} {job : Job} {output mid : Held} {base : ℕ} {came byte
 
         -- a fault
         pub faults : {can_fail : Bool} {place : Place} → reached ≡ AtFault place → Standing job.encoding known left came last
-            → Faults names job (record { can_fail = can_fail; input = known; input_left = left; output = output; output_now = now }) place
+            → Faults names job (streams can_fail known left output now) place
         faults is k = record {
           input = k.input;
           bytes = came;
@@ -384,7 +384,7 @@ module _ {names : Names} {job : Job} {output mid : Held} {base : ℕ} {came byte
     module _ {last : Bool} {known left : Option (List ℕ)} (plain : AreBytes bytes) (k : Standing job.encoding known left came last) where
       -- printing failed
       pub fails_in : {can_fail : Bool} {why : RunError} {now : Held} → SomeText (ContinuesBehind names job.task base bytes last) (PrintsFront why mid now)
-          → Unwritten names job (record { can_fail = can_fail; input = known; input_left = left; output = output; output_now = now }) why
+          → Unwritten names job (streams can_fail known left output now) why
       fails_in reported = record {
         input = k.input;
         bytes = came;
@@ -398,7 +398,7 @@ module _ {names : Names} {job : Job} {output mid : Held} {base : ℕ} {came byte
 
       -- memory ran out behind whole messages
       pub no_memory : {can_fail : Bool}
-          → Unwritten names job (record { can_fail = can_fail; input = known; input_left = left; output = output; output_now = mid }) NoMemory
+          → Unwritten names job (streams can_fail known left output mid) NoMemory
       no_memory = record {
         input = k.input;
         bytes = came;
@@ -469,7 +469,7 @@ module _ {names : Names} {job : Job} {known now : Option (List ℕ)} {output mid
   -- whole messages, and all is printed
   pub printed : {can_fail : Bool} {output_now : Held} {reached : Reached} {count : ℕ} → reached ≡ Behind count → EndsAt bytes ended reached → ended ≡ true
       → SomeText (PrintsOn names job.task base bytes ended reached) (Gets mid output_now)
-      → AllPrinted names job (record { can_fail = can_fail; input = known; input_left = now; output = output; output_now = output_now }) (base + count)
+      → AllPrinted names job (streams can_fail known now output output_now) (base + count)
   printed is ends end reported = printed_all p.shown reported is ends end (record { taken = p.input.consumed; ended = p.input.at_end end })
       (raw_stands job.encoding p.came p.input.raw)
 
@@ -485,7 +485,7 @@ module _ {names : Names} {job : Job} {known now : Option (List ℕ)} {output mid
 
     -- reading failed, or memory ran out for it, in front of a message that isn't there as a whole
     pub read_fails : (can_fail : Bool) (next : Option (List ℕ)) (why : RunError) → IsUnread can_fail why → Keeps now next
-        → Fails names job (record { can_fail = can_fail; input = known; input_left = next; output = output; output_now = new }) why
+        → Fails names job (streams can_fail known next output new) why
     read_fails can_fail next why h keeps =
         let still : RawInput job.encoding known next p.came false = record {
           consumed = Consumes-kept known now next p.came p.input.consumed keeps;
@@ -493,7 +493,7 @@ module _ {names : Names} {job : Job} {known now : Option (List ℕ)} {output mid
           enough = λ _. p.input.enough unended;
           at_end = λ end. cc;
         } in
-        unread_by (Fails names job (record { can_fail = can_fail; input = known; input_left = next; output = output; output_now = new })) why h (λ can. (
+        unread_by (Fails names job (streams can_fail known next output new)) why h (λ can. (
           can,
           record {
             bytes = p.came;

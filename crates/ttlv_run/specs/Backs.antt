@@ -11,7 +11,7 @@ use Rattle.ttlv_run.specs.declared.back.BackFaultKind.TheVariants.{NoPart, LeftO
 use Rattle.ttlv_run.specs.declared.back.BackReached.{BackReached}
 use Rattle.ttlv_run.specs.declared.back.BackReached.TheVariants.{Behind, NoText}
 use Rattle.ttlv_run.specs.Columns.{mark_length, body}
-use Rattle.ttlv_run.specs.Escapes.{escaped}
+use Rattle.ttlv_run.specs.Escapes.{escape}
 use Rattle.ttlv_run.specs.Texts.{text_back}
 
 -- a text is diagnostics from its first character to its last, but for white space at its end: its parts stand one
@@ -146,4 +146,4 @@ back_words LeftOpen = codes "a structure is not closed"
 -- the line on standard error: what the input is called, the offset in it and what is wrong
 abbrev pub back_line : List ℕ → BackFault → List ℕ
 back_line name fault =
-    escaped name ++ codes ": byte " ++ decimal fault.offset ++ codes ": " ++ back_words fault.kind ++ codes "\n"
+    escape name ++ codes ": byte " ++ decimal fault.offset ++ codes ": " ++ back_words fault.kind ++ codes "\n"

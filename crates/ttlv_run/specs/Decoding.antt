@@ -32,8 +32,8 @@ abbrev pub bytes_in : Group → List ℕ
 bytes_in g = take g.count g.bytes
 
 -- the digits of a group that isn't whole yet
-abbrev pub begun : Decoder → List ℕ
-begun d = take d.count d.digits
+abbrev pub open_digits : Decoder → List ℕ
+open_digits d = take d.count d.digits
 
 -- digits of whole groups are these bytes, and so they are with more digits behind them
 pub record Continues (form : Form) (front bytes : List ℕ) : Type 0 where
@@ -72,9 +72,9 @@ Knows Spoilt form digits left bytes = IsSpoilt form digits bytes
 
 -- a digit came
 abbrev pub Yields : Decoder → List ℕ → List ℕ → Made → Type 0
-Yields new digits bytes Nothing = Knows new.phase new.form digits (begun new) bytes
+Yields new digits bytes Nothing = Knows new.phase new.form digits (open_digits new) bytes
 Yields new digits bytes (Bytes g) =
-    Knows new.phase new.form digits (begun new) (bytes ++ bytes_in g) × (decode_form new.form digits ≡ Some (bytes ++ bytes_in g))
+    Knows new.phase new.form digits (open_digits new) (bytes ++ bytes_in g) × (decode_form new.form digits ≡ Some (bytes ++ bytes_in g))
 Yields new digits bytes (Failed why) = ⊥
 
 -- a text ended behind digits: they are bytes, or none
@@ -88,7 +88,7 @@ Ends d digits bytes (Failed why) =
 pub record Holds (d : Decoder) (s bytes rest : List ℕ) : Type 0 where
   pub digits : List ℕ
   pub reads : Reads d.form (first_part d.form) s digits d.part rest
-  pub knows : Knows d.phase d.form digits (begun d) bytes
+  pub knows : Knows d.phase d.form digits (open_digits d) bytes
 
 -- what taking a character comes to: no bytes, so far; bytes of all digits; or an error, since it can't stand there
 abbrev pub Takes : Decoder → Decoder → List ℕ → List ℕ → ℕ → List ℕ → Made → Type 0

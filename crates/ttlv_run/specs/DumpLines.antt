@@ -22,14 +22,14 @@ is_offset [] = false
 is_offset (b ∷ s) = is_hex_digit b && only is_hex_digit s
 
 -- groups of digits with a space behind each, in front of what follows them
-abbrev pub spaced : List (List ℕ) → List ℕ → List ℕ
-spaced [] rest = rest
-spaced (group ∷ groups) rest = group ++ 32 ∷ spaced groups rest
+abbrev pub space_groups : List (List ℕ) → List ℕ → List ℕ
+space_groups [] rest = rest
+space_groups (group ∷ groups) rest = group ++ 32 ∷ space_groups groups rest
 
 -- the digits of groups
-abbrev pub joined : List (List ℕ) → List ℕ
-joined [] = []
-joined (group ∷ groups) = group ++ joined groups
+abbrev pub join_groups : List (List ℕ) → List ℕ
+join_groups [] = []
+join_groups (group ∷ groups) = group ++ join_groups groups
 
 -- each group has a digit, and no more than digits
 abbrev pub are_groups : List (List ℕ) → Bool
@@ -44,12 +44,12 @@ pub record ColonLine (t column rest : List ℕ) : Type 0 where
   pub group : List ℕ
   pub groups : List (List ℕ)
   pub characters : List ℕ
-  pub is : t ≡ offset ++ 58 ∷ (spaces ++ spaced (group ∷ groups) (32 ∷ (characters ++ 10 ∷ rest)))
+  pub is : t ≡ offset ++ 58 ∷ (spaces ++ space_groups (group ∷ groups) (32 ∷ (characters ++ 10 ∷ rest)))
   pub of_offset : is_offset offset ≡ true
   pub of_spaces : only is_space spaces ≡ true
   pub of_groups : are_groups (group ∷ groups) ≡ true
   pub in_line : only is_in_line characters ≡ true
-  pub column_is : column ≡ joined (group ∷ groups)
+  pub column_is : column ≡ join_groups (group ∷ groups)
 
 -- a byte in two digits, a space and maybe more
 pub record DumpedByte : Type 0 where
@@ -65,9 +65,9 @@ are_dumped [] = true
 are_dumped (d ∷ ds) = is_dumped d && are_dumped ds
 
 -- such bytes in front of what follows them
-abbrev pub dumped : List DumpedByte → List ℕ → List ℕ
-dumped [] rest = rest
-dumped (d ∷ ds) rest = d.high ∷ d.low ∷ 32 ∷ (d.spaces ++ dumped ds rest)
+abbrev pub write_bytes : List DumpedByte → List ℕ → List ℕ
+write_bytes [] rest = rest
+write_bytes (d ∷ ds) rest = d.high ∷ d.low ∷ 32 ∷ (d.spaces ++ write_bytes ds rest)
 
 abbrev pub digits_of : List DumpedByte → List ℕ
 digits_of [] = []
@@ -80,7 +80,7 @@ pub record BareLine (t column rest : List ℕ) : Type 0 where
   pub spaces : List ℕ
   pub bytes : List DumpedByte
   pub characters : List ℕ
-  pub is : t ≡ offset ++ 32 ∷ (spaces ++ dumped bytes (124 ∷ (characters ++ 10 ∷ rest)))
+  pub is : t ≡ offset ++ 32 ∷ (spaces ++ write_bytes bytes (124 ∷ (characters ++ 10 ∷ rest)))
   pub of_offset : is_offset offset ≡ true
   pub of_spaces : only is_space spaces ≡ true
   pub of_bytes : are_dumped bytes ≡ true

@@ -45,8 +45,8 @@ abbrev pub is_hidden : ℕ → Bool
 is_hidden c = is_control c || is_unseen c
 
 -- an ASCII character that is neither a control character nor a backslash
-abbrev pub is_shown : ℕ → Bool
-is_shown c = nat_lt 31 c && nat_lt c 127 && not (c == 92)
+abbrev pub is_bare_ascii : ℕ → Bool
+is_bare_ascii c = nat_lt 31 c && nat_lt c 127 && not (c == 92)
 
 -- a character in a line: control characters, those that can't be seen and the backslash as Rust escapes them, any other as it is
 unfoldable pub escaped_char : ℕ → List ℕ
@@ -60,5 +60,5 @@ escaped_char c =
     else encode_utf8 c
 
 -- a text in a line, character by character
-unfoldable pub escaped : List ℕ → List ℕ
-escaped text = flat_map escaped_char (chars text)
+unfoldable pub escape : List ℕ → List ℕ
+escape text = flat_map escaped_char (chars text)

@@ -1,64 +1,16 @@
 -- What is done with several inputs, one after the other.
 use Rattle.std.specs.Borrow.{Bor}
-use Rattle.std.specs.Prelude.{◌≡◌, ◌⊎◌, ℕ, ◌≤◌, Bool, true, false, List, [], ◌∷◌, ◌++◌, length, take, nat_lt, if◌then◌else◌}
+use Rattle.std.specs.Prelude.{◌≡◌, ℕ, ◌≤◌, Bool, true, false, List, [], ◌∷◌, ◌++◌, length, take, nat_lt, if◌then◌else◌}
 use Rattle.std.specs.Prelude.{Option, Some, None, Result, Ok, Err}
 use Rattle.ttlv_run.specs.declared.job.Asked.{Asked}
-use Rattle.ttlv_run.specs.declared.job.Asked.TheVariants.{Print, ReadBack, FromJson}
-use Rattle.ttlv_run.specs.declared.job.BackJob.{BackJob}
-use Rattle.ttlv_run.specs.declared.job.Job.{Job}
-use Rattle.ttlv_run.specs.declared.job.JsonJob.{JsonJob}
 use Rattle.ttlv_run.specs.declared.run_error.RunError.{RunError}
 use Rattle.ttlv_run.specs.declared.run_error.RunError.TheVariants.{UnopenedInput, UnwritableOutput, ClosedPipe}
 use Rattle.kmip_ttlv_types.specs.Held.{Held, Rests, Says}
+use Rattle.ttlv_run.specs.Ends.{IsEnded}
 use Rattle.ttlv_run.specs.Headings.{is_headed, Heads, HeadFails}
-use Rattle.ttlv_run.specs.JsonLines.{PrintedJson, MalformedJson, AbortedJson, JsonEnds}
 use Rattle.ttlv_run.specs.Reasons.{status_in, error_line}
-use Rattle.ttlv_run.specs.Runs.{Streams, Printed, Malformed, Lacking, Aborted, RunEnds, PrintedBack, MalformedBack, AbortedBack, BackEnds}
+use Rattle.ttlv_run.specs.Runs.{Streams}
 use Rattle.ttlv_run.specs.Texts.{Names}
-
--- what a run has done that ended with a status: 0 where all is whole, 1 where a message is malformed or none is there, 2 and 3
--- for a reason
-pub record PrintDone
-    (names : Names) (job : Job) (s : Streams) (errors errors_now : Held) (status : ℕ) : Type 0 where
-  pub known : status ≤ 3
-  pub printed : status ≡ 0 → Printed names job s × Rests errors errors_now
-  pub malformed : status ≡ 1 → Malformed names job s errors errors_now ⊎ Lacking job s errors errors_now
-  pub refused : (status ≡ 2) ⊎ (status ≡ 3) → Aborted names job s status errors errors_now
-
--- the same of diagnostics that are read back
-pub record BackDone
-    (names : Names) (job : BackJob) (s : Streams) (errors errors_now : Held) (status : ℕ) : Type 0 where
-  pub known : status ≤ 3
-  pub printed : status ≡ 0 → PrintedBack names job s None × Rests errors errors_now
-  pub malformed : status ≡ 1 → MalformedBack names job s errors errors_now
-  pub refused : (status ≡ 2) ⊎ (status ≡ 3) → AbortedBack names job s status errors errors_now
-
--- the same of JSON that is read back
-pub record JsonDone (job : JsonJob) (s : Streams) (errors errors_now : Held) (status : ℕ) : Type 0 where
-  pub known : status ≤ 3
-  pub printed : status ≡ 0 → PrintedJson job s × Rests errors errors_now
-  pub malformed : status ≡ 1 → MalformedJson job s errors errors_now
-  pub refused : (status ≡ 2) ⊎ (status ≡ 3) → AbortedJson job s status errors errors_now
-
--- what was asked is done with an input of this name
-abbrev pub IsDone :
-    Names → Asked → Bor (List ℕ) → Streams → Held → Held → ℕ → Type 0
-IsDone names (Print task encoding) name s errors errors_now status =
-    PrintDone names (record { name = name; task = task; encoding = encoding }) s errors errors_now status
-IsDone names (ReadBack prefix) name s errors errors_now status =
-    BackDone names (record { name = name; prefix = prefix }) s errors errors_now status
-IsDone names (FromJson raw) name s errors errors_now status =
-    JsonDone (record { name = name; raw = raw }) s errors errors_now status
-
--- the same, by whether all of the input is whole, or why not all of it was printed
-abbrev pub IsEnded :
-    Names → Asked → Bor (List ℕ) → Streams → Held → Held → Result Bool RunError → Type 0
-IsEnded names (Print task encoding) name s errors errors_now outcome =
-    RunEnds names (record { name = name; task = task; encoding = encoding }) s errors errors_now outcome
-IsEnded names (ReadBack prefix) name s errors errors_now outcome =
-    BackEnds names (record { name = name; prefix = prefix }) s errors errors_now outcome
-IsEnded names (FromJson raw) name s errors errors_now outcome =
-    JsonEnds (record { name = name; raw = raw }) s errors errors_now outcome
 
 -- what opens inputs, and what the output and the errors hold, as far as that is known
 pub record At (O : Type 0) : Type 0 where

@@ -6,22 +6,22 @@ use Rattle.ttlv_run.specs.declared.job.Strict.TheVariants.{Show as ShowWhole}
 use Rattle.ttlv_run.specs.declared.job.Task.TheVariants.{Show, Whole}
 use Rattle.ttlv_run.specs.declared.run_error.RunError.{RunError}
 use Rattle.kmip_ttlv_types.specs.Held.{Held, Gets}
-use Rattle.ttlv_run.specs.Escapes.{escaped}
+use Rattle.ttlv_run.specs.Escapes.{escape}
 use Rattle.ttlv_run.specs.Reasons.{IsOfPrinting, PrintsFront}
 
 -- readable lines are asked for
-abbrev pub is_shown : Asked → Bool
-is_shown (Print (Show look) encoding) = true
-is_shown (Print (Whole (ShowWhole look)) encoding) = true
-is_shown asked = false
+abbrev pub asks_for_lines : Asked → Bool
+asks_for_lines (Print (Show look) encoding) = true
+asks_for_lines (Print (Whole (ShowWhole look)) encoding) = true
+asks_for_lines asked = false
 
 -- the line stands in front of what is printed of each of so many files: readable lines of several
 abbrev pub is_headed : Asked → ℕ → Bool
-is_headed asked count = nat_lt 1 count && is_shown asked
+is_headed asked count = nat_lt 1 count && asks_for_lines asked
 
 -- the line of a name
 abbrev pub heading : List ℕ → List ℕ
-heading name = codes "==> " ++ (escaped name ++ codes " <==\n")
+heading name = codes "==> " ++ (escape name ++ codes " <==\n")
 
 -- the output got the line of a name, if one is due; else it is what it was
 abbrev pub Heads : Bool → List ℕ → Held → Held → Type 0

@@ -1,30 +1,28 @@
 -- Lines of JSON that are read back as messages.
 use Rattle.std.specs.Prelude.{◌≡◌, ◌≢◌, ◌⊎◌, ℕ, ◌+◌, ◌≤◌, Bool, true, false, List, [], ◌∷◌, ◌++◌, length, take, drop, Option, Some, None, Result, Ok, Err}
 use Rattle.std.specs.Prelude.{◌==◌, ◌||◌, IsTrue, EachIndex, slice_index, codes}
-use Rattle.std.specs.Fmt.{decimal}
 use Rattle.std.specs.Io.KnownBytes.{Consumes}
 use Rattle.std.specs.Str.{IsUtf8}
 use Rattle.hex.specs.Hex.{encode_upper}
-use Rattle.kmip_ttlv_types.specs.Held.{Held, Gets, Rests, Says}
+use Rattle.kmip_ttlv_types.specs.Held.{Held, Gets}
 use Rattle.kmip_ttlv_json.specs.declared.failure.JsonError.{JsonError}
-use Rattle.kmip_ttlv_json.specs.declared.failure.JsonError.TheVariants.{NotJson, TooDeep, OutOfMemory}
-use Rattle.kmip_ttlv_json.specs.Readings.{IsReadAs, FailsToRead, error_words}
+use Rattle.kmip_ttlv_json.specs.declared.failure.JsonError.TheVariants.{OutOfMemory}
+use Rattle.kmip_ttlv_json.specs.Readings.{IsReadAs, FailsToRead, error_words, error_offset, moved}
 use Rattle.kmip_ttlv_names.specs.NameTables.{lines_of}
-use Rattle.ttlv_run.specs.declared.job.JsonJob.{JsonJob}
 use Rattle.ttlv_run.specs.declared.from_json.LineFault.{LineFault}
 use Rattle.ttlv_run.specs.declared.run_error.RunError.{RunError}
 use Rattle.ttlv_run.specs.declared.run_error.RunError.TheVariants.{UnreadableInput, NotUtf8}
 use Rattle.ttlv_run.specs.declared.run_error.RunError.TheVariants.{UnwritableOutput, ClosedPipe, NoMemory}
 use Rattle.ttlv_run.specs.Backs.{IsOneLine}
-use Rattle.ttlv_run.specs.Columns.{body}
+use Rattle.ttlv_run.specs.Columns.{body, mark_length}
 use Rattle.ttlv_run.specs.Inputs.{TakesAll, TakesSome}
-use Rattle.ttlv_run.specs.Reasons.{IsOfPrinting, place_report, status_of, error_line, PrintsFront}
+use Rattle.ttlv_run.specs.Reasons.{IsOfPrinting, place_report, PrintsFront}
 use Rattle.ttlv_run.specs.Runs.{Streams}
 
 -- what is printed of a message: its bytes, or these in hexadecimal and a line feed
-abbrev pub shown : Bool → List ℕ → List ℕ
-shown true message = message
-shown false message = encode_upper message ++ 10 ∷ []
+abbrev pub message_output : Bool → List ℕ → List ℕ
+message_output true message = message
+message_output false message = encode_upper message ++ 10 ∷ []
 
 -- white space of JSON (RFC 8259, section 2)
 abbrev pub is_space : ℕ → Bool
@@ -38,12 +36,15 @@ IsBlank s = EachIndex s (λ k. IsTrue (is_space (slice_index s k)))
 abbrev pub GivesLine : Bool → List ℕ → List ℕ → Type 0
 GivesLine raw line text =
     (IsBlank (body line) × (text ≡ []))
-    ⊎ ((message : List ℕ) × IsReadAs (body line) message × (text ≡ shown raw message))
+    ⊎ ((message : List ℕ) × IsReadAs (body line) message × (text ≡ message_output raw message))
 
--- a line is not blank, and not the JSON of a message, for this reason
+-- a line is not blank, and not the JSON of a message, for this reason, whose offset is that in the line
 pub record IsBad (line : List ℕ) (error : JsonError) : Type 0 where
   pub some : ¬ (IsBlank (body line))
-  pub fails : FailsToRead (body line) error
+  pub why : JsonError
+  pub fails : FailsToRead (body line) why
+  pub is : error ≡ moved (mark_length line) why
+  pub within : error_offset error ≤ length line
   pub reported : error ≢ OutOfMemory
 
 -- what was appended to the output of a line, or why it is bad
@@ -77,10 +78,13 @@ abbrev pub FailsAt : Bool → List ℕ → Held → Held → RunError → Type 0
 FailsAt raw line old new NotUtf8 = (IsUtf8 line → ⊥) × Gets old new []
 FailsAt raw line old new why = IsOfPrinting why × Spoils raw why line old new
 
--- where a line begins, and what is wrong with it, if anything is
+-- where a line begins, and where and why it is wrong, if it is
+abbrev pub line_fault : ℕ → JsonError → LineFault
+line_fault line error = record { line = line; offset = line + error_offset error; error = error }
+
 abbrev pub fault_at : ℕ → Option JsonError → Option LineFault
-fault_at offset None = None
-fault_at offset (Some error) = Some (record { offset = offset; error = error })
+fault_at line None = None
+fault_at line (Some error) = Some (line_fault line error)
 
 -- the bytes up to a place are lines of text, each with its line feed, and this is printed of them
 pub record GivesLines (raw : Bool) (bytes : List ℕ) (place : ℕ) (text : List ℕ) : Type 0 where
@@ -95,70 +99,59 @@ pub record NextLine (bytes : List ℕ) (place : ℕ) (line : List ℕ) : Type 0 
   pub others : List (List ℕ)
   pub first : lines_of (drop place bytes) ≡ line ∷ others
 
--- where the parser stopped
-abbrev pub column_report : JsonError → List ℕ
-column_report (NotJson line column) = codes ", column " ++ decimal column
-column_report (TooDeep line column) = codes ", column " ++ decimal column
-column_report error = []
-
--- the line on standard error: what the input is called, the offset of the line in it and what is wrong
+-- the line on standard error: what the input is called, where it is wrong and why
 abbrev pub bad_line : List ℕ → LineFault → List ℕ
 bad_line name fault =
-    place_report name (Some fault.offset) ++ codes ": " ++ error_words fault.error ++ column_report fault.error ++ codes "\n"
+    place_report name (Some fault.offset) ++ codes ": " ++ error_words fault.error ++ codes "\n"
 
 -- the whole input was taken, each of its lines is the JSON of a message or empty, and exactly what is printed of them was appended
 -- to the output
-pub record PrintedJson (job : JsonJob) (s : Streams) : Type 0 where
+pub record PrintedJson (raw : Bool) (s : Streams) : Type 0 where
   pub input : List ℕ
   pub text : List ℕ
   pub place : ℕ
   pub taken : TakesAll s.input s.input_left input
   pub is_text : IsUtf8 input
-  pub give : AllGive job.raw (lines_of input) text place
+  pub give : AllGive raw (lines_of input) text place
   pub appended : Gets s.output s.output_now text
 
 -- a line of the input is bad, and exactly what is printed of the lines before it was appended
-pub record FaultsJson (job : JsonJob) (s : Streams) (fault : LineFault) : Type 0 where
+pub record FaultsJson (raw : Bool) (s : Streams) (fault : LineFault) : Type 0 where
   pub input : List ℕ
   pub text : List ℕ
   pub line : List ℕ
   pub taken : TakesSome s.input s.input_left input
-  pub gives : GivesLines job.raw input fault.offset text
-  pub next : NextLine input fault.offset line
+  pub gives : GivesLines raw input fault.line text
+  pub next : NextLine input fault.line line
   pub is_text : IsUtf8 line
   pub bad : IsBad line fault.error
+  pub place : fault.offset ≡ fault.line + error_offset fault.error
   pub appended : Gets s.output s.output_now text
 
--- and the line that says so was appended to the errors, as far as they have room
-pub record MalformedJson (job : JsonJob) (s : Streams) (errors errors_now : Held) : Type 0 where
-  pub fault : LineFault
-  pub faults : FaultsJson job s fault
-  pub reported : Says errors errors_now (bad_line job.name.now fault)
-
 -- exactly what is printed of the lines that came before reading failed was appended
-pub record UnreadJson (job : JsonJob) (s : Streams) : Type 0 where
+pub record UnreadJson (raw : Bool) (s : Streams) : Type 0 where
   pub bytes : List ℕ
   pub place : ℕ
   pub text : List ℕ
   pub taken : Consumes s.input s.input_left bytes
-  pub gives : GivesLines job.raw bytes place text
+  pub gives : GivesLines raw bytes place text
   pub one_line : IsOneLine (drop place bytes)
   pub appended : Gets s.output s.output_now text
 
 -- a line of the input is no text, and exactly what is printed of the lines before it was appended
-pub record NoTextJson (job : JsonJob) (s : Streams) : Type 0 where
+pub record NoTextJson (raw : Bool) (s : Streams) : Type 0 where
   pub input : List ℕ
   pub place : ℕ
   pub text : List ℕ
   pub line : List ℕ
   pub taken : TakesSome s.input s.input_left input
-  pub gives : GivesLines job.raw input place text
+  pub gives : GivesLines raw input place text
   pub next : NextLine input place line
   pub no_text : IsUtf8 line → ⊥
   pub appended : Gets s.output s.output_now text
 
 -- a beginning of what is printed of a front of the input's lines was appended
-pub record UnwrittenJson (job : JsonJob) (s : Streams) (why : RunError) : Type 0 where
+pub record UnwrittenJson (raw : Bool) (s : Streams) (why : RunError) : Type 0 where
   pub input : List ℕ
   pub front : List (List ℕ)
   pub rest : List (List ℕ)
@@ -166,34 +159,19 @@ pub record UnwrittenJson (job : JsonJob) (s : Streams) (why : RunError) : Type 0
   pub place : ℕ
   pub taken : TakesSome s.input s.input_left input
   pub there : lines_of input ≡ front ++ rest
-  pub give : AllGive job.raw front text place
+  pub give : AllGive raw front text place
   pub appended : PrintsFront why s.output s.output_now text
 
 -- why not all lines were printed, and what was done by then
-abbrev pub FailsJson : JsonJob → Streams → RunError → Type 0
-FailsJson job s UnreadableInput = IsTrue s.can_fail × UnreadJson job s
-FailsJson job s NotUtf8 = NoTextJson job s
-FailsJson job s UnwritableOutput = UnwrittenJson job s UnwritableOutput
-FailsJson job s ClosedPipe = UnwrittenJson job s ClosedPipe
-FailsJson job s NoMemory = UnwrittenJson job s NoMemory
-FailsJson job s _ = ⊥
+abbrev pub FailsJson : Bool → Streams → RunError → Type 0
+FailsJson raw s UnreadableInput = IsTrue s.can_fail × UnreadJson raw s
+FailsJson raw s NotUtf8 = NoTextJson raw s
+FailsJson raw s UnwritableOutput = UnwrittenJson raw s UnwritableOutput
+FailsJson raw s ClosedPipe = UnwrittenJson raw s ClosedPipe
+FailsJson raw s NoMemory = UnwrittenJson raw s NoMemory
+FailsJson raw s _ = ⊥
 
-abbrev pub RespondsJson : JsonJob → Streams → Result (Option LineFault) RunError → Type 0
-RespondsJson job s (Ok None) = PrintedJson job s
-RespondsJson job s (Ok (Some fault)) = FaultsJson job s fault
-RespondsJson job s (Err why) = FailsJson job s why
-
--- there is a reason for the status, and its line was appended to the errors, as far as they have room
-pub record AbortedJson
-    (job : JsonJob) (s : Streams) (status : ℕ) (errors errors_now : Held) : Type 0 where
-  pub why : RunError
-  pub fails : FailsJson job s why
-  pub status_is : status ≡ status_of why
-  pub reported : Says errors errors_now (error_line job.name.now why)
-
--- how a run that reads JSON back ended
-abbrev pub JsonEnds : JsonJob → Streams → Held → Held → Result Bool RunError → Type 0
-JsonEnds job s errors errors_now (Ok true) = PrintedJson job s × Rests errors errors_now
-JsonEnds job s errors errors_now (Ok false) = MalformedJson job s errors errors_now
-JsonEnds job s errors errors_now (Err why) =
-    FailsJson job s why × Says errors errors_now (error_line job.name.now why)
+abbrev pub RespondsJson : Bool → Streams → Result (Option LineFault) RunError → Type 0
+RespondsJson raw s (Ok None) = PrintedJson raw s
+RespondsJson raw s (Ok (Some fault)) = FaultsJson raw s fault
+RespondsJson raw s (Err why) = FailsJson raw s why

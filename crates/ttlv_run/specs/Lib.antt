@@ -5,6 +5,7 @@ pub mod Columns
 pub mod Dates
 pub mod Decoding
 pub mod DumpLines
+pub mod Ends
 pub mod Escapes
 pub mod Files
 pub mod Fronts
@@ -18,7 +19,11 @@ pub mod Messages
 pub mod Misreadings
 pub mod Reasons
 pub mod Redactions
+pub mod Requests
 pub mod Runs
+pub mod Spellings
 pub mod Streaming
 pub mod Tables
+pub mod Tags
 pub mod Texts
+pub mod Tools

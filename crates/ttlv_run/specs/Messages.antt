@@ -13,7 +13,7 @@ use Rattle.ttlv_run.specs.declared.job.Task.TheVariants.{Check, Whole as OfWhole
 use Rattle.ttlv_run.specs.declared.messages.Place.{Place}
 use Rattle.ttlv_run.specs.declared.messages.Wrong.{Wrong}
 use Rattle.ttlv_run.specs.declared.messages.Wrong.TheVariants.{Malformed, NotKmip}
-use Rattle.ttlv_run.specs.Escapes.{escaped}
+use Rattle.ttlv_run.specs.Escapes.{escape}
 use Rattle.ttlv_run.specs.Texts.{Names, IsMessageText}
 
 -- how many bytes the first message takes by its header, where that is there
@@ -125,13 +125,13 @@ tag_report names None = codes "no tag"
 tag_report names (Some tag) = tag_named 6 (names.tags tag) tag
 
 -- what is told of a fault: of a task that prints whole messages alone no tag
-abbrev pub told : Task → Place → Place
-told (OfWhole strict) place = record { offset = place.offset; tag = None; wrong = place.wrong }
-told task place = place
+abbrev pub place_told : Task → Place → Place
+place_told (OfWhole strict) place = record { offset = place.offset; tag = None; wrong = place.wrong }
+place_told task place = place
 
 -- the line on standard error: what the input is called, the offset among its messages' bytes, the tag there and
 -- what is wrong
 unfoldable pub fault_line : Names → List ℕ → Place → List ℕ
 fault_line names name place =
-    escaped name ++ codes ": byte " ++ decimal place.offset ++ codes ": " ++ tag_report names place.tag ++ codes ": "
+    escape name ++ codes ": byte " ++ decimal place.offset ++ codes ": " ++ tag_report names place.tag ++ codes ": "
     ++ wrong_words place.wrong ++ codes "\n"

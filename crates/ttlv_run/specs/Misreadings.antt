@@ -7,7 +7,7 @@ use Rattle.ttlv_run.specs.declared.misread.Misread.{Misread}
 use Rattle.ttlv_run.specs.declared.misread.MisreadKind.{MisreadKind}
 use Rattle.ttlv_run.specs.declared.misread.MisreadKind.TheVariants.{NoDigit, WrongCount}
 use Rattle.ttlv_run.specs.Columns.{in_range}
-use Rattle.ttlv_run.specs.Escapes.{escaped}
+use Rattle.ttlv_run.specs.Escapes.{escape}
 
 -- what an encoding is called
 abbrev pub encoding_words : Encoding → List ℕ
@@ -43,5 +43,5 @@ line_end false = codes "\n"
 -- the line: what the input is called, what it was taken as, the offset in it, and what is wrong there
 abbrev pub misread_line : List ℕ → Misread → List ℕ
 misread_line name m =
-    with_kind (escaped name ++ codes ": taken as " ++ encoding_words m.taken ++ codes ": byte " ++ decimal m.offset) m.kind
+    with_kind (escape name ++ codes ": taken as " ++ encoding_words m.taken ++ codes ": byte " ++ decimal m.offset) m.kind
     ++ line_end m.guessed

@@ -7,7 +7,7 @@ use Rattle.std.specs.declared.io.ErrorKind.TheVariants.{OutOfMemory}
 use Rattle.ttlv_run.specs.declared.run_error.RunError.{RunError}
 use Rattle.ttlv_run.specs.declared.run_error.RunError.TheVariants.{UnopenedInput, UnreadableInput, MisreadInput}
 use Rattle.ttlv_run.specs.declared.run_error.RunError.TheVariants.{NotUtf8, NoMessage, UnwritableOutput, ClosedPipe, NoMemory}
-use Rattle.ttlv_run.specs.Escapes.{escaped}
+use Rattle.ttlv_run.specs.Escapes.{escape}
 use Rattle.kmip_ttlv_types.specs.Held.{Held, Gets, GetsFront}
 use Rattle.kmip_ttlv_types.specs.Streams.{AppendsFront, IsTight}
 use Rattle.ttlv_run.specs.Misreadings.{misread_line}
@@ -55,8 +55,8 @@ IsOfError e why = IsOfPrinting why × (error_kind e ≡ OutOfMemory → why ≡ 
 
 -- the beginning of a line: what the input is called, and the offset in it, if one is given
 abbrev pub place_report : List ℕ → Option ℕ → List ℕ
-place_report name None = escaped name
-place_report name (Some at) = escaped name ++ codes ": byte " ++ decimal at
+place_report name None = escape name
+place_report name (Some at) = escape name ++ codes ": byte " ++ decimal at
 
 -- what was written to the errors: all of a text, or a beginning of it where they have no room for all, if that is known
 abbrev pub Reports : Bool → Held → Held → List ℕ → Type 0
@@ -67,4 +67,4 @@ Reports false old new text = GetsFront old new text
 abbrev pub error_line : List ℕ → RunError → List ℕ
 error_line name ClosedPipe = []
 error_line name (MisreadInput m) = misread_line name m
-error_line name why = escaped name ++ codes ": " ++ words_of why ++ codes "\n"
+error_line name why = escape name ++ codes ": " ++ words_of why ++ codes "\n"

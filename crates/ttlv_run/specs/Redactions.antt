@@ -8,8 +8,8 @@ use Rattle.ttlv_run.specs.declared.job.Look.{Look}
 use Rattle.ttlv_run.specs.declared.job.Values.TheVariants.{Hidden}
 
 -- how redacted lines of all items are printed, without offsets and lengths
-abbrev pub redacted : Option ℕ → Bool → Look
-redacted width colored = record {
+abbrev pub redacted_look : Option ℕ → Bool → Look
+redacted_look width colored = record {
   values = Hidden;
   secrets_hidden = false;
   offsets = false;
@@ -30,8 +30,8 @@ abbrev pub seen_value : TtlvType → List ℕ → List ℕ
 seen_value Enumeration content = content
 seen_value typ content = []
 
-abbrev pub seen : List ℕ → FoundItem → Seen
-seen bytes i = record {
+abbrev pub item_seen : List ℕ → FoundItem → Seen
+item_seen bytes i = record {
   depth = i.depth;
   tag = i.tag;
   typ = i.typ;
@@ -40,4 +40,4 @@ seen bytes i = record {
 
 -- the outline of a message's items
 abbrev pub outline : List ℕ → List FoundItem → List Seen
-outline bytes found = map (seen bytes) found
+outline bytes found = map (item_seen bytes) found

@@ -5,7 +5,6 @@ use Rattle.kmip_ttlv_items.specs.ItemWalks.{AreBytes}
 use Rattle.std.specs.Str.{IsUtf8}
 use Rattle.ttlv_run.specs.declared.form.Form.{Form}
 use Rattle.ttlv_run.specs.declared.job.Job.{Job}
-use Rattle.ttlv_run.specs.declared.job.BackJob.{BackJob}
 use Rattle.ttlv_run.specs.declared.job.Task.{Task}
 use Rattle.ttlv_run.specs.declared.messages.Place.{Place}
 use Rattle.ttlv_run.specs.declared.misread.Misread.{Misread}
@@ -14,12 +13,12 @@ use Rattle.ttlv_run.specs.declared.run_error.RunError.TheVariants.{UnopenedInput
 use Rattle.ttlv_run.specs.declared.run_error.RunError.TheVariants.{UnwritableOutput, ClosedPipe, NoMemory}
 use Rattle.kmip_ttlv_names.specs.NameTables.{lines_of}
 use Rattle.ttlv_run.specs.declared.back.BackFault.{BackFault}
-use Rattle.ttlv_run.specs.Backs.{FirstBreak, IsOneLine, AreLines, ReadsLines, back_line}
-use Rattle.kmip_ttlv_types.specs.Held.{Held, Gets, Rests, Says}
+use Rattle.ttlv_run.specs.Backs.{FirstBreak, IsOneLine, AreLines, ReadsLines}
+use Rattle.kmip_ttlv_types.specs.Held.{Held, Gets, Rests}
 use Rattle.ttlv_run.specs.Fronts.{front_size, DecodesTo, StandsUpTo}
 use Rattle.ttlv_run.specs.Inputs.{TakesAll, TakesSome, form_of, encoding_of, Stands, Misreads}
-use Rattle.ttlv_run.specs.Messages.{is_there, wants_message, Whole, Prints, Continues, Breaks as MessageBreaks, fault_line, told}
-use Rattle.ttlv_run.specs.Reasons.{status_of, error_line, PrintsFront}
+use Rattle.ttlv_run.specs.Messages.{is_there, wants_message, Whole, Prints, Continues, Breaks as MessageBreaks, fault_line, place_told}
+use Rattle.ttlv_run.specs.Reasons.{PrintsFront}
 use Rattle.ttlv_run.specs.Texts.{Names, text_back}
 
 -- whether the input can fail, what it has, and what the output holds, before and after a run, as far as that is known
@@ -29,6 +28,10 @@ pub record Streams : Type 0 where
   pub input_left : Option (List ℕ)
   pub output : Held
   pub output_now : Held
+
+abbrev pub streams : Bool → Option (List ℕ) → Option (List ℕ) → Held → Held → Streams
+streams can_fail input input_left output output_now =
+    record { can_fail = can_fail; input = input; input_left = input_left; output = output; output_now = output_now }
 
 -- no message stands in bytes, and the task wants one
 abbrev pub lacks_message : Task → List ℕ → Bool
@@ -74,7 +77,7 @@ pub record Faults (names : Names) (job : Job) (s : Streams) (place : Place) : Ty
 pub record Breaks (names : Names) (job : Job) (s : Streams) (line : List ℕ) : Type 0 where
   pub place : Place
   pub faults : Faults names job s place
-  pub says : line ≡ fault_line names job.name.now (told job.task place)
+  pub says : line ≡ fault_line names job.name.now (place_told job.task place)
 
 -- for this reason a beginning of what is printed of the input was appended to the output, whatever follows the bytes that a front
 -- of it, or all of it, stands for
@@ -151,80 +154,40 @@ Places names job s (Ok None) = Printed names job s
 Places names job s (Ok (Some place)) = Faults names job s place
 Places names job s (Err why) = Fails names job s why
 
--- what is done for a job
-abbrev pub Responds : {T : Type 0} → (T → List ℕ) → Names → Job → Streams → Result (Option T) RunError → Type 0
-Responds text names job s (Ok None) = Printed names job s
-Responds text names job s (Ok (Some line)) = Breaks names job s (text line)
-Responds text names job s (Err why) = Fails names job s why
-
--- a message is malformed, and the line that says so was appended to the errors, as far as they have room
-pub record Malformed (names : Names) (job : Job) (s : Streams) (errors errors_now : Held) : Type 0 where
-  pub line : List ℕ
-  pub breaks : Breaks names job s line
-  pub reported : Says errors errors_now line
-
--- the input has no message, and the line that says so was appended to the errors, as far as they have room
-pub record Lacking (job : Job) (s : Streams) (errors errors_now : Held) : Type 0 where
-  pub empty : Empty job s
-  pub reported : Says errors errors_now (error_line job.name.now NoMessage)
-
--- there is a reason for the status, and its line was appended to the errors, as far as they have room
-pub record Aborted
-    (names : Names) (job : Job) (s : Streams) (status : ℕ) (errors errors_now : Held) : Type 0 where
-  pub why : RunError
-  pub fails : Fails names job s why
-  pub status_is : status ≡ status_of why
-  pub reported : Says errors errors_now (error_line job.name.now why)
-
--- how a run ended: all messages are whole; or one is malformed; or there is a reason, and its line was appended to the errors,
--- as far as they have room
-abbrev pub RunEnds : Names → Job → Streams → Held → Held → Result Bool RunError → Type 0
-RunEnds names job s errors errors_now (Ok true) = Printed names job s × Rests errors errors_now
-RunEnds names job s errors errors_now (Ok false) = Malformed names job s errors errors_now
-RunEnds names job s errors errors_now (Err why) =
-    Fails names job s why × Says errors errors_now (error_line job.name.now why)
-
 -- the whole input was taken, and this text is what its diagnostics are read back as; and the first line that is not
 -- whole stops being a diagnostic here, or all lines are whole
 pub record HasBack
-    (names : Names) (job : BackJob) (s : Streams) (text : List ℕ) (fault : Option BackFault) : Type 0 where
+    (names : Names) (prefix : List ℕ) (s : Streams) (text : List ℕ) (fault : Option BackFault) : Type 0 where
   pub input : List ℕ
   pub taken : TakesAll s.input s.input_left input
   pub is_text : IsUtf8 input
-  pub is : text ≡ text_back names.tags job.prefix.now input
-  pub first : FirstBreak job.prefix.now 0 (lines_of input) fault
+  pub is : text ≡ text_back names.tags prefix input
+  pub first : FirstBreak prefix 0 (lines_of input) fault
 
 -- exactly that was appended to the output
-pub record PrintedBack (names : Names) (job : BackJob) (s : Streams) (fault : Option BackFault) : Type 0 where
+pub record PrintedBack (names : Names) (prefix : List ℕ) (s : Streams) (fault : Option BackFault) : Type 0 where
   pub text : List ℕ
-  pub has : HasBack names job s text fault
+  pub has : HasBack names prefix s text fault
   pub appended : Gets s.output s.output_now text
 
--- a line is not whole, and the line that says so was appended to the errors, as far as they have room
-pub record MalformedBack
-    (names : Names) (job : BackJob) (s : Streams) (errors errors_now : Held) : Type 0 where
-  pub fault : BackFault
-  pub printed : PrintedBack names job s (Some fault)
-  pub reported : Says errors errors_now (back_line job.name.now fault)
-
 -- exactly what the whole lines among the bytes that came before reading failed are read back as was appended
-pub record UnreadBack (names : Names) (job : BackJob) (s : Streams) : Type 0 where
+pub record UnreadBack (names : Names) (prefix : List ℕ) (s : Streams) : Type 0 where
   pub bytes : List ℕ
   pub taken : Consumes s.input s.input_left bytes
   pub place : ℕ
   pub text : List ℕ
-  pub reads : ReadsLines names.tags job.prefix.now bytes place text
+  pub reads : ReadsLines names.tags prefix bytes place text
   pub one_line : IsOneLine (drop place bytes)
   pub appended : Gets s.output s.output_now text
 
 -- a line of the input is no text, and so is the input; exactly what the lines before it are read back as was appended
-pub record NoTextBack (names : Names) (job : BackJob) (s : Streams) : Type 0 where
+pub record NoTextBack (names : Names) (prefix : List ℕ) (s : Streams) : Type 0 where
   pub input : List ℕ
   pub taken : TakesSome s.input s.input_left input
   pub no_text : IsUtf8 input → ⊥
   pub place : ℕ
   pub text : List ℕ
-  pub reads : ReadsLines names.tags job.prefix.now input place text
+  pub reads : ReadsLines names.tags prefix input place text
   pub line : List ℕ
   pub others : List (List ℕ)
   pub first : lines_of (drop place input) ≡ line ∷ others
@@ -232,44 +195,29 @@ pub record NoTextBack (names : Names) (job : BackJob) (s : Streams) : Type 0 whe
   pub appended : Gets s.output s.output_now text
 
 -- a beginning of what lines in front of the input, or all of it, are read back as was appended; those lines are text
-pub record UnwrittenBack (names : Names) (job : BackJob) (s : Streams) (why : RunError) : Type 0 where
+pub record UnwrittenBack (names : Names) (prefix : List ℕ) (s : Streams) (why : RunError) : Type 0 where
   pub input : List ℕ
   pub fault : Option BackFault
   pub taken : TakesSome s.input s.input_left input
-  pub first : FirstBreak job.prefix.now 0 (lines_of input) fault
+  pub first : FirstBreak prefix 0 (lines_of input) fault
   pub front : List ℕ
   pub more : List ℕ
   pub are : input ≡ front ++ more
   pub ends : AreLines front ⊎ (more ≡ [])
   pub is_text : IsUtf8 front
   pub rest : List ℕ
-  pub is : text_back names.tags job.prefix.now input ≡ text_back names.tags job.prefix.now front ++ rest
-  pub appended : PrintsFront why s.output s.output_now (text_back names.tags job.prefix.now front)
+  pub is : text_back names.tags prefix input ≡ text_back names.tags prefix front ++ rest
+  pub appended : PrintsFront why s.output s.output_now (text_back names.tags prefix front)
 
 -- why reading back ended early, and what was printed by then
-abbrev pub FailsBack : Names → BackJob → Streams → RunError → Type 0
-FailsBack names job s UnreadableInput = IsTrue s.can_fail × UnreadBack names job s
-FailsBack names job s NotUtf8 = NoTextBack names job s
-FailsBack names job s UnwritableOutput = UnwrittenBack names job s UnwritableOutput
-FailsBack names job s ClosedPipe = UnwrittenBack names job s ClosedPipe
-FailsBack names job s NoMemory = UnwrittenBack names job s NoMemory
-FailsBack names job s _ = ⊥
+abbrev pub FailsBack : Names → List ℕ → Streams → RunError → Type 0
+FailsBack names prefix s UnreadableInput = IsTrue s.can_fail × UnreadBack names prefix s
+FailsBack names prefix s NotUtf8 = NoTextBack names prefix s
+FailsBack names prefix s UnwritableOutput = UnwrittenBack names prefix s UnwritableOutput
+FailsBack names prefix s ClosedPipe = UnwrittenBack names prefix s ClosedPipe
+FailsBack names prefix s NoMemory = UnwrittenBack names prefix s NoMemory
+FailsBack names prefix s _ = ⊥
 
-abbrev pub RespondsBack : Names → BackJob → Streams → Result (Option BackFault) RunError → Type 0
-RespondsBack names job s (Ok fault) = PrintedBack names job s fault
-RespondsBack names job s (Err why) = FailsBack names job s why
-
--- there is a reason for the status, and its line was appended to the errors, as far as they have room
-pub record AbortedBack
-    (names : Names) (job : BackJob) (s : Streams) (status : ℕ) (errors errors_now : Held) : Type 0 where
-  pub why : RunError
-  pub fails : FailsBack names job s why
-  pub status_is : status ≡ status_of why
-  pub reported : Says errors errors_now (error_line job.name.now why)
-
--- how a run that reads diagnostics back ended
-abbrev pub BackEnds : Names → BackJob → Streams → Held → Held → Result Bool RunError → Type 0
-BackEnds names job s errors errors_now (Ok true) = PrintedBack names job s None × Rests errors errors_now
-BackEnds names job s errors errors_now (Ok false) = MalformedBack names job s errors errors_now
-BackEnds names job s errors errors_now (Err why) =
-    FailsBack names job s why × Says errors errors_now (error_line job.name.now why)
+abbrev pub RespondsBack : Names → List ℕ → Streams → Result (Option BackFault) RunError → Type 0
+RespondsBack names prefix s (Ok fault) = PrintedBack names prefix s fault
+RespondsBack names prefix s (Err why) = FailsBack names prefix s why

@@ -11,8 +11,8 @@ use Rattle.ttlv_run.specs.Messages.{is_there, Whole, Breaks, Continues}
 use Rattle.ttlv_run.specs.Texts.{Names}
 
 -- the bytes that were read, in front of room for more
-abbrev pub buffered : {A : Type 0} → Window A → List ℕ
-buffered w = take w.count w.bytes.items
+abbrev pub window_bytes : {A : Type 0} → Window A → List ℕ
+window_bytes w = take w.count w.bytes.items
 
 -- these bytes stand at a place among those of all messages, and more behind them, if they aren't the last
 pub record StandsAt (all : List ℕ) (place : ℕ) (bytes : List ℕ) (last : Bool) : Type 0 where

@@ -32,7 +32,7 @@ use Rattle.ttlv_run.specs.declared.lines.Reach.{Reach}
 use Rattle.ttlv_run.specs.Attributes.{attribute_after, naming_tag, enumeration_name}
 use Rattle.ttlv_run.specs.Columns.{body}
 use Rattle.ttlv_run.specs.Dates.{date_shown}
-use Rattle.ttlv_run.specs.Escapes.{escaped}
+use Rattle.ttlv_run.specs.Escapes.{escape}
 use Rattle.ttlv_run.specs.Masks.{value_named, mask_names}
 use Rattle.ttlv_run.specs.declared.job.Names.{Names as NamesAre}
 
@@ -73,26 +73,26 @@ bytes_shown (Some width) content =
 
 -- the value of a leaf, with the name that an enumeration's has, those of a mask's bits, and a date; nothing of a secret
 -- one; where values are hidden, of an enumeration alone; a text is escaped, if it isn't to be raw
-unfoldable pub shown : Names → Values → Option ℕ → ℕ → TtlvType → List ℕ → List ℕ
-shown names values width tag Structure content = []
-shown names Secret width tag typ content = hidden
-shown names values width tag Enumeration content =
+unfoldable pub value_text : Names → Values → Option ℕ → ℕ → TtlvType → List ℕ → List ℕ
+value_text names values width tag Structure content = []
+value_text names Secret width tag typ content = hidden
+value_text names values width tag Enumeration content =
     value_shown Enumeration content ++ behind_space (enumeration_name names.values names.tags tag (from_be_bytes w32 content))
-shown names Hidden width tag typ content = hidden
-shown names Escaped width tag TextString content = escaped content
-shown names values width tag Integer content =
+value_text names Hidden width tag typ content = hidden
+value_text names Escaped width tag TextString content = escape content
+value_text names values width tag Integer content =
     value_shown Integer content ++ names.masks tag (from_be_bytes w32 content)
-shown names values width tag DateTime content = value_shown DateTime content ++ date_shown (from_be_bytes w64 content)
-shown names values width tag ByteString content = bytes_shown width content
-shown names values width tag typ content = value_shown typ content
+value_text names values width tag DateTime content = value_shown DateTime content ++ date_shown (from_be_bytes w64 content)
+value_text names values width tag ByteString content = bytes_shown width content
+value_text names values width tag typ content = value_shown typ content
 
 -- what sets a colour, where lines are coloured
 abbrev pub color_part : Bool → List ℕ → List ℕ
 color_part colored color = if colored then color else []
 
 -- a text in a colour of a terminal, by its number (ECMA-48)
-abbrev pub painted : Bool → List ℕ → List ℕ → List ℕ
-painted colored color text = color_part colored color ++ (text ++ color_part colored (27 ∷ codes "[0m"))
+abbrev pub paint : Bool → List ℕ → List ℕ → List ℕ
+paint colored color text = color_part colored color ++ (text ++ color_part colored (27 ∷ codes "[0m"))
 
 -- a number and a tab, where such numbers are printed
 abbrev pub column_part : Bool → ℕ → List ℕ
@@ -100,16 +100,16 @@ column_part printed number = if printed then decimal number ++ codes "\t" else [
 
 -- the beginning of an item's line, up to its tag
 unfoldable pub tag_part : Names → Bool → FoundItem → List ℕ
-tag_part names colored i = painted colored (27 ∷ codes "[36m") (bounded_part names.tags i.depth i.tag)
+tag_part names colored i = paint colored (27 ∷ codes "[36m") (bounded_part names.tags i.depth i.tag)
 
 -- the value of a leaf, painted; a structure has none
 abbrev pub painted_value : Bool → TtlvType → List ℕ → List ℕ
 painted_value colored Structure text = []
-painted_value colored typ text = painted colored (27 ∷ codes "[32m") text
+painted_value colored typ text = paint colored (27 ∷ codes "[32m") text
 
 -- how far the items of some tags reach, where one more item was met, which is one of them or not
-abbrev pub reached : Bool → ℕ → FoundItem → ℕ
-reached is_one end i = if is_one && nat_lt end (i.offset + 8 + i.length) then i.offset + 8 + i.length else end
+abbrev pub reach_end : Bool → ℕ → FoundItem → ℕ
+reach_end is_one end i = if is_one && nat_lt end (i.offset + 8 + i.length) then i.offset + 8 + i.length else end
 
 -- the tag is one of those that are asked for
 abbrev pub is_asked : Option (Bor (List ℕ)) → ℕ → Bool
@@ -123,10 +123,10 @@ values_shown look secret i = if look.secrets_hidden && nat_lt i.offset secret th
 -- how far the secret items reach, and those that are asked for; and which attribute is named
 abbrev pub reach_after : Names → Look → List ℕ → Reach → FoundItem → Reach
 reach_after names look bytes r i =
-    let secret = reached (names.secrets i.tag) r.secret i in
+    let secret = reach_end (names.secrets i.tag) r.secret i in
     record {
       secret = secret;
-      asked = reached (is_asked look.only i.tag) r.asked i;
+      asked = reach_end (is_asked look.only i.tag) r.asked i;
       attribute = attribute_after names.named (values_shown look secret i) bytes r.attribute i;
     }
 
@@ -143,7 +143,7 @@ no_reach = record { secret = 0; asked = 0; attribute = None }
 unfoldable pub value_part : Names → Look → Reach → List ℕ → FoundItem → List ℕ
 value_part names look r bytes i =
     painted_value look.colored i.typ
-    (shown names (values_shown look r.secret i) look.width (naming_tag r.attribute i) i.typ (content_at bytes i.offset))
+    (value_text names (values_shown look r.secret i) look.width (naming_tag r.attribute i) i.typ (content_at bytes i.offset))
 
 -- the line of an item of a message that begins at an offset: the item's offset and the length of its value, if asked for, the depth,
 -- tag, type and value
@@ -178,12 +178,12 @@ lines_from names look at bytes r (i ∷ is) =
 
 -- what a line of diagnostics is read back as, but for a mark in front of it and white space at its end, each line indented by 64 levels at most; an
 -- empty one as nothing
-abbrev pub trimmed_back : (ℕ → Option (List ℕ)) → List ℕ → List ℕ → List ℕ
-trimmed_back tags prefix [] = []
-trimmed_back tags prefix (c ∷ s) = trim_end (undiag_lines (bounded_part tags) prefix (c ∷ s)) ++ 10 ∷ []
+abbrev pub trim_line_back : (ℕ → Option (List ℕ)) → List ℕ → List ℕ → List ℕ
+trim_line_back tags prefix [] = []
+trim_line_back tags prefix (c ∷ s) = trim_end (undiag_lines (bounded_part tags) prefix (c ∷ s)) ++ 10 ∷ []
 
 unfoldable pub line_back : (ℕ → Option (List ℕ)) → List ℕ → List ℕ → List ℕ
-line_back tags prefix line = trimmed_back tags prefix (trim_end (body line))
+line_back tags prefix line = trim_line_back tags prefix (trim_end (body line))
 
 -- what diagnostics are read back as, each in a line of its own
 unfoldable pub text_back : (ℕ → Option (List ℕ)) → List ℕ → List ℕ → List ℕ

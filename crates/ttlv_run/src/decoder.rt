@@ -103,7 +103,7 @@ pub struct Decoder {
 impl Decoder {
     ghost use Rattle.ttlv_run.specs.declared.decoder.Made.TheVariants.{Failed as AnError};
     ghost use Rattle.ttlv_run.specs.declared.decoder.Phase.TheVariants.{Groups};
-    ghost use Rattle.ttlv_run.specs.Decoding.{begun, characters, BeginsGroup, IsRun, IsOpen, Knows, Holds, Yields, Takes, Reading, Pushes, Finishes, Ends};
+    ghost use Rattle.ttlv_run.specs.Decoding.{open_digits, characters, BeginsGroup, IsRun, IsOpen, Knows, Holds, Yields, Takes, Reading, Pushes, Finishes, Ends};
 
     /// A decoder in front of a text behind its mark, which has so many bytes.
     pub fn new(form: Form, mark: usize) -> Decoder
@@ -131,7 +131,7 @@ impl Decoder {
     // Puts a digit into the open group, and decodes that if it is whole.
     fn put(&mut self, b: u8) -> Made
         requires { self.old.phase ≡ Groups }
-        ensures made { (digits bytes : List ℕ) → IsOpen self.old.form digits (begun self.old) bytes
+        ensures made { (digits bytes : List ℕ) → IsOpen self.old.form digits (open_digits self.old) bytes
             → Yields self.new (digits ++ b ∷ []) bytes result }
         ensures form { self.new.form ≡ self.old.form }
         ensures part { self.new.part ≡ self.old.part }
@@ -157,7 +157,7 @@ impl Decoder {
 
     // Counts a digit.
     fn count(&mut self, b: u8) -> Made
-        ensures made { (digits bytes : List ℕ) → Knows self.old.phase self.old.form digits (begun self.old) bytes
+        ensures made { (digits bytes : List ℕ) → Knows self.old.phase self.old.form digits (open_digits self.old) bytes
             → Yields self.new (digits ++ b ∷ []) bytes result }
         ensures form { self.new.form ≡ self.old.form }
         ensures part { self.new.part ≡ self.old.part }
@@ -218,7 +218,7 @@ impl Decoder {
     // What is left at the end, behind the character that waited: the bytes of the open group, or an error.
     fn ended(&self) -> Made
         requires { self.now.offset < 2 ^ 64 - 1 }
-        ensures { (digits bytes : List ℕ) → Knows self.now.phase self.now.form digits (begun self.now) bytes
+        ensures { (digits bytes : List ℕ) → Knows self.now.phase self.now.form digits (open_digits self.now) bytes
             → Ends self.now digits bytes result }
     {
         match self.phase {

@@ -6,8 +6,8 @@ ghost use Rattle.kmip_ttlv_types.specs.Held.{held};
 ghost use Rattle.ttlv_run.specs.Decoding.{characters, Reading, Grows, Puts, DecodesRun, DecodesPiece, DecodesMore, is_last};
 ghost use Rattle.ttlv_run.specs.Fronts.{front_size};
 ghost use Rattle.ttlv_run.specs.Inputs.{form_of, encoding_of};
-ghost use Rattle.ttlv_run.specs.Runs.{Places};
-ghost use Rattle.ttlv_run.specs.Streaming.{buffered};
+ghost use Rattle.ttlv_run.specs.Runs.{streams, Places};
+ghost use Rattle.ttlv_run.specs.Streaming.{window_bytes};
 ghost use Rattle.ttlv_run.specs.Texts.{names_of};
 
 use crate::coding::{Undecoded, misread, taken_as};
@@ -25,7 +25,7 @@ use std::alloc::Allocator;
 
 // Puts what a character came to behind bytes; gives the error, if it is one.
 fn put<A: Allocator>(made: Made, bytes: &mut Window<A>) -> Result<Option<Undecoded>, RunError>
-    ensures { Puts (buffered bytes.old) (buffered bytes.new) made result }
+    ensures { Puts (window_bytes bytes.old) (window_bytes bytes.new) made result }
 {
     match made {
         Made::Nothing => Ok(None),
@@ -47,7 +47,7 @@ fn decode_run<A: Allocator>(
 ) -> Result<usize, RunError>
     requires room { length room.old ≡ 384 }
     requires offset { decoder.old.offset + length chars.now < 2 ^ 64 }
-    ensures made { Grows (buffered bytes.old) (buffered bytes.new) (λ came. (mark : ℕ) (s all : List ℕ) → Reading decoder.old mark s all
+    ensures made { Grows (window_bytes bytes.old) (window_bytes bytes.new) (λ came. (mark : ℕ) (s all : List ℕ) → Reading decoder.old mark s all
         → DecodesRun decoder.new mark s chars.now (all ++ came) result) }
     ensures within { IfOk result (λ n. n ≤ length chars.now - 1) }
     ensures offset { decoder.new.offset ≤ decoder.old.offset + (length chars.now - 1) }
@@ -76,7 +76,7 @@ fn decode_piece<A: Allocator>(
     bytes: &mut Window<A>,
 ) -> Result<Option<Undecoded>, RunError>
     requires { decoder.old.offset + length piece.now < 2 ^ 64 - 1 }
-    ensures made { Grows (buffered bytes.old) (buffered bytes.new) (λ came. (mark : ℕ) (s all : List ℕ) → Reading decoder.old mark s all
+    ensures made { Grows (window_bytes bytes.old) (window_bytes bytes.new) (λ came. (mark : ℕ) (s all : List ℕ) → Reading decoder.old mark s all
         → DecodesPiece decoder.new mark s piece.now (all ++ came) result) }
     ensures offset { decoder.new.offset ≤ decoder.old.offset + length piece.now }
     ensures count { result ≡ Ok None → characters decoder.new ≡ characters decoder.old + length piece.now }
@@ -101,12 +101,12 @@ fn decode_more<A: Allocator>(
     ended: bool,
     bytes: &mut Window<A>,
 ) -> Result<Option<Undecoded>, RunError>
-    ensures made { Grows (buffered bytes.old) (buffered bytes.new) (λ came. (mark : ℕ) (s all : List ℕ) → Reading decoder.old mark s all
-        → DecodesMore decoder.new mark s (buffered text.old) ended (all ++ came) result) }
+    ensures made { Grows (window_bytes bytes.old) (window_bytes bytes.new) (λ came. (mark : ℕ) (s all : List ℕ) → Reading decoder.old mark s all
+        → DecodesMore decoder.new mark s (window_bytes text.old) ended (all ++ came) result) }
     ensures form { decoder.new.form ≡ decoder.old.form }
-    ensures left { OnOk result (buffered text.new ≡ []) }
+    ensures left { OnOk result (window_bytes text.new ≡ []) }
     ensures count { result ≡ Ok None → ended ≡ false
-        → (characters decoder.new ≡ characters decoder.old + length (buffered text.old)) × (characters decoder.new < 2 ^ 64) }
+        → (characters decoder.new ≡ characters decoder.old + length (window_bytes text.old)) × (characters decoder.new < 2 ^ 64) }
 {
     let piece = text.buffered();
     let count = piece.len();
@@ -146,18 +146,12 @@ pub fn print_digits<A: Allocator + Copy, B: Allocator + Copy, R: Source, W: Sink
     input: &mut R,
     output: &mut W,
 ) -> Result<Option<Place>, RunError>
-    requires form { form_of (encoding_of job.now.encoding (buffered text)) ≡ Some form }
-    requires front { ended ≡ false → front_size job.now.encoding (buffered text) ≤ length (buffered text) }
+    requires form { form_of (encoding_of job.now.encoding (window_bytes text)) ≡ Some form }
+    requires front { ended ≡ false → front_size job.now.encoding (window_bytes text) ≤ length (window_bytes text) }
     requires at_end { ended ≡ true → IsAtEnd (R.left input.old) }
-    ensures { (known : Option (List ℕ)) → Consumes known (R.left input.old) (buffered text)
+    ensures { (known : Option (List ℕ)) → Consumes known (R.left input.old) (window_bytes text)
         → Places (names_of names.now) job.now
-        (record {
-          can_fail = R.can_fail;
-          input = known;
-          input_left = R.left input.new;
-          output = held W.emitted W.room output.old;
-          output_now = held W.emitted W.room output.new;
-        }) result }
+        (streams R.can_fail known (R.left input.new) (held W.emitted W.room output.old) (held W.emitted W.room output.new)) result }
 {
     let mark = mark_length(text.buffered());
     text.discard(mark);

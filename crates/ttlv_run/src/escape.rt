@@ -8,7 +8,7 @@ ghost use Rattle.kmip_ttlv_types.specs.Leaves.{is_valid};
 ghost use Rattle.kmip_ttlv_util.specs.Pieces.{Moves, Stops, buffered};
 ghost use Rattle.kmip_ttlv_util.specs.Sinks.{moves_none, moves_both, stops_first, stops_second};
 ghost use Rattle.ttlv_run.specs.Columns.{in_range};
-ghost use Rattle.ttlv_run.specs.Escapes.{byte_hex, short_hex, word_hex, number_hex, is_unseen_low, is_unseen_middle, is_unseen_high, is_unseen, is_hidden, is_shown, escaped_char, escaped};
+ghost use Rattle.ttlv_run.specs.Escapes.{byte_hex, short_hex, word_hex, number_hex, is_unseen_low, is_unseen_middle, is_unseen_high, is_unseen, is_hidden, is_bare_ascii, escaped_char, escape};
 
 use kmip_ttlv_types::stream::Sink;
 use kmip_ttlv_util::{Pieces, TextSink};
@@ -267,8 +267,8 @@ fn push_char<S: PlainSink>(out: &mut S, c: char) -> Result<(), S::Error>
 
 // Adds the characters of a text, one by one.
 fn push_chars<S: PlainSink>(out: &mut S, text: &str) -> Result<(), S::Error>
-    ensures ok { OnOk result (S.adds out.old (escaped text.now) out.new) }
-    ensures err { OnErr result (S.breaks out.old (escaped text.now) out.new) }
+    ensures ok { OnOk result (S.adds out.old (escape text.now) out.new) }
+    ensures err { OnErr result (S.breaks out.old (escape text.now) out.new) }
 {
     for c in text.chars() {
         push_char(out, c)?;
@@ -277,8 +277,8 @@ fn push_chars<S: PlainSink>(out: &mut S, text: &str) -> Result<(), S::Error>
 }
 
 // Whether a byte is a character that stands in a line as it is: ASCII that is neither a control character nor a backslash.
-fn is_shown(b: u8) -> bool
-    ensures { result ≡ is_shown b }
+fn is_bare_ascii(b: u8) -> bool
+    ensures { result ≡ is_bare_ascii b }
 {
     31 < b && b < 127 && b != 92
 }
@@ -286,10 +286,10 @@ fn is_shown(b: u8) -> bool
 // How many bytes in front of some stand in a line as they are.
 fn shown_front(bytes: &[u8]) -> usize
     ensures within { result ≤ length bytes.now }
-    ensures all { list_all is_shown (take result bytes.now) ≡ true }
+    ensures all { list_all is_bare_ascii (take result bytes.now) ≡ true }
 {
     let mut count = 0;
-    'bytes: while count < bytes.len() && is_shown(bytes[count]) {
+    'bytes: while count < bytes.len() && is_bare_ascii(bytes[count]) {
         count += 1;
     }
     count
@@ -299,8 +299,8 @@ fn shown_front(bytes: &[u8]) -> usize
 ///
 /// It fails where the sink fails.
 pub fn push_text<S: PlainSink>(out: &mut S, text: &str) -> Result<(), S::Error>
-    ensures ok { OnOk result (S.adds out.old (escaped text.now) out.new) }
-    ensures err { OnErr result (S.breaks out.old (escaped text.now) out.new) }
+    ensures ok { OnOk result (S.adds out.old (escape text.now) out.new) }
+    ensures err { OnErr result (S.breaks out.old (escape text.now) out.new) }
 {
     let (front, rest) = text.split_at(shown_front(text.as_bytes()));
     out.append(front)?;
@@ -310,8 +310,8 @@ pub fn push_text<S: PlainSink>(out: &mut S, text: &str) -> Result<(), S::Error>
 /// The same, of the bytes of a text.
 pub fn push_escaped<S: PlainSink>(out: &mut S, text: &[u8]) -> Result<(), S::Error>
     requires { is_valid TextString text.now ≡ true }
-    ensures ok { OnOk result (S.adds out.old (escaped text.now) out.new) }
-    ensures err { OnErr result (S.breaks out.old (escaped text.now) out.new) }
+    ensures ok { OnOk result (S.adds out.old (escape text.now) out.new) }
+    ensures err { OnErr result (S.breaks out.old (escape text.now) out.new) }
 {
     push_text(out, unsafe { str::from_utf8_unchecked(text) })
 }

@@ -2,7 +2,7 @@
 
 ghost use Rattle.std.specs.Prelude.{◌≡◌, true, ℕ, IfErr, OnOk, OnErr, nat_lt};
 ghost use Rattle.kmip_ttlv_types.specs.Held.{held, Gets};
-ghost use Rattle.ttlv_run.specs.Headings.{is_shown, is_headed, heading, Heads, HeadFails};
+ghost use Rattle.ttlv_run.specs.Headings.{asks_for_lines, is_headed, heading, Heads, HeadFails};
 ghost use Rattle.ttlv_run.specs.Reasons.{IsOfPrinting, PrintsFront};
 
 use crate::escape::push_text;
@@ -13,8 +13,8 @@ use kmip_ttlv_types::stream::Sink;
 use kmip_ttlv_util::{Pieces, TextSink};
 
 // Whether readable lines are asked for.
-fn is_shown(asked: Asked<'_>) -> bool
-    ensures { result ≡ is_shown asked.entry }
+fn asks_for_lines(asked: Asked<'_>) -> bool
+    ensures { result ≡ asks_for_lines asked.entry }
 {
     match asked {
         Asked::Print {
@@ -35,7 +35,7 @@ fn is_shown(asked: Asked<'_>) -> bool
 pub fn is_headed(asked: Asked<'_>, count: usize) -> bool
     ensures { result ≡ is_headed asked.entry count }
 {
-    1 < count && is_shown(asked)
+    1 < count && asks_for_lines(asked)
 }
 
 // Adds the line of a name, in which that is escaped.

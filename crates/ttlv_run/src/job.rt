@@ -138,7 +138,7 @@ pub enum Asked<'w> {
     FromJson { raw: bool },
 }
 
-/// What a run is to do with its input.
+/// What is to be printed of an input's messages.
 #[derive(Clone, Copy, Debug, PartialEq, Eq)]
 pub struct Job<'w> {
     /// What the input is called, in the line on standard error.
@@ -147,24 +147,6 @@ pub struct Job<'w> {
     pub task: Task<'w>,
     /// What the input is.
     pub encoding: Encoding,
-}
-
-/// What a run that reads diagnostics back is to do with its input.
-#[derive(Clone, Copy, Debug, PartialEq, Eq)]
-pub struct BackJob<'w> {
-    /// What the input is called, in the line on standard error.
-    pub name: &'w str,
-    /// The hexadecimal digits that the diagnostics leave out of tags.
-    pub prefix: &'w str,
-}
-
-/// What a run that reads JSON back is to do with its input.
-#[derive(Clone, Copy, Debug, PartialEq, Eq)]
-pub struct JsonJob<'w> {
-    /// What the input is called, in the line on standard error.
-    pub name: &'w str,
-    /// Whether messages are printed as raw bytes, and not in hexadecimal.
-    pub raw: bool,
 }
 
 /// The names that are printed beside tags and values, and the tags whose values are secret.

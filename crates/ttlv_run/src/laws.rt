@@ -21,8 +21,8 @@ ghost use Rattle.ttlv_run.specs.declared.messages.Place.{Place as APlace};
 ghost use Rattle.ttlv_run.specs.AttributeNames.{NamesAttribute};
 ghost use Rattle.ttlv_run.specs.Fronts.{StandsFront};
 ghost use Rattle.ttlv_run.specs.Inputs.{Stands};
-ghost use Rattle.ttlv_run.specs.Messages.{Whole, message_at, Continues, told};
-ghost use Rattle.ttlv_run.specs.Redactions.{redacted, outline};
+ghost use Rattle.ttlv_run.specs.Messages.{Whole, message_at, Continues, place_told};
+ghost use Rattle.ttlv_run.specs.Redactions.{redacted_look, outline};
 ghost use Rattle.ttlv_run.specs.Runs.{Streams as TheStreams, HasText, Faults, Unwritten};
 ghost use Rattle.ttlv_run.specs.Texts.{Names as TheNames, lines_from, no_reach, reach_all, is_passed, covers, IsMessageText};
 
@@ -63,13 +63,13 @@ pub fn a_front_stands_for_a_front()
 /// message with a fault nothing is printed, and of faults of one kind at one offset the same is told.
 pub fn a_redacted_text_has_one_outline()
     ensures lines { (names : TheNames) (width : Option ℕ) (colored : Bool) (at other : ℕ) (a b t u : List ℕ)
-        (p : IsMessageText names (OfWhole (ShowWhole (redacted width colored))) at a t None)
-        (q : IsMessageText names (OfWhole (ShowWhole (redacted width colored))) other b u None)
+        (p : IsMessageText names (OfWhole (ShowWhole (redacted_look width colored))) at a t None)
+        (q : IsMessageText names (OfWhole (ShowWhole (redacted_look width colored))) other b u None)
         → outline a p.found ≡ outline b q.found → t ≡ u }
     ensures nothing { (names : TheNames) (strict : AStrict) (at : ℕ) (bytes t : List ℕ) (fault : AFault)
         → IsMessageText names (OfWhole strict) at bytes t (Some fault) → t ≡ [] }
     ensures fault { (strict other : AStrict) (p q : APlace) → p.offset ≡ q.offset → p.wrong ≡ q.wrong
-        → told (OfWhole strict) p ≡ told (OfWhole other) q }
+        → place_told (OfWhole strict) p ≡ place_told (OfWhole other) q }
 {}
 
 /// Where tags are asked for, an item's line is passed over unless one of the items that were met by then, itself among them, has one

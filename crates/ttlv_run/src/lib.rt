@@ -1,27 +1,31 @@
-//! What the program `ttlv` does, over any reader and any writers: it takes an input of TTLV messages,
-//! one after the other, as raw bytes, hexadecimal, base64 or a dump, and prints them as readable lines, as
-//! diagnostics, as JSON or in hexadecimal, or checks them; or it reads diagnostics or JSON back.
+//! The program `ttlv`, but for its `main`: what the words of the command line ask for, and what is done for it, over any reader and
+//! any writers. It takes an input of TTLV messages, one after the other, as raw bytes, hexadecimal, base64 or a dump, and prints them
+//! as readable lines, as diagnostics, as JSON or in hexadecimal, or checks them; or it reads diagnostics or JSON back.
 //!
-//! `files` is the entry, for several inputs, whose names `headings` prints, and `run` for one. `job` says what is to be done, `window` holds what was
-//! read and not printed yet, `guess` finds the encoding, `digits` prints a text as it comes, which `decoder` decodes group by group,
-//! `coding` says what the digits of a group stand for, `form` which bytes of a text are digits, and `misread` why it stands for no
-//! bytes. `messages` goes from message to message, `texts`, `lines`, `values`, `attributes`, `dates`, `masks`, `colors` and `escape` print
-//! one to any sink of texts, `back` reads diagnostics back, `from_json` JSON, and `run_error` has the reasons for statuses 2 and 3. `table` reads a
-//! file of names, `progress` reports how far the reading is, and `memory` says where a run takes its memory from. Items, faults,
-//! diagnostics and JSON are those of kmip_ttlv_items, kmip_ttlv_util and kmip_ttlv_json.
+//! The crate `clap` of the toolchain parses the words and writes the help and the usage (`command`, `request`). `tool` is the entry: it
+//! reads the tables of names and secrets that the words name, and `tags` finds the tags that they ask for, by names in any `spelling`.
+//!
+//! Below it `files` is the entry for several inputs, whose names `headings` prints, and `run` for one, whatever is asked. `job` says what that is,
+//! `window` holds what was read and not printed yet, `guess` finds the encoding, `digits` prints a text as it comes, which `decoder`
+//! decodes group by group, `coding` says what the digits of a group stand for, `form` which bytes of a text are digits, and `misread`
+//! why it stands for no bytes. `messages` goes from message to message, `texts`, `lines`, `values`, `attributes`, `dates`, `masks`,
+//! `colors` and `escape` print one to any sink of texts, `back` reads diagnostics back, `from_json` JSON, and `run_error` has the
+//! reasons for statuses 2 and 3. `table` reads a file of names, `progress` reports how far the reading is, and `memory` says where a run
+//! takes its memory from. Items, faults, diagnostics and JSON are those of kmip_ttlv_items, kmip_ttlv_util and kmip_ttlv_json.
 #![tactic(auto)]
 
 mod attributes;
 mod back;
 mod coding;
 mod colors;
+mod command;
 mod dates;
 mod decoder;
 mod digits;
 mod escape;
 pub mod files;
 mod form;
-pub mod from_json;
+mod from_json;
 mod guess;
 mod headings;
 mod job;
@@ -32,13 +36,19 @@ mod memory;
 mod messages;
 mod misread;
 pub mod progress;
+mod request;
 pub mod run;
 mod run_error;
+mod spelling;
 pub mod table;
+mod tags;
 mod texts;
+mod tool;
 mod values;
 mod window;
 
-pub use job::{Asked, BackJob, Encoding, Job, JsonJob, Look, Names, Strict, Task, Values};
+pub use job::{Asked, Encoding, Job, Look, Names, Strict, Task, Values};
 pub use kmip_ttlv_json::Hiding;
 pub use memory::Memory;
+pub use request::{Color, Request, request_in, request_of};
+pub use tool::{Terminal, report_usage, run_request};

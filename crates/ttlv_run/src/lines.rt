@@ -6,7 +6,7 @@ ghost use Rattle.ttlv_run.specs.declared.job.Task.TheVariants.{Show as ToShow};
 ghost use Rattle.kmip_ttlv_items.specs.declared.found.Fault.{Fault as AFault};
 ghost use Rattle.kmip_ttlv_util.specs.Pieces.{SomeText};
 ghost use Rattle.ttlv_run.specs.Items.{IsGood};
-ghost use Rattle.ttlv_run.specs.Texts.{names_of, column_part, tag_part, value_part, item_line, values_shown, is_passed, item_text, is_asked, reached, reach_after, IsMessageText};
+ghost use Rattle.ttlv_run.specs.Texts.{names_of, column_part, tag_part, value_part, item_line, values_shown, is_passed, item_text, is_asked, reach_end, reach_after, IsMessageText};
 
 use crate::attributes::{Attribute, attribute_after, naming_tag};
 use crate::colors::{NONE, TAG, VALUE, push_color};
@@ -31,8 +31,8 @@ pub struct Reach {
 }
 
 // How far items reach, where one more was met.
-fn reached(is_one: bool, end: u128, item: &FoundItem) -> u128
-    ensures { result ≡ reached is_one end item.now }
+fn reach_end(is_one: bool, end: u128, item: &FoundItem) -> u128
+    ensures { result ≡ reach_end is_one end item.now }
 {
     let own = item.offset as u128 + 8 + item.length as u128;
     if is_one && end < own { own } else { end }
@@ -80,8 +80,8 @@ fn reach_after<A: Allocator>(
     requires { IsGood bytes.now item.now }
     ensures { result ≡ reach_after (names_of names.now) look.now bytes.now reach item.now }
 {
-    let secret = reached(is_secret(names, item.tag), reach.secret, item);
-    let asked = reached(is_asked(look.only, item.tag), reach.asked, item);
+    let secret = reach_end(is_secret(names, item.tag), reach.secret, item);
+    let asked = reach_end(is_asked(look.only, item.tag), reach.asked, item);
     let values = values_shown(look, secret, item);
     let attribute = attribute_after(names, values, bytes, reach.attribute, item);
     Reach {

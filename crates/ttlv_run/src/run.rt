@@ -1,28 +1,30 @@
 //! The whole run over one input, for any reader and any writers.
 
-ghost use Rattle.std.specs.Prelude.{◌≡◌, true, false, ◌<◌, ◌≤◌, ◌+◌, ◌^◌, ◌⊎◌, ◌++◌, ℕ, length, List, Option, Some, None, IfOk, IfErr, OnErr, string_bytes, codes};
+ghost use Rattle.std.specs.Prelude.{◌≡◌, true, false, ◌<◌, ◌≤◌, ◌+◌, ◌^◌, ◌++◌, ℕ, length, List, Option, Some, None, IfOk, IfErr, OnErr, codes};
 ghost use Rattle.std.specs.Io.KnownBytes.{Consumes, IsAtEnd};
-ghost use Rattle.kmip_ttlv_types.specs.Held.{Held, held, Gets, Rests, Says};
+ghost use Rattle.kmip_ttlv_types.specs.Held.{Held, held, Gets, Says};
 ghost use Rattle.kmip_ttlv_util.specs.Pieces.{SomeText};
 ghost use Rattle.ttlv_run.specs.Backs.{ReadsBack, ReadsFront, back_line};
-ghost use Rattle.ttlv_run.specs.Escapes.{escaped};
+ghost use Rattle.ttlv_run.specs.Ends.{Responds, IsEnded, IsDone};
+ghost use Rattle.ttlv_run.specs.Escapes.{escape};
 ghost use Rattle.ttlv_run.specs.Reasons.{IsOfPrinting, PrintsFront, IsOfError, Reports, place_report, error_line};
 ghost use Rattle.ttlv_run.specs.Fronts.{front_size, Begins, BeginFails};
 ghost use Rattle.ttlv_run.specs.Inputs.{IsUnread, form_of, encoding_of};
-ghost use Rattle.ttlv_run.specs.Streaming.{buffered, EndsAt, PrintsOn, ContinuesBehind};
-ghost use Rattle.ttlv_run.specs.Messages.{told};
-ghost use Rattle.ttlv_run.specs.Runs.{behind_all, Places, Responds, Printed, Malformed, Lacking, Aborted, RunEnds, RespondsBack, PrintedBack, MalformedBack, AbortedBack, BackEnds};
+ghost use Rattle.ttlv_run.specs.Streaming.{window_bytes, EndsAt, PrintsOn, ContinuesBehind};
+ghost use Rattle.ttlv_run.specs.Messages.{place_told};
+ghost use Rattle.ttlv_run.specs.Runs.{streams, behind_all, Places, RespondsBack};
 ghost use Rattle.ttlv_run.specs.Texts.{names_of};
 
 use crate::back::{BackFault, BackReached, print_back};
 use crate::coding::{encoding_of, form_of, front_size};
 use crate::digits::print_digits;
 use crate::escape::{NameSink, push_text};
-use crate::job::{BackJob, Encoding, Job, Names, Task};
+use crate::from_json::{read_json, report_line_fault};
+use crate::job::{Asked, Encoding, Job, Names, Task};
 use crate::memory::Memory;
 use crate::messages::{Place, Reached, fault_line, print_all, wants_message};
 use crate::misread::report_misread;
-use crate::run_error::RunError;
+use crate::run_error::{RunError, status_in};
 use crate::window::Window;
 use itoa::Buffer;
 use kmip_ttlv_types::stream::{Sink, Source};
@@ -88,18 +90,12 @@ fn print_raw<A: Allocator, B: Allocator + Copy, R: Source, W: Sink>(
     input: &mut R,
     output: &mut W,
 ) -> Result<Option<Place>, RunError>
-    requires raw { form_of (encoding_of job.now.encoding (buffered window)) ≡ None }
-    requires front { ended ≡ false → front_size job.now.encoding (buffered window) ≤ length (buffered window) }
+    requires raw { form_of (encoding_of job.now.encoding (window_bytes window)) ≡ None }
+    requires front { ended ≡ false → front_size job.now.encoding (window_bytes window) ≤ length (window_bytes window) }
     requires at_end { ended ≡ true → IsAtEnd (R.left input.old) }
-    ensures { (known : Option (List ℕ)) → Consumes known (R.left input.old) (buffered window)
+    ensures { (known : Option (List ℕ)) → Consumes known (R.left input.old) (window_bytes window)
         → Places (names_of names.now) job.now
-        (record {
-          can_fail = R.can_fail;
-          input = known;
-          input_left = R.left input.new;
-          output = held W.emitted W.room output.old;
-          output_now = held W.emitted W.room output.new;
-        }) result }
+        (streams R.can_fail known (R.left input.new) (held W.emitted W.room output.old) (held W.emitted W.room output.new)) result }
 {
     let mut base = 0;
     'pieces: loop {
@@ -127,9 +123,9 @@ fn read_front<A: Allocator, R: Source>(
     window: &mut Window<A>,
     input: &mut R,
 ) -> Result<bool, RunError>
-    ensures ok { IfOk result (Begins encoding (R.left input.old) (R.left input.new) (buffered window.old) (buffered window.new)) }
+    ensures ok { IfOk result (Begins encoding (R.left input.old) (R.left input.new) (window_bytes window.old) (window_bytes window.new)) }
     ensures why { IfErr result (IsUnread R.can_fail) }
-    ensures err { OnErr result (BeginFails encoding (R.left input.old) (R.left input.new) (buffered window.old) (buffered window.new)) }
+    ensures err { OnErr result (BeginFails encoding (R.left input.old) (R.left input.new) (window_bytes window.old) (window_bytes window.new)) }
 {
     'pieces: while window.buffered().len() < front_size(encoding, window.buffered()) {
         if window.read_more(input)? == 0 {
@@ -148,13 +144,7 @@ fn print_input<A: Allocator + Copy, B: Allocator + Copy, R: Source, W: Sink>(
     output: &mut W,
 ) -> Result<Option<Place>, RunError>
     ensures { Places (names_of names.now) job.now
-        (record {
-          can_fail = R.can_fail;
-          input = R.left input.old;
-          input_left = R.left input.new;
-          output = held W.emitted W.room output.old;
-          output_now = held W.emitted W.room output.new;
-        }) result }
+        (streams R.can_fail (R.left input.old) (R.left input.new) (held W.emitted W.room output.old) (held W.emitted W.room output.new)) result }
 {
     let mut window = Window::new(memory.input);
     let ended = read_front(job.encoding, &mut window, input)?;
@@ -165,38 +155,12 @@ fn print_input<A: Allocator + Copy, B: Allocator + Copy, R: Source, W: Sink>(
 }
 
 // What is told of a fault: of a task that prints whole messages alone no tag.
-fn told(task: Task<'_>, place: Place) -> Place
-    ensures { result ≡ told task.entry place }
+fn place_told(task: Task<'_>, place: Place) -> Place
+    ensures { result ≡ place_told task.entry place }
 {
     match task {
         Task::Whole { .. } => Place { tag: None, ..place },
         _ => place,
-    }
-}
-
-// Prints what a job asks for, and gives the line that says what is malformed, if anything is.
-fn respond<A: Allocator + Copy, B: Allocator + Copy, R: Source, W: Sink>(
-    memory: Memory<A, B>,
-    job: &Job<'_>,
-    names: &Names<'_, B>,
-    input: &mut R,
-    output: &mut W,
-) -> Result<Option<String<B>>, RunError>
-    ensures { Responds string_bytes (names_of names.now) job.now
-        (record {
-          can_fail = R.can_fail;
-          input = R.left input.old;
-          input_left = R.left input.new;
-          output = held W.emitted W.room output.old;
-          output_now = held W.emitted W.room output.new;
-        }) result }
-{
-    match print_input(memory, job, names, input, output)? {
-        None => Ok(None),
-        Some(place) => {
-            let told = told(job.task, place);
-            Ok(Some(fault_line(memory.rest, names, job.name, told)?))
-        }
     }
 }
 
@@ -228,21 +192,15 @@ fn print_lines<A: Allocator + Copy, W: Sink>(
 
 // Prints what diagnostics are read back as, each line when it is there as a whole, and gives where the first line that
 // is not whole stops being one, if there is such a line.
-fn respond_back<A: Allocator + Copy, B: Allocator + Copy, R: Source, W: Sink>(
+fn read_back<A: Allocator + Copy, B: Allocator + Copy, R: Source, W: Sink>(
     memory: Memory<A, B>,
-    job: &BackJob<'_>,
+    prefix: &str,
     names: &Names<'_, B>,
     input: &mut R,
     output: &mut W,
 ) -> Result<Option<BackFault>, RunError>
-    ensures { RespondsBack (names_of names.now) job.now
-        (record {
-          can_fail = R.can_fail;
-          input = R.left input.old;
-          input_left = R.left input.new;
-          output = held W.emitted W.room output.old;
-          output_now = held W.emitted W.room output.new;
-        }) result }
+    ensures { RespondsBack (names_of names.now) prefix.now
+        (streams R.can_fail (R.left input.old) (R.left input.new) (held W.emitted W.room output.old) (held W.emitted W.room output.new)) result }
 {
     let mut window = Window::new(memory.input);
     let mut base = 0;
@@ -253,15 +211,7 @@ fn respond_back<A: Allocator + Copy, B: Allocator + Copy, R: Source, W: Sink>(
         if usize::MAX - base < buffered.len() {
             return Err(RunError::NoMemory);
         }
-        let reached = print_lines(
-            memory.rest,
-            names,
-            job.prefix,
-            base,
-            buffered,
-            ended,
-            output,
-        )?;
+        let reached = print_lines(memory.rest, names, prefix, base, buffered, ended, output)?;
         match reached {
             BackReached::Behind { count, found } => {
                 base += count;
@@ -287,7 +237,7 @@ pub(crate) fn report<E: Sink>(errors: &mut E, writable: bool, text: &str) -> boo
 
 // Writes what the input is called, escaped; returns whether it was written to its end.
 fn report_name<E: Sink>(errors: &mut E, name: &str) -> bool
-    ensures { Reports result (held E.emitted E.room errors.old) (held E.emitted E.room errors.new) (escaped name.now) }
+    ensures { Reports result (held E.emitted E.room errors.old) (held E.emitted E.room errors.new) (escape name.now) }
 {
     let mut sink = NameSink(Pieces::new(errors));
     if push_text(&mut sink, name).is_err() {
@@ -312,7 +262,7 @@ pub(crate) fn report_place<E: Sink>(errors: &mut E, name: &str, offset: Option<u
 /// no memory.
 pub fn report_words<E: Sink>(errors: &mut E, name: &str, words: &str)
     ensures { Says (held E.emitted E.room errors.old) (held E.emitted E.room errors.new)
-        (escaped name.now ++ codes ": " ++ words.now ++ codes "\n") }
+        (escape name.now ++ codes ": " ++ words.now ++ codes "\n") }
 {
     let writable = report_place(errors, name, None);
     let writable = report(errors, writable, ": ");
@@ -346,198 +296,103 @@ fn report_back_fault<E: Sink>(errors: &mut E, name: &str, fault: BackFault)
     report(errors, writable, "\n");
 }
 
-// Does what [`run`] does, and returns whether all messages are whole, or why not all were printed.
-pub(crate) fn run_to_end<A: Allocator + Copy, B: Allocator + Copy, R: Source, W: Sink, E: Sink>(
+// Does with an input what is asked, and returns whether all of it is whole. What is malformed is reported.
+fn respond<A: Allocator + Copy, B: Allocator + Copy, R: Source, W: Sink, E: Sink>(
     memory: Memory<A, B>,
-    job: &Job<'_>,
+    asked: Asked<'_>,
+    name: &str,
     names: &Names<'_, B>,
     input: &mut R,
     output: &mut W,
     errors: &mut E,
 ) -> Result<bool, RunError>
-    ensures { RunEnds (names_of names.now) job.now
-        (record {
-          can_fail = R.can_fail;
-          input = R.left input.old;
-          input_left = R.left input.new;
-          output = held W.emitted W.room output.old;
-          output_now = held W.emitted W.room output.new;
-        })
+    ensures { Responds (names_of names.now) asked.entry name.entry
+        (streams R.can_fail (R.left input.old) (R.left input.new) (held W.emitted W.room output.old) (held W.emitted W.room output.new))
         (held E.emitted E.room errors.old) (held E.emitted E.room errors.new) result }
 {
-    match respond(memory, job, names, input, output) {
-        Ok(None) => Ok(true),
-        Ok(Some(line)) => {
+    match asked {
+        Asked::Print { task, encoding } => {
+            let job = Job {
+                name,
+                task,
+                encoding,
+            };
+            let Some(place) = print_input(memory, &job, names, input, output)? else {
+                return Ok(true);
+            };
+            let line = fault_line(memory.rest, names, name, place_told(task, place))?;
             let _ = errors.send(line.as_bytes());
             Ok(false)
         }
-        Err(run_error) => {
-            report_error(errors, job.name, run_error);
-            Err(run_error)
+        Asked::ReadBack { prefix } => {
+            let Some(fault) = read_back(memory, prefix, names, input, output)? else {
+                return Ok(true);
+            };
+            report_back_fault(errors, name, fault);
+            Ok(false)
+        }
+        Asked::FromJson { raw } => {
+            let Some(fault) = read_json(memory.input, raw, input, output)? else {
+                return Ok(true);
+            };
+            report_line_fault(errors, name, fault);
+            Ok(false)
         }
     }
 }
 
-/// Reads `input`, prints what the job asks for to `output`, and returns the exit status: 0 if all messages are
-/// whole, 1 if one is malformed, or none is there and the task wants one, 2 if the input can't be read or decoded, 3 when out of memory or if the output
-/// can't be written.
-///
-/// Messages are printed as they come, each before the next read if all of it is there, of a text with one character more.
-/// Where no encoding was named, that is from when the input's first bytes decide it: four that it is raw, 64 that it is
-/// hexadecimal or a dump, 1,024 anything else. Output is sent in pieces of 8,192 bytes, and never in memory as a whole. With
-/// status 1 the output has what is printed up to the fault, and nothing more is read. If reading fails or the digits of a
-/// text are those of no bytes, it has what is printed of the messages that were whole. With status 3 it has a beginning
-/// of what is printed, or nothing. With statuses 1 to 3 one line on `errors` says why, except for a closed pipe.
-/// Interrupted reads and writes are tried again, as often as a 64-bit count allows. If `errors` can't be written, the
-/// status is the same.
-pub fn run<A: Allocator + Copy, B: Allocator + Copy, R: Source, W: Sink, E: Sink>(
+// Does what [`run`] does, and returns whether all of the input is whole, or why not all of it was printed.
+pub(crate) fn run_to_end<A: Allocator + Copy, B: Allocator + Copy, R: Source, W: Sink, E: Sink>(
     memory: Memory<A, B>,
-    job: &Job<'_>,
-    names: &Names<'_, B>,
-    input: &mut R,
-    output: &mut W,
-    errors: &mut E,
-) -> u8
-    ensures status { result ≤ 3 }
-    // With status 0 each message of the input is whole, and exactly what is printed of them was appended.
-    ensures printed { result ≡ 0 → Printed (names_of names.now) job.now
-        (record {
-          can_fail = R.can_fail;
-          input = R.left input.old;
-          input_left = R.left input.new;
-          output = held W.emitted W.room output.old;
-          output_now = held W.emitted W.room output.new;
-        })
-        × Rests (held E.emitted E.room errors.old) (held E.emitted E.room errors.new) }
-    // With status 1 a message of the input is malformed: what is printed up to its fault was appended, and the errors
-    // have its line. A front of the input was read. Or there is no message, and the task wants one.
-    ensures malformed { result ≡ 1 → Malformed (names_of names.now) job.now
-        (record {
-          can_fail = R.can_fail;
-          input = R.left input.old;
-          input_left = R.left input.new;
-          output = held W.emitted W.room output.old;
-          output_now = held W.emitted W.room output.new;
-        })
-        (held E.emitted E.room errors.old) (held E.emitted E.room errors.new)
-        ⊎ Lacking job.now
-        (record {
-          can_fail = R.can_fail;
-          input = R.left input.old;
-          input_left = R.left input.new;
-          output = held W.emitted W.room output.old;
-          output_now = held W.emitted W.room output.new;
-        })
-        (held E.emitted E.room errors.old) (held E.emitted E.room errors.new) }
-    // With statuses 2 and 3 there is a reason that is true of the input or of the output, and it is reported.
-    ensures refused { (result ≡ 2) ⊎ (result ≡ 3) → Aborted (names_of names.now) job.now
-        (record {
-          can_fail = R.can_fail;
-          input = R.left input.old;
-          input_left = R.left input.new;
-          output = held W.emitted W.room output.old;
-          output_now = held W.emitted W.room output.new;
-        })
-        result (held E.emitted E.room errors.old) (held E.emitted E.room errors.new) }
-{
-    match run_to_end(memory, job, names, input, output, errors) {
-        Ok(true) => 0,
-        Ok(false) => 1,
-        Err(why) => why.status(),
-    }
-}
-
-// Does what [`read_back`] does, and returns whether all lines are whole, or why not all were read back.
-pub(crate) fn read_back_to_end<
-    A: Allocator + Copy,
-    B: Allocator + Copy,
-    R: Source,
-    W: Sink,
-    E: Sink,
->(
-    memory: Memory<A, B>,
-    job: &BackJob<'_>,
+    asked: Asked<'_>,
+    name: &str,
     names: &Names<'_, B>,
     input: &mut R,
     output: &mut W,
     errors: &mut E,
 ) -> Result<bool, RunError>
-    ensures { BackEnds (names_of names.now) job.now
-        (record {
-          can_fail = R.can_fail;
-          input = R.left input.old;
-          input_left = R.left input.new;
-          output = held W.emitted W.room output.old;
-          output_now = held W.emitted W.room output.new;
-        })
+    ensures { IsEnded (names_of names.now) asked.entry name.entry
+        (streams R.can_fail (R.left input.old) (R.left input.new) (held W.emitted W.room output.old) (held W.emitted W.room output.new))
         (held E.emitted E.room errors.old) (held E.emitted E.room errors.new) result }
 {
-    match respond_back(memory, job, names, input, output) {
-        Ok(None) => Ok(true),
-        Ok(Some(fault)) => {
-            report_back_fault(errors, job.name, fault);
-            Ok(false)
-        }
-        Err(run_error) => {
-            report_error(errors, job.name, run_error);
-            Err(run_error)
+    match respond(memory, asked, name, names, input, output, errors) {
+        Ok(whole) => Ok(whole),
+        Err(why) => {
+            report_error(errors, name, why);
+            Err(why)
         }
     }
 }
 
-/// Reads `input` and prints to `output` what its diagnostics, each in a line of its own, are read back as, and returns
-/// the exit status: 0 if each of them is whole, 1 if a line stops being a diagnostic or leaves a structure open, 2 if
-/// the input can't be read or is not UTF-8, or 3 when out of memory or if the output can't be written.
+/// Reads `input`, does with it what is asked, and returns the exit status: 0 if all of it is whole; 1 if something is malformed, or no
+/// message is there and the task wants one; 2 if it can't be read or decoded, or is not UTF-8 where lines are read; 3 when out of memory
+/// or if the output can't be written. With statuses 1 to 3 one line on `errors` says why, except for a closed pipe; if `errors` can't be
+/// written, the status is the same. Output is sent in pieces of 8,192 bytes, and never in memory as a whole. With status 3 it has a
+/// beginning of what is printed, or nothing. Interrupted reads and writes are tried again, as often as a 64-bit count allows.
 ///
-/// A line is printed before the next read if all of it is there; what it is read back as is never in memory as a whole. With
-/// status 1 too all lines are read back, each as far as it goes, and the first that is not whole is reported on `errors`.
-/// With status 2 the output has what the lines before are read back as: those that came before reading failed, or that
-/// are in front of the one that is not UTF-8. Statuses 2 and 3 are reported as [`run`] reports them, and with status 3 the
-/// output is as there.
-pub fn read_back<A: Allocator + Copy, B: Allocator + Copy, R: Source, W: Sink, E: Sink>(
+/// *Messages* are printed as they come, each before the next read if all of it is there, of a text with one character more.
+/// Where no encoding was named, that is from when the input's first bytes decide it: four that it is raw, 64 that it is
+/// hexadecimal or a dump, 1,024 anything else. With status 1 the output has what is printed up to the fault, and nothing more is
+/// read. If reading fails or the digits of a text are those of no bytes, it has what is printed of the messages that were whole.
+///
+/// *Diagnostics* are read back, each in a line of its own, which is printed before the next read if all of it is there. With status 1 all
+/// lines are read back, each as far as it goes, and the first that is not whole is reported. With status 2 the output has what the lines
+/// before are read back as: those that came before reading failed, or that are in front of the one that is not UTF-8.
+///
+/// *JSON*: each line is a message or empty, and a message is printed before the next read if all of its line is there. With status 1 the
+/// messages before the first line that is none are printed, and nothing more is read. With status 2 those of the lines before are.
+pub fn run<A: Allocator + Copy, B: Allocator + Copy, R: Source, W: Sink, E: Sink>(
     memory: Memory<A, B>,
-    job: &BackJob<'_>,
+    asked: Asked<'_>,
+    name: &str,
     names: &Names<'_, B>,
     input: &mut R,
     output: &mut W,
     errors: &mut E,
 ) -> u8
-    ensures status { result ≤ 3 }
-    // With status 0 each line is whole, and exactly what the whole input is read back as was appended.
-    ensures printed { result ≡ 0 → PrintedBack (names_of names.now) job.now
-        (record {
-          can_fail = R.can_fail;
-          input = R.left input.old;
-          input_left = R.left input.new;
-          output = held W.emitted W.room output.old;
-          output_now = held W.emitted W.room output.new;
-        }) None
-        × Rests (held E.emitted E.room errors.old) (held E.emitted E.room errors.new) }
-    // With status 1 a line is not whole: what the whole input is read back as was appended, and the first such line
-    // is reported.
-    ensures malformed { result ≡ 1 → MalformedBack (names_of names.now) job.now
-        (record {
-          can_fail = R.can_fail;
-          input = R.left input.old;
-          input_left = R.left input.new;
-          output = held W.emitted W.room output.old;
-          output_now = held W.emitted W.room output.new;
-        })
-        (held E.emitted E.room errors.old) (held E.emitted E.room errors.new) }
-    // With statuses 2 and 3 there is a reason that is true of the input or of the output, and it is reported.
-    ensures refused { (result ≡ 2) ⊎ (result ≡ 3) → AbortedBack (names_of names.now) job.now
-        (record {
-          can_fail = R.can_fail;
-          input = R.left input.old;
-          input_left = R.left input.new;
-          output = held W.emitted W.room output.old;
-          output_now = held W.emitted W.room output.new;
-        })
-        result (held E.emitted E.room errors.old) (held E.emitted E.room errors.new) }
+    ensures { IsDone (names_of names.now) asked.entry name.entry
+        (streams R.can_fail (R.left input.old) (R.left input.new) (held W.emitted W.room output.old) (held W.emitted W.room output.new))
+        (held E.emitted E.room errors.old) (held E.emitted E.room errors.new) result }
 {
-    match read_back_to_end(memory, job, names, input, output, errors) {
-        Ok(true) => 0,
-        Ok(false) => 1,
-        Err(why) => why.status(),
-    }
+    status_in(run_to_end(memory, asked, name, names, input, output, errors))
 }

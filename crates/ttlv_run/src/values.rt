@@ -11,7 +11,7 @@ ghost use Rattle.kmip_ttlv_types.specs.Leaves.{is_valid};
 ghost use Rattle.kmip_ttlv_util.specs.Pretty.{value_shown};
 ghost use Rattle.ttlv_run.specs.Attributes.{enumeration_name};
 ghost use Rattle.ttlv_run.specs.Dates.{date_shown};
-ghost use Rattle.ttlv_run.specs.Texts.{names_of, behind_space, count_shown, bytes_shown, shown};
+ghost use Rattle.ttlv_run.specs.Texts.{names_of, behind_space, count_shown, bytes_shown, value_text};
 
 use crate::attributes::enumeration_name;
 use crate::dates::push_date;
@@ -152,7 +152,7 @@ fn push_bytes<S: TextSink>(
 /// string of bytes as far as `width` allows.
 ///
 /// It fails where the sink fails.
-#[tactic(auto, unfolding(crate::specs::Texts::shown))]
+#[tactic(auto, unfolding(crate::specs::Texts::value_text))]
 pub fn push_shown<S: TextSink, A: Allocator>(
     out: &mut S,
     names: &Names<'_, A>,
@@ -163,8 +163,8 @@ pub fn push_shown<S: TextSink, A: Allocator>(
     content: &[u8],
 ) -> Result<(), S::Error>
     requires { typ ≢ TheStructure → is_valid typ content.now ≡ true }
-    ensures ok { OnOk result (S.adds out.old (shown (names_of names.now) values width tag typ content.now) out.new) }
-    ensures err { OnErr result (S.breaks out.old (shown (names_of names.now) values width tag typ content.now) out.new) }
+    ensures ok { OnOk result (S.adds out.old (value_text (names_of names.now) values width tag typ content.now) out.new) }
+    ensures err { OnErr result (S.breaks out.old (value_text (names_of names.now) values width tag typ content.now) out.new) }
 {
     match typ {
         TtlvType::Structure => Ok(()),

@@ -70,11 +70,11 @@ pub struct Window<A: Allocator> {
 }
 
 impl<A: Allocator> Window<A> {
-    ghost use Rattle.ttlv_run.specs.Streaming.{buffered, YieldsBy, YieldsLines, LinesFail};
+    ghost use Rattle.ttlv_run.specs.Streaming.{window_bytes, YieldsBy, YieldsLines, LinesFail};
 
     /// No bytes. Takes no memory.
     pub fn new(alloc: A) -> Window<A>
-        ensures { buffered result ≡ [] }
+        ensures { window_bytes result ≡ [] }
     {
         Window {
             bytes: Vec::new(alloc),
@@ -84,7 +84,7 @@ impl<A: Allocator> Window<A> {
 
     /// The bytes that were read and are still needed.
     pub fn buffered(&self) -> &[u8]
-        ensures are { result.now ≡ buffered self.now }
+        ensures are { result.now ≡ window_bytes self.now }
         ensures bytes { AreBytes result.now }
     {
         front(self.bytes.as_slice(), self.count)
@@ -104,7 +104,7 @@ impl<A: Allocator> Window<A> {
     // Makes room for so many bytes where there is none for a few.
     fn make_room(&mut self, few: usize, more: usize) -> Result<(), AllocError>
         requires { few ≤ more }
-        ensures buffered { buffered self.new ≡ buffered self.old }
+        ensures buffered { window_bytes self.new ≡ window_bytes self.old }
         ensures count { self.new.count ≡ self.old.count }
         ensures room { OnOk result (self.new.count + few ≤ vec_len self.new.bytes) }
     {
@@ -117,10 +117,10 @@ impl<A: Allocator> Window<A> {
     // Reads once, behind the bytes that are there, into room for so many if there is none.
     fn read_behind<R: Source>(&mut self, input: &mut R, room: usize) -> Result<usize, RunError>
         requires { 0 < room }
-        ensures ok { IfOk result (YieldsBy (R.left input.old) (R.left input.new) (buffered self.old) (buffered self.new)) }
+        ensures ok { IfOk result (YieldsBy (R.left input.old) (R.left input.new) (window_bytes self.old) (window_bytes self.new)) }
         ensures why { IfErr result (IsUnread R.can_fail) }
         ensures err { OnErr result (Keeps (R.left input.old) (R.left input.new)) }
-        ensures same { OnErr result (buffered self.new ≡ buffered self.old) }
+        ensures same { OnErr result (window_bytes self.new ≡ window_bytes self.old) }
     {
         self.make_room(1, room)?;
         match read_at(input, self.bytes.as_mut_slice(), self.count) {
@@ -134,10 +134,10 @@ impl<A: Allocator> Window<A> {
 
     /// Reads once, behind the bytes that are there; gives how many came: none at the input's end.
     pub fn read_more<R: Source>(&mut self, input: &mut R) -> Result<usize, RunError>
-        ensures ok { IfOk result (YieldsBy (R.left input.old) (R.left input.new) (buffered self.old) (buffered self.new)) }
+        ensures ok { IfOk result (YieldsBy (R.left input.old) (R.left input.new) (window_bytes self.old) (window_bytes self.new)) }
         ensures why { IfErr result (IsUnread R.can_fail) }
         ensures err { OnErr result (Keeps (R.left input.old) (R.left input.new)) }
-        ensures same { OnErr result (buffered self.new ≡ buffered self.old) }
+        ensures same { OnErr result (window_bytes self.new ≡ window_bytes self.old) }
     {
         let room = self.room_to_ask();
         self.read_behind(input, room)
@@ -153,9 +153,9 @@ impl<A: Allocator> Window<A> {
 
     /// Reads until a line feed came or the input ended; returns whether it did.
     pub fn read_lines<R: Source>(&mut self, input: &mut R) -> Result<bool, RunError>
-        ensures ok { IfOk result (YieldsLines (R.left input.old) (R.left input.new) (buffered self.old) (buffered self.new)) }
+        ensures ok { IfOk result (YieldsLines (R.left input.old) (R.left input.new) (window_bytes self.old) (window_bytes self.new)) }
         ensures why { IfErr result (IsUnread R.can_fail) }
-        ensures err { OnErr result (LinesFail (R.left input.old) (R.left input.new) (buffered self.old) (buffered self.new)) }
+        ensures err { OnErr result (LinesFail (R.left input.old) (R.left input.new) (window_bytes self.old) (window_bytes self.new)) }
     {
         'pieces: loop {
             let before = self.buffered().len();
@@ -171,8 +171,8 @@ impl<A: Allocator> Window<A> {
 
     /// Adds bytes behind those that are there.
     pub fn add(&mut self, bytes: &[u8]) -> Result<(), AllocError>
-        ensures ok { OnOk result (buffered self.new ≡ buffered self.old ++ bytes.now) }
-        ensures err { OnErr result (buffered self.new ≡ buffered self.old) }
+        ensures ok { OnOk result (window_bytes self.new ≡ window_bytes self.old ++ bytes.now) }
+        ensures err { OnErr result (window_bytes self.new ≡ window_bytes self.old) }
     {
         let room = self.room_to_ask().max(bytes.len());
         self.make_room(bytes.len(), room)?;
@@ -183,8 +183,8 @@ impl<A: Allocator> Window<A> {
 
     /// Lets go of so many bytes in front.
     pub fn discard(&mut self, count: usize)
-        requires { count ≤ length (buffered self.old) }
-        ensures { buffered self.new ≡ drop count (buffered self.old) }
+        requires { count ≤ length (window_bytes self.old) }
+        ensures { window_bytes self.new ≡ drop count (window_bytes self.old) }
     {
         if count == 0 {
             return;

@@ -1,5 +1,5 @@
 use Rattle.std.proofs.{Common.◌∙◌, lemmas.Result.err_from_is_err_and}
-use Rattle.ttlv_run.specs.Streaming.{buffered}
+use Rattle.ttlv_run.specs.Streaming.{window_bytes}
 use Rattle.ttlv_run.proofs.Decoders.{more_ended}
 use Rattle.ttlv_run.proofs.digits.decode_more.Goals as goal
 
@@ -17,7 +17,7 @@ returns-in-Some-clause-made g c =
 pub returns-then-ended-clause-made : goal.returns-then-ended-clause-made
 returns-then-ended-clause-made g c =
     let read = rw (c.in_default.is, c.buffered-piece.ensures.are) at c.in_ok-why.ensures.made in
-    rw c.if-ended.true (more_ended c.finish.new.self (buffered c.args.text.now) read c.finish.ensures.form c.finish.result c.put.result
+    rw c.if-ended.true (more_ended c.finish.new.self (window_bytes c.args.text.now) read c.finish.ensures.form c.finish.result c.put.result
     c.finish.ensures.made c.put.ensures)
 
 pub returns-clause-made : goal.returns-clause-made

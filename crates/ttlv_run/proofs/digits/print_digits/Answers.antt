@@ -1,6 +1,6 @@
 use Rattle.std.proofs.Common.{◌≡◌, ◌∙◌, ◌≤◌, inr, ℕ, List, [], length, take, drop, ap, refl, sym, arith}
 use Rattle.std.proofs.lemmas.{Result.err_from_is_err_and, List.length-take-le}
-use Rattle.ttlv_run.specs.{Columns.mark_length, Decoding.is_last, Streaming.buffered}
+use Rattle.ttlv_run.specs.{Columns.mark_length, Decoding.is_last, Streaming.window_bytes}
 use Rattle.ttlv_run.proofs.TextStreams.{text_starts, memory_before, ready, ready_standing, wrong_there, text_read_fails, more_characters, text_printed}
 use Rattle.ttlv_run.proofs.Decided.{unwritten}
 use Rattle.ttlv_run.proofs.Windows.{shown_none, no_bytes, faults, fails_in, behind_places, goes_further, no_memory}
@@ -8,7 +8,7 @@ use Rattle.ttlv_run.proofs.digits.print_digits.Goals as goal
 
 pub pieces-init : goal.pieces-init
 pieces-init g c = λ known h.
-    let t = buffered c.args.text in
+    let t = window_bytes c.args.text in
     let mark = c.mark_length-mark.result in
     let mark_is : mark ≡ mark_length t = c.mark_length-mark.ensures.is ∙ ap mark_length c.buffered.ensures.are in
     let within : mark ≤ length t = omega (arith, c.mark_length-mark.ensures.within, ap (λ (s : List ℕ). length s) c.buffered.ensures.are) in

@@ -3,7 +3,7 @@ use Rattle.std.specs.Str.{chars}
 use Rattle.std.proofs.lemmas.{Grind.take_at_read, Grind.flat_map-append, List.take-append-drop, Iterator.YieldsList-from_chars}
 use Rattle.std.proofs.lemmas.Iterator.Consumers.{YieldsList-so_far, YieldsList-turn, YieldsList-end}
 use Rattle.kmip_ttlv_util.proofs.Saying.{adds_same, breaks_rest, err_now}
-use Rattle.ttlv_run.specs.Escapes.{escaped_char, escaped}
+use Rattle.ttlv_run.specs.Escapes.{escaped_char, escape}
 use Rattle.ttlv_run.proofs.Completion.{flat_map-more}
 use Rattle.ttlv_run.proofs.escape.push_chars.Goals as goal
 
@@ -26,7 +26,7 @@ loop-c-preserved g c =
     (escaped_char c.in-Some.c) c.loop-c.invariant c.in_ok-push_char.ensures.ok) (sym (flat_map-more escaped_char c.in-Some.c c.loop-c.yielded))
 
 pub returns-in_err-push_char-clause-err : goal.returns-in_err-push_char-clause-err
-unfolding escaped
+unfolding escape
 returns-in_err-push_char-clause-err g c =
     let text = c.args.text.now in
     let seen = c.loop-c.yielded in
@@ -39,7 +39,7 @@ returns-in_err-push_char-clause-err g c =
     (flat_map escaped_char seen ++ escaped_char x) (flat_map escaped_char (drop (length seen + 1) (chars text))) _ here whole)
 
 pub returns-clause-ok : goal.returns-clause-ok
-unfolding escaped
+unfolding escape
 returns-clause-ok g c =
     let end = YieldsList-end (YieldsList-from_chars c.args.text.now c.utf8.text cc)
     c.loop-c.yielded _ c.loop-c.yielded_by _ _ c.in-None.is c.next.ensures.steps in

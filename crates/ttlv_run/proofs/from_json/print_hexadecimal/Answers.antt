@@ -2,7 +2,7 @@ use Rattle.std.proofs.Common.{rules, ◌≡◌, List, ℕ, refl, subst}
 use Rattle.kmip_ttlv_types.specs.Held.{held, Gets}
 use Rattle.kmip_ttlv_util.specs.Pieces.{SomeText, WritesFront, Moves, MovesFront, buffered}
 use Rattle.kmip_ttlv_util.proofs.Saying.{closed_lent, lent_buffer, ok_text, err_text}
-use Rattle.ttlv_run.specs.{JsonLines.shown, Reasons.PrintsFront}
+use Rattle.ttlv_run.specs.{JsonLines.message_output, Reasons.PrintsFront}
 use Rattle.ttlv_run.proofs.{Printing.printed_text}
 use Rattle.std.specs.Prelude.{false}
 use Rattle.ttlv_run.proofs.from_json.print_hexadecimal.Goals as goal
@@ -11,7 +11,7 @@ pub returns-in-Ok-clause-ok : goal.returns-in-Ok-clause-ok
 returns-in-Ok-clause-ok g c =
     let of = buffered g.W.Sink.emitted g.W.Sink.room in
     let has = held g.W.Sink.emitted g.W.Sink.room in
-    let text = shown false c.args.message.now in
+    let text = message_output false c.args.message.now in
     let kind = λ (t : List ℕ). t ≡ text in
     let new = c.new-pieces.ensures in
     let printed = c.push_hexadecimal-printed in
@@ -28,7 +28,7 @@ pub returns-in-Err-clause-err : goal.returns-in-Err-clause-err
 returns-in-Err-clause-err g c =
     let of = buffered g.W.Sink.emitted g.W.Sink.room in
     let has = held g.W.Sink.emitted g.W.Sink.room in
-    let text = shown false c.args.message.now in
+    let text = message_output false c.args.message.now in
     let kind = λ (t : List ℕ). t ≡ text in
     let new = c.new-pieces.ensures in
     let printed = c.push_hexadecimal-printed in

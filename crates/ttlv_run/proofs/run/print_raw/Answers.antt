@@ -1,6 +1,6 @@
 use Rattle.std.proofs.Common.{◌∙◌, inr, drop, ap, sym, refl}
 use Rattle.std.proofs.lemmas.Result.{err_from_is_err_and}
-use Rattle.ttlv_run.specs.Streaming.{buffered}
+use Rattle.ttlv_run.specs.Streaming.{window_bytes}
 use Rattle.ttlv_run.proofs.Decided.{unwritten}
 use Rattle.ttlv_run.proofs.Windows.{shown_none, raw_standing, of_bytes, faults, fails_in, printed, behind_places, goes_further, more_came, no_memory}
 use Rattle.ttlv_run.proofs.Windows.{read_fails}
@@ -8,7 +8,7 @@ use Rattle.ttlv_run.proofs.run.print_raw.Goals as goal
 
 pub pieces-init : goal.pieces-init
 pieces-init g c = λ known h. record {
-  came = buffered c.args.window;
+  came = window_bytes c.args.window;
   shown = shown_none;
   input = record { consumed = h; raw = c.requires.raw; enough = c.requires.front; at_end = c.requires.at_end };
 }

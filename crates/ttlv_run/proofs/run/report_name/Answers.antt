@@ -2,14 +2,14 @@ use Rattle.std.proofs.Common.{rules, ◌∙◌, sym}
 use Rattle.kmip_ttlv_types.specs.Held.{held}
 use Rattle.kmip_ttlv_util.specs.Pieces.{buffered}
 use Rattle.kmip_ttlv_util.proofs.Saying.{lent_buffer, sink_of}
-use Rattle.ttlv_run.specs.{Escapes.escaped, Reasons.Reports}
+use Rattle.ttlv_run.specs.{Escapes.escape, Reasons.Reports}
 use Rattle.ttlv_run.proofs.Appending.{name_ended, ok_here}
 use Rattle.ttlv_run.proofs.run.report_name.Goals as goal
 
 pub returns : goal.returns
 returns g c =
     let of = buffered g.E.Sink.emitted g.E.Sink.room in
-    let text = escaped c.args.name.now in
+    let text = escape c.args.name.now in
     let new = c.new.ensures in
     let is = lent_buffer g.E.Sink.emitted g.E.Sink.room c.new.result new.same_reference new.sink new.empty new.going in
     let moves = ok_here c.push_text.result (sym c.is_err.ensures.value ∙ c.if-is_err.false) c.push_text.ensures.ok in

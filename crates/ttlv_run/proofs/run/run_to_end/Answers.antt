@@ -1,12 +1,14 @@
-use Rattle.std.proofs.Common.{subst, string_bytes}
-use Rattle.kmip_ttlv_types.specs.Held.{Says}
-use Rattle.kmip_ttlv_types.proofs.Held.{sent_says}
+use Rattle.std.proofs.Common.{subst}
+use Rattle.kmip_ttlv_types.specs.Held.{Held, held, Says}
+use Rattle.ttlv_run.specs.Reasons.{error_line}
 use Rattle.ttlv_run.proofs.run.run_to_end.Goals as goal
 
-pub returns-in-Ok-Some : goal.returns-in-Ok-Some
-returns-in-Ok-Some g c = record {
-  line = string_bytes c.in-Ok-Some.line;
-  breaks = rw c.in-Ok-Some.field-0-is at c.in-Ok-Some.ensures;
-  reported = subst (Says _ _) c.as_bytes.ensures.value (sent_says c.send.result _ _ c.as_bytes.result.now c.send.ensures.ok c.send.ensures.err
-      c.send.ensures.room c.send.ensures.tight);
-}
+pub returns-in-Ok : goal.returns-in-Ok
+returns-in-Ok g c = rw c.in-Ok.is at c.respond.ensures
+
+pub returns-in-Err : goal.returns-in-Err
+returns-in-Err g c =
+    let has = held g.E.Sink.emitted g.E.Sink.room in
+    let ended = rw c.in-Err.is at c.respond.ensures in
+    let reported : Says (has c.respond.new.errors) (has c.report_error.new.errors) (error_line c.args.name.now c.in-Err.why) = c.report_error.ensures in
+    (ended.0, subst (λ (e : Held). Says e (has c.report_error.new.errors) (error_line c.args.name.now c.in-Err.why)) ended.1 reported)

@@ -1,0 +1,150 @@
+-- What the options of a command ask for, by the word that the command line has for each.
+use Rattle.std.specs.Prelude.{◌≡◌, ℕ, ◌<◌, ◌^◌, Bool, true, false, not, ◌||◌, ◌&&◌, List, [], map, bytes_eq, codes, is_some, Option, Some, None, unwrap_or, option_map, if◌then◌else◌}
+use Rattle.std.specs.Str.Parse.{IsNumeral, digits_value, without_leading_plus}
+use Rattle.clap.specs.Matches.{matched_of, raw_values, first_value, one_text}
+use Rattle.clap.specs.declared.parser.matches.Found.{Found}
+use Rattle.kmip_ttlv_json.specs.declared.print.Hiding.{Hiding}
+use Rattle.kmip_ttlv_json.specs.declared.print.Hiding.TheVariants as hiding
+use Rattle.ttlv_run.specs.declared.job.Asked.{Asked}
+use Rattle.ttlv_run.specs.declared.job.Asked.TheVariants.{Print, ReadBack, FromJson}
+use Rattle.ttlv_run.specs.declared.job.Encoding.{Encoding}
+use Rattle.ttlv_run.specs.declared.job.Encoding.TheVariants as encoding
+use Rattle.ttlv_run.specs.declared.job.Look.{Look}
+use Rattle.ttlv_run.specs.declared.job.Task.{Task}
+use Rattle.ttlv_run.specs.declared.job.Task.TheVariants.{Show, Diagnose, Hexadecimal, Json, Whole, Check}
+use Rattle.ttlv_run.specs.declared.job.Strict.TheVariants.{Show as ShowWhole, Diagnose as DiagnoseWhole, Json as JsonWhole}
+use Rattle.ttlv_run.specs.declared.job.Values.{Values}
+use Rattle.ttlv_run.specs.declared.job.Values.TheVariants as values
+use Rattle.ttlv_run.specs.declared.request.Color.{Color}
+use Rattle.ttlv_run.specs.declared.request.Color.TheVariants as color
+use Rattle.ttlv_run.specs.declared.request.Request.{Request}
+
+-- an option has this word
+abbrev pub is_word : Option (List ℕ) → List ℕ → Bool
+is_word None word = false
+is_word (Some text) word = bytes_eq text word
+
+abbrev pub is_given : Found → List ℕ → List ℕ → Bool
+is_given f option word = is_word (first_value f option) word
+
+-- a flag is given
+abbrev pub is_set : Found → List ℕ → Bool
+is_set f flag = is_given f flag (codes "true")
+
+-- `--input`
+unfoldable pub encoding_in : Found → Encoding
+encoding_in f =
+    if is_given f (codes "input") (codes "raw") then encoding.Raw
+    else if is_given f (codes "input") (codes "hex") then encoding.Hexadecimal
+    else if is_given f (codes "input") (codes "base64") then encoding.Base64
+    else if is_given f (codes "input") (codes "base64url") then encoding.Base64Url
+    else if is_given f (codes "input") (codes "pem") then encoding.Armoured
+    else if is_given f (codes "input") (codes "xxd") then encoding.Dump
+    else if is_given f (codes "input") (codes "hexdump") then encoding.Dump
+    else if is_given f (codes "input") (codes "od") then encoding.Dump
+    else if is_given f (codes "input") (codes "tcpdump") then encoding.Packets
+    else encoding.Detected
+
+-- `--redact` and `--raw`, of which the first counts
+unfoldable pub values_in : Found → Values
+values_in f =
+    if is_given f (codes "redact") (codes "all") then values.Hidden
+    else if is_given f (codes "redact") (codes "keys") then values.Escaped
+    else if is_set f (codes "raw") then values.Raw
+    else values.Escaped
+
+-- `--redact`, of JSON
+unfoldable pub hiding_in : Found → Hiding
+hiding_in f =
+    if is_given f (codes "redact") (codes "all") then hiding.Values
+    else if is_given f (codes "redact") (codes "keys") then hiding.Secrets
+    else hiding.Nothing
+
+-- `--color`
+unfoldable pub color_in : Found → Color
+color_in f =
+    if is_given f (codes "color") (codes "always") then color.Always
+    else if is_given f (codes "color") (codes "never") then color.Never
+    else color.Auto
+
+-- a text is a number of at most 64 bits
+abbrev pub IsNumber : List ℕ → Type 0
+IsNumber text = IsNumeral 10 (without_leading_plus text) × (digits_value 10 (without_leading_plus text) < 2 ^ 64)
+
+-- `--width`: the number that its digits are
+abbrev pub IsWidth : Option (List ℕ) → Option ℕ → Type 0
+IsWidth None width = width ≡ None
+IsWidth (Some text) None = IsNumber text → ⊥
+IsWidth (Some text) (Some width) = IsNumber text × (width ≡ digits_value 10 (without_leading_plus text))
+
+-- the readable lines that are asked for; the colours and the tags are decided later
+pub record IsLook (f : Found) (look : Look) : Type 0 where
+  pub values : look.values ≡ values_in f
+  pub secrets : look.secrets_hidden ≡ is_given f (codes "redact") (codes "keys")
+  pub offsets : look.offsets ≡ is_set f (codes "offsets")
+  pub lengths : look.lengths ≡ is_set f (codes "lengths")
+  pub width : IsWidth (one_text f (codes "width")) look.width
+  pub colored : look.colored ≡ false
+  pub only : look.only ≡ None
+
+-- `--prefix`
+abbrev pub prefix_in : Found → List ℕ
+prefix_in f = unwrap_or (first_value f (codes "prefix")) []
+
+-- empty structures are closed: but for `--unclosed`
+abbrev pub is_closed : Found → Bool
+is_closed f = is_set f (codes "closed") || not (is_set f (codes "unclosed"))
+
+-- `--strict`, which each `--redact` means
+abbrev pub is_strict : Found → Bool
+is_strict f =
+    is_set f (codes "strict") || is_given f (codes "redact") (codes "all") || is_given f (codes "redact") (codes "keys")
+
+-- a command is one of the others than `check`
+abbrev pub is_other : List ℕ → Bool
+is_other command =
+    bytes_eq command (codes "show") || bytes_eq command (codes "diag") || bytes_eq command (codes "hex")
+    || bytes_eq command (codes "json") || bytes_eq command (codes "undiag") || bytes_eq command (codes "from-json")
+
+-- the task of a command
+abbrev pub IsTask : List ℕ → Found → Task → Type 0
+IsTask command f (Show look) = (command ≡ codes "show") × (is_strict f ≡ false) × IsLook f look
+IsTask command f (Diagnose closed prefix) =
+    (command ≡ codes "diag") × (is_strict f ≡ false) × (closed ≡ is_closed f) × (prefix.now ≡ prefix_in f)
+IsTask command f Hexadecimal = command ≡ codes "hex"
+IsTask command f (Json hiding) = (command ≡ codes "json") × (is_strict f ≡ false) × (hiding ≡ hiding_in f)
+IsTask command f (Whole (ShowWhole look)) = (command ≡ codes "show") × (is_strict f ≡ true) × IsLook f look
+IsTask command f (Whole (DiagnoseWhole closed prefix)) =
+    (command ≡ codes "diag") × (is_strict f ≡ true) × (closed ≡ is_closed f) × (prefix.now ≡ prefix_in f)
+IsTask command f (Whole (JsonWhole hiding)) = (command ≡ codes "json") × (is_strict f ≡ true) × (hiding ≡ hiding_in f)
+IsTask command f (Check kmip empty) =
+    (is_other command ≡ false) × (kmip ≡ (bytes_eq command (codes "check") && is_set f (codes "kmip")))
+    × (empty ≡ (bytes_eq command (codes "check") && is_set f (codes "allow-empty")))
+
+-- what a command asks for
+abbrev pub IsAsked : List ℕ → Found → Asked → Type 0
+IsAsked command f (Print task encoding) = IsTask command f task × (encoding ≡ encoding_in f)
+IsAsked command f (ReadBack prefix) = (command ≡ codes "undiag") × (prefix.now ≡ prefix_in f)
+IsAsked command f (FromJson raw) = (command ≡ codes "from-json") × (raw ≡ is_set f (codes "raw"))
+
+-- the words of an option that may be given several times
+abbrev pub texts_in : Found → List ℕ → List (List ℕ)
+texts_in f option = unwrap_or (option_map raw_values (matched_of f option)) []
+
+-- a request is what a command asks for
+pub record IsRequest (command : List ℕ) (f : Found) (r : Request) : Type 0 where
+  pub asked : IsAsked command f r.asked
+  pub names : option_map (λ s. s.now) r.names ≡ first_value f (codes "names")
+  pub secrets : option_map (λ s. s.now) r.secrets ≡ first_value f (codes "secrets")
+  pub tags : map (λ s. s.now) r.tags.items ≡ texts_in f (codes "tag")
+  pub color : r.color ≡ color_in f
+  pub files : map (λ s. s.now) r.files.items ≡ texts_in f (codes "files")
+
+-- a table of secrets is named where they are not hidden
+abbrev pub is_useless : Found → Bool
+is_useless f = is_some (matched_of f (codes "secrets")) && not (is_given f (codes "redact") (codes "keys"))
+
+-- lengths are asked for where values are hidden
+abbrev pub tells_lengths : Found → Bool
+tells_lengths f =
+    is_set f (codes "lengths") && (is_given f (codes "redact") (codes "all") || is_given f (codes "redact") (codes "keys"))

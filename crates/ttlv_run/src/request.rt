@@ -1,0 +1,322 @@
+//! What the words ask for.
+
+ghost use Rattle.std.specs.Prelude.{◌≡◌, ℕ, List, false, map, bytes_eq, codes, IfOk};
+ghost use Rattle.clap.specs.Matches.{found_of, one_text};
+ghost use Rattle.clap.specs.declared.parser.matches.Found.{Found};
+ghost use Rattle.ttlv_run.specs.Requests.{is_given, is_set, encoding_in, prefix_in, values_in, IsWidth, IsLook, hiding_in, color_in, is_closed, is_strict, IsTask, texts_in, IsAsked, IsRequest, is_useless, tells_lengths};
+
+use crate::command::program;
+use crate::job::{Asked, Encoding, Look, Strict, Task, Values};
+use clap::error::ErrorKind;
+use clap::{ArgMatches, Error};
+use kmip_ttlv_json::Hiding;
+use std::alloc::{AllocError, Global};
+
+/// Why a table of secrets is refused.
+const NO_USE: &str = "--secrets hides nothing without --redact=keys";
+
+/// Why lengths are refused.
+const TELLS: &str = "--lengths tells how long the values are that --redact hides";
+
+/// When lines are coloured.
+#[derive(Clone, Copy, Debug, PartialEq, Eq)]
+pub enum Color {
+    /// On any output, also a file.
+    Always,
+    /// On no output, also a terminal.
+    Never,
+    /// Where the output is a terminal, and no colours are wanted nowhere.
+    Auto,
+}
+
+/// What the program is to do.
+#[derive(Drop)]
+pub struct Request<'w> {
+    /// What is to be done with each input.
+    pub asked: Asked<'w>,
+    /// The file with further names of tags, where there is one.
+    pub names: Option<&'w str>,
+    /// The file with further tags of secrets, if any.
+    pub secrets: Option<&'w str>,
+    /// The tags whose items alone are shown, each by its name or its hexadecimal digits; none for all items.
+    pub tags: Vec<&'w str>,
+    /// When lines are coloured.
+    pub color: Color,
+    /// The files to be read; none for standard input.
+    pub files: Vec<&'w str>,
+}
+
+// Whether the word of an option is this one.
+fn is_given(matches: &ArgMatches<'_>, option: &str, word: &str) -> bool
+    ensures { result ≡ is_given (found_of matches.now) option.now word.now }
+{
+    match matches.get_str(option) {
+        Some(text) => text == word,
+        None => false,
+    }
+}
+
+// Whether a flag is given.
+fn is_set(matches: &ArgMatches<'_>, flag: &str) -> bool
+    ensures { result ≡ is_set (found_of matches.now) flag.now }
+{
+    is_given(matches, flag, "true")
+}
+
+#[tactic(auto, unfolding(crate::specs::Requests::encoding_in))]
+fn encoding_of(matches: &ArgMatches<'_>) -> Encoding
+    ensures { result ≡ encoding_in (found_of matches.now) }
+{
+    if is_given(matches, "input", "raw") {
+        Encoding::Raw
+    } else if is_given(matches, "input", "hex") {
+        Encoding::Hexadecimal
+    } else if is_given(matches, "input", "base64") {
+        Encoding::Base64
+    } else if is_given(matches, "input", "base64url") {
+        Encoding::Base64Url
+    } else if is_given(matches, "input", "pem") {
+        Encoding::Armoured
+    } else if is_given(matches, "input", "xxd") {
+        Encoding::Dump
+    } else if is_given(matches, "input", "hexdump") {
+        Encoding::Dump
+    } else if is_given(matches, "input", "od") {
+        Encoding::Dump
+    } else if is_given(matches, "input", "tcpdump") {
+        Encoding::Packets
+    } else {
+        Encoding::Detected
+    }
+}
+
+fn prefix_of<'w>(matches: &ArgMatches<'w>) -> &'w str
+    ensures { result.now ≡ prefix_in (found_of matches.now) }
+{
+    match matches.get_str("prefix") {
+        Some(prefix) => prefix,
+        None => "",
+    }
+}
+
+// What is hidden is never printed raw.
+#[tactic(auto, unfolding(crate::specs::Requests::values_in))]
+fn values_of(matches: &ArgMatches<'_>) -> Values
+    ensures { result ≡ values_in (found_of matches.now) }
+{
+    if is_given(matches, "redact", "all") {
+        Values::Hidden
+    } else if is_given(matches, "redact", "keys") {
+        Values::Escaped
+    } else if is_set(matches, "raw") {
+        Values::Raw
+    } else {
+        Values::Escaped
+    }
+}
+
+fn width_of(matches: &ArgMatches<'_>) -> Option<usize>
+    ensures { IsWidth (one_text (found_of matches.now) (codes "width")) result }
+{
+    matches.get_one("width")
+}
+
+// Colours and the tags are not known before the names and the terminal are.
+fn look_of<'w>(matches: &ArgMatches<'w>) -> Look<'w>
+    ensures { IsLook (found_of matches.now) result }
+{
+    Look {
+        values: values_of(matches),
+        secrets_hidden: is_given(matches, "redact", "keys"),
+        offsets: is_set(matches, "offsets"),
+        lengths: is_set(matches, "lengths"),
+        width: width_of(matches),
+        colored: false,
+        only: None,
+    }
+}
+
+#[tactic(auto, unfolding(crate::specs::Requests::hiding_in))]
+fn hiding_of(matches: &ArgMatches<'_>) -> Hiding
+    ensures { result ≡ hiding_in (found_of matches.now) }
+{
+    if is_given(matches, "redact", "all") {
+        Hiding::Values
+    } else if is_given(matches, "redact", "keys") {
+        Hiding::Secrets
+    } else {
+        Hiding::Nothing
+    }
+}
+
+#[tactic(auto, unfolding(crate::specs::Requests::color_in))]
+fn color_of(matches: &ArgMatches<'_>) -> Color
+    ensures { result ≡ color_in (found_of matches.now) }
+{
+    if is_given(matches, "color", "always") {
+        Color::Always
+    } else if is_given(matches, "color", "never") {
+        Color::Never
+    } else {
+        Color::Auto
+    }
+}
+
+// Whether empty structures are closed.
+fn is_closed(matches: &ArgMatches<'_>) -> bool
+    ensures { result ≡ is_closed (found_of matches.now) }
+{
+    is_set(matches, "closed") || !is_set(matches, "unclosed")
+}
+
+// Whether nothing is printed of a malformed message.
+fn is_strict(matches: &ArgMatches<'_>) -> bool
+    ensures { result ≡ is_strict (found_of matches.now) }
+{
+    is_set(matches, "strict")
+        || is_given(matches, "redact", "all")
+        || is_given(matches, "redact", "keys")
+}
+
+fn show_of<'w>(matches: &ArgMatches<'w>) -> Task<'w>
+    ensures { IsTask (codes "show") (found_of matches.now) result }
+{
+    let look = look_of(matches);
+    if is_strict(matches) {
+        let strict = Strict::Show { look };
+        return Task::Whole { strict };
+    }
+    Task::Show { look }
+}
+
+fn diagnose_of<'w>(matches: &ArgMatches<'w>) -> Task<'w>
+    ensures { IsTask (codes "diag") (found_of matches.now) result }
+{
+    let closed = is_closed(matches);
+    let prefix = prefix_of(matches);
+    if is_strict(matches) {
+        let strict = Strict::Diagnose { closed, prefix };
+        return Task::Whole { strict };
+    }
+    Task::Diagnose { closed, prefix }
+}
+
+fn json_of<'w>(matches: &ArgMatches<'w>) -> Task<'w>
+    ensures { IsTask (codes "json") (found_of matches.now) result }
+{
+    let hiding = hiding_of(matches);
+    if is_strict(matches) {
+        let strict = Strict::Json { hiding };
+        return Task::Whole { strict };
+    }
+    Task::Json { hiding }
+}
+
+fn task_of<'w>(command: &str, matches: &ArgMatches<'w>) -> Task<'w>
+    requires undiag { bytes_eq command.now (codes "undiag") ≡ false }
+    requires from_json { bytes_eq command.now (codes "from-json") ≡ false }
+    ensures { IsTask command.now (found_of matches.now) result }
+{
+    if command == "show" {
+        show_of(matches)
+    } else if command == "diag" {
+        diagnose_of(matches)
+    } else if command == "hex" {
+        Task::Hexadecimal
+    } else if command == "json" {
+        json_of(matches)
+    } else {
+        Task::Check {
+            kmip: command == "check" && is_set(matches, "kmip"),
+            empty: command == "check" && is_set(matches, "allow-empty"),
+        }
+    }
+}
+
+// The words of an option that may be given several times.
+fn texts_of<'w>(
+    alloc: Global,
+    matches: &ArgMatches<'w>,
+    option: &str,
+) -> Result<Vec<&'w str>, AllocError>
+    ensures { IfOk result (λ texts. map (λ s. s.now) texts.items ≡ texts_in (found_of matches.now) option.now) }
+{
+    match matches.get_strs(option) {
+        Some(texts) => Vec::from_slice(alloc, texts),
+        None => Ok(Vec::new(alloc)),
+    }
+}
+
+fn asked_of<'w>(command: &str, matches: &ArgMatches<'w>) -> Asked<'w>
+    ensures { IsAsked command.now (found_of matches.now) result }
+{
+    if command == "undiag" {
+        Asked::ReadBack {
+            prefix: prefix_of(matches),
+        }
+    } else if command == "from-json" {
+        Asked::FromJson {
+            raw: is_set(matches, "raw"),
+        }
+    } else {
+        Asked::Print {
+            task: task_of(command, matches),
+            encoding: encoding_of(matches),
+        }
+    }
+}
+
+/// What a command asks for with these options.
+///
+/// It fails only if memory runs out.
+pub fn request_in<'w>(
+    alloc: Global,
+    command: &str,
+    matches: &ArgMatches<'w>,
+) -> Result<Request<'w>, AllocError>
+    ensures { IfOk result (IsRequest command.now (found_of matches.now)) }
+{
+    Ok(Request {
+        asked: asked_of(command, matches),
+        names: matches.get_str("names"),
+        secrets: matches.get_str("secrets"),
+        tags: texts_of(alloc, matches, "tag")?,
+        color: color_of(matches),
+        files: texts_of(alloc, matches, "files")?,
+    })
+}
+
+// Whether a table of secrets is named where they are not hidden.
+fn is_useless(matches: &ArgMatches<'_>) -> bool
+    ensures { result ≡ is_useless (found_of matches.now) }
+{
+    matches.contains_id("secrets") && !is_given(matches, "redact", "keys")
+}
+
+// Whether lengths are asked for where values are hidden.
+fn tells_lengths(matches: &ArgMatches<'_>) -> bool
+    ensures { result ≡ tells_lengths (found_of matches.now) }
+{
+    is_set(matches, "lengths")
+        && (is_given(matches, "redact", "all") || is_given(matches, "redact", "keys"))
+}
+
+/// What words ask for, the first of which is the program's name. `--secrets` without `--redact=keys` is wrong usage, and so is
+/// `--lengths` with any `--redact`. The error is to be printed, on standard output for help and the version, and has the exit status.
+pub fn request_of<'w>(alloc: Global, words: &'w [String]) -> Result<Request<'w>, Error>
+    ensures { IfOk result (λ r. (command : List ℕ) × (f : Found) × IsRequest command f r
+        × (is_useless f ≡ false) × (tells_lengths f ≡ false)) }
+{
+    let mut program = program(alloc)?;
+    let matches = program.try_get_matches_from_mut(words)?;
+    let Some((command, found)) = matches.subcommand() else {
+        return Err(program.error(ErrorKind::MissingSubcommand, "a command is missing")?);
+    };
+    if is_useless(found) {
+        return Err(program.error(ErrorKind::MissingRequiredArgument, NO_USE)?);
+    }
+    if tells_lengths(found) {
+        return Err(program.error(ErrorKind::ArgumentConflict, TELLS)?);
+    }
+    Ok(request_in(alloc, command, found)?)
+}

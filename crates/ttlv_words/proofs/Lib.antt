@@ -1,4 +1,0 @@
-pub mod Asking
-pub mod OwnTables
-pub mod Written
-pub mod Tagging

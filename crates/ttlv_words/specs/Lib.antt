@@ -1,4 +1,0 @@
-pub mod Requests
-pub mod Spellings
-pub mod Tags
-pub mod Tools
