@@ -4,7 +4,7 @@ of the bytes of a message.
 
     reference.py DIGITS ..     prints the members of a test for the bytes of these hexadecimal digits
     reference.py --check       compares those members of the tests in data/ that it knows with its own
-    reference.py --peer        writes data/peer.json, whose bytes are the messages of crates/peer_messages/stdin
+    reference.py --peer        writes data/peer.json, whose bytes are the messages of crates/message_vectors/stdin
 
 It knows the first fault, the number of items, and for whole messages the texts, diagnostics and JSON in which empty Structures are
 closed, the canonical bytes, and tables of names. What is printed up to a fault, or of Structures that stay open, it doesn't know. The last line of
@@ -223,7 +223,7 @@ def subject(items, operations):
 def peer():
     """The file of the peer's messages: those members that don't follow from others."""
     tests, reason, operations = [], "", value_names(0x42005C)
-    with open(f"{HERE}/../peer_messages/stdin", encoding="utf-8") as lines:
+    with open(f"{HERE}/../message_vectors/stdin", encoding="utf-8") as lines:
         for name, _, rest in (line.rstrip("\n").partition(" ") for line in lines):
             reason = f". Not for kmip_messages: {rest[:1].lower()}{rest[1:]}" if name == "##" else reason
             if name and not name.startswith("#"):

@@ -1,8 +1,8 @@
 //! The type that `flat` decodes and encodes.
 
-ghost use Rattle.std.specs.Prelude.{◌≡◌};
-ghost use Rattle.kmip_ttlv.specs.Gives.{IsI32};
-ghost use Rattle.kmip_ttlv.specs.Values.{view, i32_value};
+ghost use Rattle.std.specs.Prelude.{◌≡◌, codes};
+ghost use Rattle.kmip_ttlv.specs.Gives.{Gives, IsI32};
+ghost use Rattle.kmip_ttlv.specs.Values.{view, views, i32_value, struct_value};
 ghost use Rattle.hex_to_txt_run.specs.Pair.{pair_form, read_pair, written_pair};
 
 use kmip_ttlv::parts::{begin_struct, end_struct, integer};
@@ -24,6 +24,18 @@ fn number_of<A: Allocator>(value: &Data<A>) -> i32
 {
     match value {
         Data::I32(number) => *number,
+        _ => unreachable!(),
+    }
+}
+
+// The fields of the data that the shape gives.
+fn fields_of<A: Allocator>(value: &Data<A>) -> &Vec<Data<A>, A>
+    requires { Gives pair_form (view value.now) }
+    ensures { view value.now ≡ struct_value (codes "0xAAAAAA") (views result.now.items) }
+{
+    match value {
+        Data::Struct { name: _, fields } => fields,
+        Data::Structure { tag: _, fields } => fields,
         _ => unreachable!(),
     }
 }
@@ -65,9 +77,7 @@ impl<A: Allocator + Copy> Deserialize<A> for Pair {
     }
 
     fn from_data(_alloc: A, value: &mut Data<A>) -> Result<Pair, AllocError> {
-        let Data::Struct { name: _, fields } = &*value else {
-            unreachable!()
-        };
+        let fields = fields_of(&*value);
         Ok(Pair {
             first: number_of(&fields[0]),
             second: number_of(&fields[1]),

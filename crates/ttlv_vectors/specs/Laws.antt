@@ -7,7 +7,7 @@ use Rattle.kmip_ttlv.specs.Reads.{Begins}
 use Rattle.ttlv_vectors.specs.Chosens.{chosen_form, written_chosen, read_chosen}
 use Rattle.ttlv_vectors.specs.Soundness.{IsChosen, IsFailedItem, IsParcel}
 use Rattle.ttlv_vectors.specs.declared.chosen.Chosen.{Chosen}
-use Rattle.ttlv_vectors.specs.Queries.{failed_item_form, written_failed_item, returned_failed_item}
+use Rattle.ttlv_vectors.specs.Queries.{failed_item_form, written_failed_item, read_failed_item}
 use Rattle.ttlv_vectors.specs.declared.query.FailedItem.{FailedItem}
 use Rattle.ttlv_vectors.specs.Parcels.{parcel_form, written_parcel, read_parcel}
 use Rattle.ttlv_vectors.specs.declared.parcel.Parcel.{Parcel}
@@ -26,7 +26,7 @@ FailedItemsComeBack A =
     (x : FailedItem A) (n : ℕ) (written : List ℕ) (v : Value)
     → IsFailedItem x
     → IsWrittenAs (written_failed_item x) n written
-    → Begins failed_item_form written v ↔ (v ≡ returned_failed_item x)
+    → Begins failed_item_form written v ↔ (v ≡ read_failed_item x)
 
 -- the bytes of a `Parcel`, behind any others, begin by its form with its own value and with no other
 abbrev pub ParcelsComeBack : Type 0 → Type 0

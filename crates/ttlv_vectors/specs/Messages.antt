@@ -1,5 +1,6 @@
 -- Written by codegen from types.table: change that, and run codegen/codegen.
 -- Forms and values of the types in `message`.
+use Rattle.kmip_ttlv.specs.Digits.{tag_text}
 use Rattle.kmip_ttlv.specs.Forms.{Form, enum, field, no_fields, no_variants, option, seq, struct, unit, variant}
 use Rattle.kmip_ttlv.specs.MessageParts.{optional, sequence}
 use Rattle.kmip_ttlv.specs.Values.{Value, no_values, struct_value, unit_variant_value, value}
@@ -14,20 +15,20 @@ use Rattle.ttlv_vectors.specs.Numbers.{optional_numbers_form, written_optional_n
 -- the form of a `Every`
 abbrev pub every_form : Form
 every_form =
-    struct (codes "0x540060") (
-    field (codes "0x540061") (enum (codes "0x540061") (variant (codes "0x00000001") unit no_variants)) (
-    field (codes "0x540040") kind_form (
-    field (codes "0x540001") numbers_form (
-    field (codes "0x540009") moments_form (
-    field (codes "0x540010") (option optional_numbers_form) (
-    field (codes "0x540030") (option optional_contents_form) (
-    field (codes "0x540015") reasons_form (
-    field (codes "0x540020") (seq contents_form) no_fields)))))))) false
+    struct (tag_text 0x540060) (
+    field (tag_text 0x540061) (enum (codes "0x540061") (variant (codes "0x00000001") unit no_variants)) (
+    field (tag_text 0x540040) kind_form (
+    field (tag_text 0x540001) numbers_form (
+    field (tag_text 0x540009) moments_form (
+    field (tag_text 0x540010) (option optional_numbers_form) (
+    field (tag_text 0x540030) (option optional_contents_form) (
+    field (tag_text 0x540015) reasons_form (
+    field (tag_text 0x540020) (seq contents_form) no_fields)))))))) false
 
 -- what is written of a `Every`
 unfoldable pub written_every : {A : Type 0} → Every A → Value
 written_every x =
-    struct_value (codes "0x540060") (
+    struct_value (tag_text 0x540060) (
     value (unit_variant_value (codes "0x540061") (codes "0x00000001")) (
     value (kind_value x.kind) (
     value (numbers_value x.numbers) (
@@ -40,7 +41,7 @@ written_every x =
 -- what is read of a `Every`
 unfoldable pub read_every : {A : Type 0} → Every A → Value
 read_every x =
-    struct_value (codes "0x540060") (
+    struct_value (tag_text 0x540060) (
     value (unit_variant_value (codes "0x540061") (codes "0x00000001")) (
     value (kind_value x.kind) (
     value (numbers_value x.numbers) (

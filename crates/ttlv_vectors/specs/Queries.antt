@@ -1,94 +1,62 @@
 -- Written by codegen from types.table: change that, and run codegen/codegen.
 -- Forms and values of the types in `query`.
-use Rattle.kmip_ttlv.specs.Forms.{Form, Variants, any_number, enum, field, int32, newtype, no_fields, no_variants, option, seq, struct, text, unit, variant}
-use Rattle.kmip_ttlv.specs.MessageParts.{numbered_value, optional, optional_sequence, other_number, sequence}
-use Rattle.kmip_ttlv.specs.Values.{Value, i32_value, newtype_value, no_values, struct_value, text_value, u32_value, unit_variant_value, value}
+use Rattle.kmip_ttlv.specs.Digits.{tag_text}
+use Rattle.kmip_ttlv.specs.Enumerations.{enumeration_value}
+use Rattle.kmip_ttlv.specs.Forms.{Form, Variants, any_number, enum, field, int32, no_fields, no_variants, option, seq, struct, text, unit, variant}
+use Rattle.kmip_ttlv.specs.MessageParts.{optional, optional_sequence, sequence, tagged}
+use Rattle.kmip_ttlv.specs.Spots.{wrapped_leaf}
+use Rattle.kmip_ttlv.specs.Values.{Value, i32_value, no_values, struct_value, text_value, unit_variant_value, value}
 use Rattle.kmip_ttlv.specs.Visits.{joined}
-use Rattle.std.specs.Prelude.{List, Option, Some, [], codes, false, option_map, string_bytes, ℕ, ◌∷◌}
+use Rattle.std.specs.Prelude.{List, codes, false, option_map, string_bytes, ℕ}
 use Rattle.kmip_ttlv.specs.Visits as visits
 use Rattle.ttlv_vectors.specs.declared.query.{MaximumItems.MaximumItems, TextAttribute.TextAttribute, LocateRequestPayload.LocateRequestPayload}
-use Rattle.ttlv_vectors.specs.declared.query.{Operation.Operation, ObjectType.ObjectType, ApplicationNamespace.ApplicationNamespace}
-use Rattle.ttlv_vectors.specs.declared.query.{QueryResponsePayload.QueryResponsePayload, ResultReason.ResultReason, ResultStatus.ResultStatus}
-use Rattle.ttlv_vectors.specs.declared.query.{FailedItem.FailedItem}
-use Rattle.ttlv_vectors.specs.declared.query.Operation.TheVariants as operation
+use Rattle.ttlv_vectors.specs.declared.query.{ObjectType.ObjectType, ApplicationNamespace.ApplicationNamespace, QueryResponsePayload.QueryResponsePayload}
+use Rattle.ttlv_vectors.specs.declared.query.{ResultStatus.ResultStatus, FailedItem.FailedItem}
 use Rattle.ttlv_vectors.specs.declared.query.ObjectType.TheVariants as object_type
-use Rattle.ttlv_vectors.specs.declared.query.ResultReason.TheVariants as result_reason
 use Rattle.ttlv_vectors.specs.declared.query.ResultStatus.TheVariants as result_status
 
 -- the form of a `MaximumItems`
 abbrev pub maximum_items_form : Form
-maximum_items_form = (newtype (codes "Transparent:0x42004F") int32)
+maximum_items_form = (wrapped_leaf 0x42004F int32)
 
 -- the value of a `MaximumItems`
 abbrev pub maximum_items_value : MaximumItems → Value
-maximum_items_value x = newtype_value (codes "Transparent:0x42004F") (i32_value x.count)
+maximum_items_value x = tagged 0x42004F (i32_value x.count)
 
 -- the form of a `TextAttribute`
 abbrev pub text_attribute_form : Form
 text_attribute_form =
-    struct (codes "0x420008") (
-    field (codes "0x42000A") (newtype (codes "Transparent:0x42000A") text) (
-    field (codes "0x42000B") (newtype (codes "Transparent:0x42000B") text) no_fields)) false
+    struct (tag_text 0x420008) (
+    field (tag_text 0x42000A) (wrapped_leaf 0x42000A text) (
+    field (tag_text 0x42000B) (wrapped_leaf 0x42000B text) no_fields)) false
 
 -- the value of a `TextAttribute`
 unfoldable pub text_attribute_value : {A : Type 0} → TextAttribute A → Value
 text_attribute_value x =
-    struct_value (codes "0x420008") (
-    value (newtype_value (codes "Transparent:0x42000A") (text_value (string_bytes x.name))) (
-    value (newtype_value (codes "Transparent:0x42000B") (text_value (string_bytes x.value))) no_values))
+    struct_value (tag_text 0x420008) (
+    value (tagged 0x42000A (text_value (string_bytes x.name))) (
+    value (tagged 0x42000B (text_value (string_bytes x.value))) no_values))
 
 -- the form of a `LocateRequestPayload`
 abbrev pub locate_request_payload_form : Form
 locate_request_payload_form =
-    struct (codes "0x420079") (
-    field (codes "0x42004F") (option maximum_items_form) (
-    field (codes "0x420008") (option (seq text_attribute_form)) no_fields)) false
+    struct (tag_text 0x420079) (
+    field (tag_text 0x42004F) (option maximum_items_form) (
+    field (tag_text 0x420008) (option (seq text_attribute_form)) no_fields)) false
 
 -- what is written of a `LocateRequestPayload`
 unfoldable pub written_locate_request_payload : {A : Type 0} → LocateRequestPayload A → Value
 written_locate_request_payload x =
-    struct_value (codes "0x420079") (
+    struct_value (tag_text 0x420079) (
     joined (visits.optional_field (option_map maximum_items_value x.maximum_items)) (
     value (sequence text_attribute_value x.attributes.items) no_values))
 
 -- what is read of a `LocateRequestPayload`
 unfoldable pub read_locate_request_payload : {A : Type 0} → LocateRequestPayload A → Value
 read_locate_request_payload x =
-    struct_value (codes "0x420079") (
+    struct_value (tag_text 0x420079) (
     value (optional maximum_items_value x.maximum_items) (
     value (optional_sequence text_attribute_value x.attributes.items) no_values))
-
--- the form of a `Operation`: any number
-abbrev pub operation_form : Form
-operation_form = newtype (codes "Transparent:0x42005C") any_number
-
--- the numbers that have a name
-abbrev pub operation_numbers : List ℕ
-operation_numbers =
-    0x00000008
-    ∷ 0x0000000A
-    ∷ 0x00000018
-    ∷ []
-
--- the number of a `Operation`
-abbrev pub operation_number : Operation → ℕ
-operation_number operation.Locate = 0x00000008
-operation_number operation.Get = 0x0000000A
-operation_number operation.Query = 0x00000018
-operation_number (operation.Other n) = n
-
--- the number that a `Operation` is read from; `Other` with a number that has a name is read from none
-abbrev pub operation_read_number : Operation → Option ℕ
-operation_read_number (operation.Other n) = other_number operation_numbers n
-operation_read_number x = Some (operation_number x)
-
--- what is written of a `Operation`
-unfoldable pub written_operation : Operation → Value
-written_operation x = newtype_value (codes "Transparent:0x42005C") (u32_value (operation_number x))
-
--- what is read of a `Operation`
-unfoldable pub read_operation : Operation → Value
-read_operation x = newtype_value (codes "Transparent:0x42005C") (numbered_value (operation_read_number x))
 
 -- the numbers of a `ObjectType`
 abbrev pub object_type_variants : Variants
@@ -111,82 +79,38 @@ object_type_value x = unit_variant_value (codes "0x420057") (object_type_number 
 
 -- the form of a `ApplicationNamespace`
 abbrev pub application_namespace_form : Form
-application_namespace_form = (newtype (codes "Transparent:0x420003") text)
+application_namespace_form = (wrapped_leaf 0x420003 text)
 
 -- the value of a `ApplicationNamespace`
 abbrev pub application_namespace_value : {A : Type 0} → ApplicationNamespace A → Value
-application_namespace_value x = newtype_value (codes "Transparent:0x420003") (text_value (string_bytes x.name))
+application_namespace_value x = tagged 0x420003 (text_value (string_bytes x.name))
 
 -- the form of a `QueryResponsePayload`
 abbrev pub query_response_payload_form : Form
 query_response_payload_form =
-    struct (codes "0x42007C") (
-    field (codes "0x42005C") (option (seq operation_form)) (
-    field (codes "0x420057") (option (seq object_type_form)) (
-    field (codes "0x42009D") (option (newtype (codes "Transparent:0x42009D") text)) (
-    field (codes "0x420003") (option (seq application_namespace_form)) no_fields)))) false
+    struct (tag_text 0x42007C) (
+    field (tag_text 0x42005C) (option (seq (wrapped_leaf 0x42005C any_number))) (
+    field (tag_text 0x420057) (option (seq object_type_form)) (
+    field (tag_text 0x42009D) (option (wrapped_leaf 0x42009D text)) (
+    field (tag_text 0x420003) (option (seq application_namespace_form)) no_fields)))) false
 
 -- what is written of a `QueryResponsePayload`
 unfoldable pub written_query_response_payload : {A : Type 0} → QueryResponsePayload A → Value
 written_query_response_payload x =
-    struct_value (codes "0x42007C") (
-    value (sequence written_operation x.operations.items) (
+    struct_value (tag_text 0x42007C) (
+    value (sequence enumeration_value x.operations.items) (
     value (sequence object_type_value x.object_types.items) (
-    joined (visits.optional_field (option_map
-    (λ y. newtype_value (codes "Transparent:0x42009D") (text_value (string_bytes y))) x.vendor)) (
+    joined (visits.optional_field (option_map (λ y. tagged 0x42009D (text_value (string_bytes y))) x.vendor)) (
     value (sequence application_namespace_value x.namespaces.items) no_values))))
 
 -- what is read of a `QueryResponsePayload`
 unfoldable pub read_query_response_payload : {A : Type 0} → QueryResponsePayload A → Value
 read_query_response_payload x =
-    struct_value (codes "0x42007C") (
-    value (optional_sequence read_operation x.operations.items) (
+    struct_value (tag_text 0x42007C) (
+    value (optional_sequence enumeration_value x.operations.items) (
     value (optional_sequence object_type_value x.object_types.items) (
-    value (optional
-    (λ y. newtype_value (codes "Transparent:0x42009D") (text_value (string_bytes y))) x.vendor) (
+    value (optional (λ y. tagged 0x42009D (text_value (string_bytes y))) x.vendor) (
     value (optional_sequence application_namespace_value x.namespaces.items) no_values))))
-
--- what is read of the bytes of a `QueryResponsePayload`
-unfoldable pub returned_query_response_payload : {A : Type 0} → QueryResponsePayload A → Value
-returned_query_response_payload x =
-    struct_value (codes "0x42007C") (
-    value (optional_sequence written_operation x.operations.items) (
-    value (optional_sequence object_type_value x.object_types.items) (
-    value (optional
-    (λ y. newtype_value (codes "Transparent:0x42009D") (text_value (string_bytes y))) x.vendor) (
-    value (optional_sequence application_namespace_value x.namespaces.items) no_values))))
-
--- the form of a `ResultReason`: any number
-abbrev pub result_reason_form : Form
-result_reason_form = newtype (codes "Transparent:0x42007E") any_number
-
--- the numbers that have a name
-abbrev pub result_reason_numbers : List ℕ
-result_reason_numbers =
-    0x00000001
-    ∷ 0x00000005
-    ∷ 0x00000100
-    ∷ []
-
--- the number of a `ResultReason`
-abbrev pub result_reason_number : ResultReason → ℕ
-result_reason_number result_reason.ItemNotFound = 0x00000001
-result_reason_number result_reason.OperationNotSupported = 0x00000005
-result_reason_number result_reason.GeneralFailure = 0x00000100
-result_reason_number (result_reason.Other n) = n
-
--- the number that a `ResultReason` is read from; `Other` with a number that has a name is read from none
-abbrev pub result_reason_read_number : ResultReason → Option ℕ
-result_reason_read_number (result_reason.Other n) = other_number result_reason_numbers n
-result_reason_read_number x = Some (result_reason_number x)
-
--- what is written of a `ResultReason`
-unfoldable pub written_result_reason : ResultReason → Value
-written_result_reason x = newtype_value (codes "Transparent:0x42007E") (u32_value (result_reason_number x))
-
--- what is read of a `ResultReason`
-unfoldable pub read_result_reason : ResultReason → Value
-read_result_reason x = newtype_value (codes "Transparent:0x42007E") (numbered_value (result_reason_read_number x))
 
 -- the numbers of a `ResultStatus`
 abbrev pub result_status_variants : Variants
@@ -212,38 +136,26 @@ result_status_value x = unit_variant_value (codes "0x42007F") (result_status_num
 -- the form of a `FailedItem`
 abbrev pub failed_item_form : Form
 failed_item_form =
-    struct (codes "0x42000F") (
-    field (codes "0x42005C") operation_form (
-    field (codes "0x42007F") result_status_form (
-    field (codes "0x42007E") (option result_reason_form) (
-    field (codes "0x42007D") (option (newtype (codes "Transparent:0x42007D") text)) no_fields)))) false
+    struct (tag_text 0x42000F) (
+    field (tag_text 0x42005C) (wrapped_leaf 0x42005C any_number) (
+    field (tag_text 0x42007F) result_status_form (
+    field (tag_text 0x42007E) (option (wrapped_leaf 0x42007E any_number)) (
+    field (tag_text 0x42007D) (option (wrapped_leaf 0x42007D text)) no_fields)))) false
 
 -- what is written of a `FailedItem`
 unfoldable pub written_failed_item : {A : Type 0} → FailedItem A → Value
 written_failed_item x =
-    struct_value (codes "0x42000F") (
-    value (written_operation x.operation) (
+    struct_value (tag_text 0x42000F) (
+    value (enumeration_value x.operation) (
     value (result_status_value x.status) (
-    joined (visits.optional_field (option_map written_result_reason x.reason)) (
-    joined (visits.optional_field (option_map
-    (λ y. newtype_value (codes "Transparent:0x42007D") (text_value (string_bytes y))) x.message)) no_values))))
+    joined (visits.optional_field (option_map enumeration_value x.reason)) (
+    joined (visits.optional_field (option_map (λ y. tagged 0x42007D (text_value (string_bytes y))) x.message)) no_values))))
 
 -- what is read of a `FailedItem`
 unfoldable pub read_failed_item : {A : Type 0} → FailedItem A → Value
 read_failed_item x =
-    struct_value (codes "0x42000F") (
-    value (read_operation x.operation) (
+    struct_value (tag_text 0x42000F) (
+    value (enumeration_value x.operation) (
     value (result_status_value x.status) (
-    value (optional read_result_reason x.reason) (
-    value (optional
-    (λ y. newtype_value (codes "Transparent:0x42007D") (text_value (string_bytes y))) x.message) no_values))))
-
--- what is read of the bytes of a `FailedItem`
-unfoldable pub returned_failed_item : {A : Type 0} → FailedItem A → Value
-returned_failed_item x =
-    struct_value (codes "0x42000F") (
-    value (written_operation x.operation) (
-    value (result_status_value x.status) (
-    value (optional written_result_reason x.reason) (
-    value (optional
-    (λ y. newtype_value (codes "Transparent:0x42007D") (text_value (string_bytes y))) x.message) no_values))))
+    value (optional enumeration_value x.reason) (
+    value (optional (λ y. tagged 0x42007D (text_value (string_bytes y))) x.message) no_values))))

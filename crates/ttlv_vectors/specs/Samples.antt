@@ -1,6 +1,8 @@
 -- The values and forms of the sample types.
-use Rattle.std.specs.Prelude.{ℤ, false, codes}
+use Rattle.std.specs.Prelude.{ℕ, ℤ, false, codes}
 use Rattle.kmip_ttlv.specs.Values.{Value, i32_value, struct_value, newtype_value, no_values, value}
+use Rattle.kmip_ttlv.specs.Digits.{tag_text}
+use Rattle.kmip_ttlv.specs.Tags.{wrapper_name}
 use Rattle.kmip_ttlv.specs.Forms.{Form, struct, int32, no_fields, field}
 
 -- a structure of one number
@@ -15,3 +17,7 @@ read_single n = struct_value (codes "0xAAAAAA") (value (i32_value n) no_values)
 abbrev pub written_single : ℤ → Value
 written_single n =
     struct_value (codes "0xAAAAAA") (value (newtype_value (codes "Transparent:0xBBBBBB") (i32_value n)) no_values)
+
+-- a number under one tag, in a structure under another
+abbrev pub enclosed : ℕ → ℕ → ℤ → Value
+enclosed outer inner n = struct_value (tag_text outer) (value (newtype_value (wrapper_name inner) (i32_value n)) no_values)

@@ -1,17 +1,17 @@
 -- Written by codegen from types.table: change that, and run codegen/codegen.
 -- Which values of each type are sound: what was encoded of them is decoded again.
 use Rattle.kmip_ttlv.specs.Boxes.{IsBoxed}
+use Rattle.kmip_ttlv.specs.Enumerations.{IsEnumeration}
 use Rattle.std.specs.Int.{w32, w64}
 use Rattle.std.specs.Prelude.{All, FitsSigned, IfSome, length, string_bytes, ◌%◌, ◌<◌, ◌^◌, ◌≡◌}
 use Rattle.ttlv_vectors.specs.declared.leaves.{Numbers.Numbers, Moments.Moments, Contents.Contents, OptionalContents.OptionalContents}
 use Rattle.ttlv_vectors.specs.declared.chosen.{Count.Count, Said.Said, Named.Named, Chosen.Chosen}
 use Rattle.ttlv_vectors.specs.declared.chosen.Said.TheVariants as said
 use Rattle.ttlv_vectors.specs.declared.chosen.Named.TheVariants as named
-use Rattle.ttlv_vectors.specs.declared.query.{MaximumItems.MaximumItems, LocateRequestPayload.LocateRequestPayload, Operation.Operation}
-use Rattle.ttlv_vectors.specs.declared.query.{QueryResponsePayload.QueryResponsePayload, ResultReason.ResultReason, FailedItem.FailedItem}
+use Rattle.ttlv_vectors.specs.declared.query.{MaximumItems.MaximumItems, LocateRequestPayload.LocateRequestPayload, QueryResponsePayload.QueryResponsePayload}
+use Rattle.ttlv_vectors.specs.declared.query.{FailedItem.FailedItem}
 use Rattle.ttlv_vectors.specs.declared.parcel.Parcel.{Parcel}
 use Rattle.ttlv_vectors.specs.Chosens.{ChoosesNamed, ChoosesPlace}
-use Rattle.ttlv_vectors.specs.Queries.{operation_number, result_reason_number}
 
 -- which values of `Numbers` are sound
 abbrev pub IsNumbers : Numbers → Type 0
@@ -70,26 +70,16 @@ abbrev pub IsLocateRequestPayload : {A : Type 0} → LocateRequestPayload A → 
 IsLocateRequestPayload x =
     IfSome x.maximum_items IsMaximumItems
 
--- which values of `Operation` are sound
-abbrev pub IsOperation : Operation → Type 0
-IsOperation x =
-    (operation_number x < 2 ^ 32)
-
 -- which values of `QueryResponsePayload` are sound
 abbrev pub IsQueryResponsePayload : {A : Type 0} → QueryResponsePayload A → Type 0
 IsQueryResponsePayload x =
-    All IsOperation x.operations.items
-
--- which values of `ResultReason` are sound
-abbrev pub IsResultReason : ResultReason → Type 0
-IsResultReason x =
-    (result_reason_number x < 2 ^ 32)
+    All IsEnumeration x.operations.items
 
 -- which values of `FailedItem` are sound
 abbrev pub IsFailedItem : {A : Type 0} → FailedItem A → Type 0
 IsFailedItem x =
-    IsOperation x.operation
-    × IfSome x.reason IsResultReason
+    IsEnumeration x.operation
+    × IfSome x.reason IsEnumeration
 
 -- which values of `Parcel` are sound
 abbrev pub IsParcel : {A : Type 0} → Parcel A → Type 0

@@ -1,8 +1,8 @@
 //! Choices by the type of an item and by a word: they come back equal, if the word chooses them.
 
 use crate::chosen::{Chosen, Count, Line, Named, Said, Word};
-use crate::rereads::{comes_back, decoded};
 use kmip_ttlv::laws::{Sound, reread};
+use sample_shapes::rereads::{comes_back, decoded};
 use std::alloc::Global;
 
 // Messages, made of items by hand.

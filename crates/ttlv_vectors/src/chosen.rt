@@ -8,7 +8,7 @@ ghost use Rattle.ttlv_vectors.specs.Chosens.{word_form, word_value, line_form, l
 use kmip_ttlv::messages::writing;
 use kmip_ttlv::shape::{Decode, Serialize};
 use kmip_ttlv::types::TtlvType;
-use kmip_ttlv::visit::Visitor;
+use kmip_ttlv::visit::{Leaf, Visitor};
 use kmip_ttlv::{error, reader};
 use std::alloc::{AllocError, Allocator, Global};
 
@@ -24,7 +24,7 @@ impl<B: Allocator> Serialize for Word<B> {
     ghost stated = { word_value };
 
     fn visit<V: Visitor>(&self, visitor: &mut V) -> Result<(), AllocError> {
-        writing::string(visitor, "Transparent:0x540070", &self.text)
+        writing::string(visitor, 0x540070, &self.text)
     }
 }
 
@@ -35,7 +35,6 @@ impl<A: Allocator + Copy> reader::ReadItem<A> for Word<A> {
 
     ghost plain = { (refl, refl) };
 
-    #[tactic(auto, unfolding(kmip_ttlv_types::specs::Digits::six_digits))]
     fn read_item<'b>(
         scope: &reader::Scope<'b, A>,
         cursor: &mut reader::Cursor<'b, A>,
@@ -57,7 +56,7 @@ impl<B: Allocator> Serialize for Line<B> {
     ghost stated = { line_value };
 
     fn visit<V: Visitor>(&self, visitor: &mut V) -> Result<(), AllocError> {
-        writing::string(visitor, "Transparent:0x540071", &self.text)
+        writing::string(visitor, 0x540071, &self.text)
     }
 }
 
@@ -68,7 +67,6 @@ impl<A: Allocator + Copy> reader::ReadItem<A> for Line<A> {
 
     ghost plain = { (refl, refl) };
 
-    #[tactic(auto, unfolding(kmip_ttlv_types::specs::Digits::six_digits))]
     fn read_item<'b>(
         scope: &reader::Scope<'b, A>,
         cursor: &mut reader::Cursor<'b, A>,
@@ -89,7 +87,7 @@ impl Serialize for Count {
     ghost stated = { count_value };
 
     fn visit<V: Visitor>(&self, visitor: &mut V) -> Result<(), AllocError> {
-        writing::integer(visitor, "Transparent:0x540071", self.number)?;
+        writing::tagged(visitor, 0x540071, Leaf::I32(self.number))?;
         Ok(())
     }
 }
@@ -101,7 +99,6 @@ impl<A: Allocator + Copy> reader::ReadItem<A> for Count {
 
     ghost plain = { (refl, refl) };
 
-    #[tactic(auto, unfolding(kmip_ttlv_types::specs::Digits::six_digits))]
     fn read_item<'b>(
         scope: &reader::Scope<'b, A>,
         cursor: &mut reader::Cursor<'b, A>,
@@ -164,7 +161,7 @@ impl reader::Rule for SaidLineRule {
 
 impl<A: Allocator + Copy> reader::VariantOf<reader::ItemElement<Line<A>>, Said<A>, A>
     for SaidLineRule {
-    #[tactic(auto, unfolding(kmip_ttlv_types::specs::Digits::six_digits, crate::specs::Chosens::read_said))]
+    #[tactic(auto, unfolding(crate::specs::Chosens::read_said))]
     fn from_content(inner: Line<A>) -> Said<A> {
         Said::Line(inner)
     }
@@ -188,7 +185,7 @@ impl reader::Rule for SaidCountRule {
 
 impl<A: Allocator + Copy> reader::VariantOf<reader::ItemElement<Count>, Said<A>, A>
     for SaidCountRule {
-    #[tactic(auto, unfolding(kmip_ttlv_types::specs::Digits::six_digits, crate::specs::Chosens::read_said))]
+    #[tactic(auto, unfolding(crate::specs::Chosens::read_said))]
     fn from_content(inner: Count) -> Said<A> {
         Said::Count(inner)
     }
@@ -211,7 +208,6 @@ impl<A: Allocator + Copy> reader::Choice<A> for Said<A> {
         ),
     );
 
-    #[tactic(auto, unfolding(kmip_ttlv_types::specs::Digits::six_digits))]
     fn has_form() {}
 }
 
@@ -298,7 +294,7 @@ impl reader::Rule for NamedLineRule {
 
 impl<A: Allocator + Copy> reader::VariantOf<reader::ItemElement<Line<A>>, Named<A>, A>
     for NamedLineRule {
-    #[tactic(auto, unfolding(kmip_ttlv_types::specs::Digits::six_digits, crate::specs::Chosens::read_named))]
+    #[tactic(auto, unfolding(crate::specs::Chosens::read_named))]
     fn from_content(inner: Line<A>) -> Named<A> {
         Named::Line(inner)
     }
@@ -325,7 +321,7 @@ impl reader::Rule for NamedCountRule {
 
 impl<A: Allocator + Copy> reader::VariantOf<reader::ItemElement<Count>, Named<A>, A>
     for NamedCountRule {
-    #[tactic(auto, unfolding(kmip_ttlv_types::specs::Digits::six_digits, crate::specs::Chosens::read_named))]
+    #[tactic(auto, unfolding(crate::specs::Chosens::read_named))]
     fn from_content(inner: Count) -> Named<A> {
         Named::Count(inner)
     }
@@ -348,7 +344,6 @@ impl<A: Allocator + Copy> reader::Choice<A> for Named<A> {
         ),
     );
 
-    #[tactic(auto, unfolding(kmip_ttlv_types::specs::Digits::six_digits))]
     fn has_form() {}
 }
 
@@ -379,7 +374,7 @@ impl<B: Allocator> Serialize for Label<B> {
     ghost stated = { label_value };
 
     fn visit<V: Visitor>(&self, visitor: &mut V) -> Result<(), AllocError> {
-        writing::string(visitor, "Transparent:0x540073", &self.text)
+        writing::string(visitor, 0x540073, &self.text)
     }
 }
 
@@ -390,7 +385,6 @@ impl<A: Allocator + Copy> reader::ReadItem<A> for Label<A> {
 
     ghost plain = { (refl, refl) };
 
-    #[tactic(auto, unfolding(kmip_ttlv_types::specs::Digits::six_digits))]
     fn read_item<'b>(
         scope: &reader::Scope<'b, A>,
         cursor: &mut reader::Cursor<'b, A>,
@@ -412,7 +406,7 @@ impl<B: Allocator> Serialize for Address<B> {
     ghost stated = { address_value };
 
     fn visit<V: Visitor>(&self, visitor: &mut V) -> Result<(), AllocError> {
-        writing::string(visitor, "Transparent:0x540073", &self.text)
+        writing::string(visitor, 0x540073, &self.text)
     }
 }
 
@@ -423,7 +417,6 @@ impl<A: Allocator + Copy> reader::ReadItem<A> for Address<A> {
 
     ghost plain = { (refl, refl) };
 
-    #[tactic(auto, unfolding(kmip_ttlv_types::specs::Digits::six_digits))]
     fn read_item<'b>(
         scope: &reader::Scope<'b, A>,
         cursor: &mut reader::Cursor<'b, A>,
@@ -488,7 +481,7 @@ impl reader::Rule for PlaceLabelRule {
 
 impl<A: Allocator + Copy> reader::VariantOf<reader::ItemElement<Label<A>>, Place<A>, A>
     for PlaceLabelRule {
-    #[tactic(auto, unfolding(kmip_ttlv_types::specs::Digits::six_digits, crate::specs::Chosens::read_place))]
+    #[tactic(auto, unfolding(crate::specs::Chosens::read_place))]
     fn from_content(inner: Label<A>) -> Place<A> {
         Place::Label(inner)
     }
@@ -515,7 +508,7 @@ impl reader::Rule for PlaceAddressRule {
 
 impl<A: Allocator + Copy> reader::VariantOf<reader::ItemElement<Address<A>>, Place<A>, A>
     for PlaceAddressRule {
-    #[tactic(auto, unfolding(kmip_ttlv_types::specs::Digits::six_digits, crate::specs::Chosens::read_place))]
+    #[tactic(auto, unfolding(crate::specs::Chosens::read_place))]
     fn from_content(inner: Address<A>) -> Place<A> {
         Place::Address(inner)
     }
@@ -538,7 +531,6 @@ impl<A: Allocator + Copy> reader::Choice<A> for Place<A> {
         ),
     );
 
-    #[tactic(auto, unfolding(kmip_ttlv_types::specs::Digits::six_digits))]
     fn has_form() {}
 }
 
@@ -577,13 +569,13 @@ impl<B: Allocator> Serialize for Chosen<B> {
     ghost stated = { written_chosen };
 
     fn visit<V: Visitor>(&self, visitor: &mut V) -> Result<(), AllocError> {
-        writing::begin_struct(visitor, "0x540074")?;
+        writing::begin_structure(visitor, 0x540074)?;
         self.word.visit(visitor)?;
         self.said.visit(visitor)?;
         writing::option(visitor, &self.named)?;
         writing::option(visitor, &self.more)?;
         writing::several(visitor, &self.places)?;
-        writing::end_struct(visitor, "0x540074")?;
+        writing::end_structure(visitor, 0x540074)?;
         Ok(())
     }
 }
@@ -609,10 +601,9 @@ impl<A: Allocator + Copy> reader::ReadStructure<A> for Chosen<A> {
 
     const DENIES_UNKNOWN: bool = false;
 
-    #[tactic(auto, unfolding(kmip_ttlv_types::specs::Digits::six_digits))]
     fn has_form() {}
 
-    #[tactic(auto, unfolding(kmip_ttlv_types::specs::Digits::six_digits, crate::specs::Chosens::read_chosen))]
+    #[tactic(auto, unfolding(crate::specs::Chosens::read_chosen))]
     fn from_fields(
         fields: (
             Word<A>,

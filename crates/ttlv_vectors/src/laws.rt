@@ -3,20 +3,20 @@
 
 ghost use Rattle.std.specs.Prelude.{◌≡◌, All, IfSome, string_bytes, IsTrue, ◌↔◌};
 ghost use Rattle.ttlv_vectors.specs.Chosens.{ChoosesNamed, ChoosesPlace};
-ghost use Rattle.kmip_ttlv.specs.Equal.{AreEqual, ReturnsEqual};
+ghost use Rattle.kmip_ttlv.specs.Equal.{AreEqual};
 ghost use Rattle.ttlv_vectors.specs.Leaves.{numbers_value, moments_value, contents_value, read_optional_contents, kind_value};
 ghost use Rattle.ttlv_vectors.specs.Chosens.{word_value, line_value, count_value, read_said, read_named, label_value, address_value, read_place, read_chosen};
-ghost use Rattle.ttlv_vectors.specs.Queries.{maximum_items_value, text_attribute_value, read_locate_request_payload, written_operation, read_operation, object_type_value, application_namespace_value, returned_query_response_payload, read_query_response_payload, written_result_reason, read_result_reason, result_status_value, returned_failed_item, read_failed_item};
+ghost use Rattle.ttlv_vectors.specs.Queries.{maximum_items_value, text_attribute_value, read_locate_request_payload, object_type_value, application_namespace_value, read_query_response_payload, result_status_value, read_failed_item};
 ghost use Rattle.ttlv_vectors.specs.Parcels.{note_value, read_parcel};
-ghost use Rattle.ttlv_vectors.specs.Soundness.{IsNumbers, IsMoments, IsContents, IsOptionalContents, IsCount, IsSaid, IsNamed, IsChosen, IsMaximumItems, IsLocateRequestPayload, IsOperation, IsQueryResponsePayload, IsResultReason, IsFailedItem, IsParcel};
+ghost use Rattle.ttlv_vectors.specs.Soundness.{IsNumbers, IsMoments, IsContents, IsOptionalContents, IsCount, IsSaid, IsNamed, IsChosen, IsMaximumItems, IsLocateRequestPayload, IsQueryResponsePayload, IsFailedItem, IsParcel};
 ghost use Rattle.ttlv_vectors.specs.Laws.{ChosensComeBack, FailedItemsComeBack, ParcelsComeBack};
 
 use crate::chosen::{Address, Chosen, Count, Label, Line, Named, Place, Said, Word};
 use crate::leaves::{Contents, Kind, Moments, Numbers, OptionalContents};
 use crate::parcel::{Note, Parcel};
 use crate::query::{
-    ApplicationNamespace, FailedItem, LocateRequestPayload, MaximumItems, ObjectType, Operation,
-    QueryResponsePayload, ResultReason, ResultStatus, TextAttribute,
+    ApplicationNamespace, FailedItem, LocateRequestPayload, MaximumItems, ObjectType,
+    QueryResponsePayload, ResultStatus, TextAttribute,
 };
 use kmip_ttlv::laws::{Message, Sound, agreeing_values_come_back, is_absent_or_whole, is_whole};
 use std::alloc::Allocator;
@@ -64,13 +64,11 @@ pub fn equal_values<A: Allocator>()
     ensures maximum_items { AreEqual maximum_items_value ⟦<MaximumItems as PartialEq>⟧.eq }
     ensures text_attribute { AreEqual text_attribute_value ⟦<TextAttribute<A> as PartialEq>⟧.eq }
     ensures locate_request_payload { AreEqual read_locate_request_payload ⟦<LocateRequestPayload<A> as PartialEq>⟧.eq }
-    ensures operation { ReturnsEqual written_operation read_operation ⟦<Operation as PartialEq>⟧.eq }
     ensures object_type { AreEqual object_type_value ⟦<ObjectType as PartialEq>⟧.eq }
     ensures application_namespace { AreEqual application_namespace_value ⟦<ApplicationNamespace<A> as PartialEq>⟧.eq }
-    ensures query_response_payload { ReturnsEqual returned_query_response_payload read_query_response_payload ⟦<QueryResponsePayload<A> as PartialEq>⟧.eq }
-    ensures result_reason { ReturnsEqual written_result_reason read_result_reason ⟦<ResultReason as PartialEq>⟧.eq }
+    ensures query_response_payload { AreEqual read_query_response_payload ⟦<QueryResponsePayload<A> as PartialEq>⟧.eq }
     ensures result_status { AreEqual result_status_value ⟦<ResultStatus as PartialEq>⟧.eq }
-    ensures failed_item { ReturnsEqual returned_failed_item read_failed_item ⟦<FailedItem<A> as PartialEq>⟧.eq }
+    ensures failed_item { AreEqual read_failed_item ⟦<FailedItem<A> as PartialEq>⟧.eq }
     ensures note { AreEqual note_value ⟦<Note<A> as PartialEq>⟧.eq }
     ensures parcel { AreEqual read_parcel ⟦<Parcel<A> as PartialEq>⟧.eq }
 {}
@@ -185,27 +183,11 @@ impl<A: Allocator> Sound for LocateRequestPayload<A> {
     }
 }
 
-impl Sound for Operation {
-    ghost IsSound = { IsOperation };
-
-    fn is_sound(&self) -> bool {
-        self.number().is_sound()
-    }
-}
-
 impl<A: Allocator> Sound for QueryResponsePayload<A> {
     ghost IsSound = { IsQueryResponsePayload };
 
     fn is_sound(&self) -> bool {
         self.operations.is_sound()
-    }
-}
-
-impl Sound for ResultReason {
-    ghost IsSound = { IsResultReason };
-
-    fn is_sound(&self) -> bool {
-        self.number().is_sound()
     }
 }
 

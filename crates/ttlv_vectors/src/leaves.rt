@@ -7,7 +7,7 @@ ghost use Rattle.ttlv_vectors.specs.Leaves.{numbers_form, numbers_value, moments
 use kmip_ttlv::messages::writing;
 use kmip_ttlv::reader;
 use kmip_ttlv::shape::Serialize;
-use kmip_ttlv::visit::Visitor;
+use kmip_ttlv::visit::{Leaf, Visitor};
 use std::alloc::{AllocError, Allocator, Global};
 
 /// Numbers with a sign.
@@ -23,10 +23,10 @@ impl Serialize for Numbers {
     ghost stated = { numbers_value };
 
     fn visit<V: Visitor>(&self, visitor: &mut V) -> Result<(), AllocError> {
-        writing::begin_struct(visitor, "0x540001")?;
-        writing::integer(visitor, "Transparent:0x540002", self.count)?;
-        writing::long_integer(visitor, "Transparent:0x540003", self.long)?;
-        writing::end_struct(visitor, "0x540001")?;
+        writing::begin_structure(visitor, 0x540001)?;
+        writing::tagged(visitor, 0x540002, Leaf::I32(self.count))?;
+        writing::tagged(visitor, 0x540003, Leaf::I64(self.long))?;
+        writing::end_structure(visitor, 0x540001)?;
         Ok(())
     }
 }
@@ -46,10 +46,9 @@ impl<A: Allocator + Copy> reader::ReadStructure<A> for Numbers {
 
     const DENIES_UNKNOWN: bool = false;
 
-    #[tactic(auto, unfolding(kmip_ttlv_types::specs::Digits::six_digits))]
     fn has_form() {}
 
-    #[tactic(auto, unfolding(kmip_ttlv_types::specs::Digits::six_digits, crate::specs::Leaves::numbers_value))]
+    #[tactic(auto, unfolding(crate::specs::Leaves::numbers_value))]
     fn from_fields(fields: (i32, i64)) -> Self {
         let (count, long) = fields;
         Numbers { count, long }
@@ -90,11 +89,11 @@ impl Serialize for Moments {
     ghost stated = { moments_value };
 
     fn visit<V: Visitor>(&self, visitor: &mut V) -> Result<(), AllocError> {
-        writing::begin_struct(visitor, "0x540009")?;
-        writing::date_time(visitor, "Transparent:0x540004", self.date)?;
-        writing::boolean(visitor, "Transparent:0x540005", self.truth)?;
-        writing::interval(visitor, "Transparent:0x540006", self.seconds)?;
-        writing::end_struct(visitor, "0x540009")?;
+        writing::begin_structure(visitor, 0x540009)?;
+        writing::tagged(visitor, 0x540004, Leaf::DateTime(self.date))?;
+        writing::tagged(visitor, 0x540005, Leaf::Bool(self.truth))?;
+        writing::tagged(visitor, 0x540006, Leaf::Interval(self.seconds))?;
+        writing::end_structure(visitor, 0x540009)?;
         Ok(())
     }
 }
@@ -118,10 +117,9 @@ impl<A: Allocator + Copy> reader::ReadStructure<A> for Moments {
 
     const DENIES_UNKNOWN: bool = false;
 
-    #[tactic(auto, unfolding(kmip_ttlv_types::specs::Digits::six_digits))]
     fn has_form() {}
 
-    #[tactic(auto, unfolding(kmip_ttlv_types::specs::Digits::six_digits, crate::specs::Leaves::moments_value))]
+    #[tactic(auto, unfolding(crate::specs::Leaves::moments_value))]
     fn from_fields(fields: (reader::DateTime, bool, reader::Interval)) -> Self {
         let (date, truth, seconds) = fields;
         Moments {
@@ -167,11 +165,11 @@ impl<B: Allocator> Serialize for Contents<B> {
     ghost stated = { contents_value };
 
     fn visit<V: Visitor>(&self, visitor: &mut V) -> Result<(), AllocError> {
-        writing::begin_struct(visitor, "0x540020")?;
-        writing::string(visitor, "Transparent:0x540021", &self.text)?;
-        writing::bytes(visitor, "Transparent:0x540022", &self.bytes)?;
-        writing::big_integer_bytes(visitor, "Transparent:0x540023", &self.big)?;
-        writing::end_struct(visitor, "0x540020")?;
+        writing::begin_structure(visitor, 0x540020)?;
+        writing::string(visitor, 0x540021, &self.text)?;
+        writing::bytes(visitor, 0x540022, &self.bytes)?;
+        writing::big_integer_bytes(visitor, 0x540023, &self.big)?;
+        writing::end_structure(visitor, 0x540020)?;
         Ok(())
     }
 }
@@ -195,10 +193,9 @@ impl<A: Allocator + Copy> reader::ReadStructure<A> for Contents<A> {
 
     const DENIES_UNKNOWN: bool = false;
 
-    #[tactic(auto, unfolding(kmip_ttlv_types::specs::Digits::six_digits))]
     fn has_form() {}
 
-    #[tactic(auto, unfolding(kmip_ttlv_types::specs::Digits::six_digits, crate::specs::Leaves::contents_value))]
+    #[tactic(auto, unfolding(crate::specs::Leaves::contents_value))]
     fn from_fields(fields: (String<A>, Vec<u8, A>, reader::BigInteger<A>)) -> Self {
         let (text, bytes, big) = fields;
         Contents {
@@ -248,13 +245,13 @@ impl<B: Allocator> Serialize for OptionalContents<B> {
     ghost stated = { written_optional_contents };
 
     fn visit<V: Visitor>(&self, visitor: &mut V) -> Result<(), AllocError> {
-        writing::begin_struct(visitor, "0x540030")?;
-        writing::optional_boolean(visitor, "Transparent:0x540005", &self.truth)?;
-        writing::optional_interval(visitor, "Transparent:0x540006", &self.seconds)?;
-        writing::optional_text_string(visitor, "Transparent:0x540021", &self.text)?;
-        writing::optional_byte_string(visitor, "Transparent:0x540022", &self.bytes)?;
-        writing::optional_big_integer(visitor, "Transparent:0x540023", &self.big)?;
-        writing::end_struct(visitor, "0x540030")?;
+        writing::begin_structure(visitor, 0x540030)?;
+        writing::optional_boolean(visitor, 0x540005, &self.truth)?;
+        writing::optional_interval(visitor, 0x540006, &self.seconds)?;
+        writing::optional_text_string(visitor, 0x540021, &self.text)?;
+        writing::optional_byte_string(visitor, 0x540022, &self.bytes)?;
+        writing::optional_big_integer(visitor, 0x540023, &self.big)?;
+        writing::end_structure(visitor, 0x540030)?;
         Ok(())
     }
 }
@@ -280,10 +277,9 @@ impl<A: Allocator + Copy> reader::ReadStructure<A> for OptionalContents<A> {
 
     const DENIES_UNKNOWN: bool = false;
 
-    #[tactic(auto, unfolding(kmip_ttlv_types::specs::Digits::six_digits))]
     fn has_form() {}
 
-    #[tactic(auto, unfolding(kmip_ttlv_types::specs::Digits::six_digits, crate::specs::Leaves::read_optional_contents))]
+    #[tactic(auto, unfolding(crate::specs::Leaves::read_optional_contents))]
     fn from_fields(
         fields: (
             Option<bool>,
@@ -377,7 +373,7 @@ impl<A: Allocator + Copy> reader::ReadItem<A> for Kind {
 
     ghost plain = { (refl, refl) };
 
-    #[tactic(auto, unfolding(kmip_ttlv_types::specs::Digits::six_digits, crate::specs::Leaves::kind_value))]
+    #[tactic(auto, unfolding(crate::specs::Leaves::kind_value))]
     fn read_item<'b>(
         scope: &reader::Scope<'b, A>,
         cursor: &mut reader::Cursor<'b, A>,

@@ -1,12 +1,11 @@
 //! Vectors of the standard and of our own for the crate `kmip_ttlv`, as tests, and the types that they are
 //! read into and written from. The types show how a user implements `Serialize` and `Deserialize` and
 //! proves their laws. Reading by other shapes is tested in reading_vectors, printing in
-//! printing_vectors, and the low-level calls in types_vectors.
+//! printing_vectors, the low-level calls in types_vectors, and KMIP's messages in message_vectors.
 //!
 //! `message` has a part of every kind, `leaves` the leaves, `chosen` choices, `query` sequences that may be empty and open
 //! Enumerations, and `parcel` structures on the heap: these are what `codegen/codegen` writes of `types.table`.
-//! `numbers` has the parts that are written by hand, `choice` and `samples` types with a shape. `key_gets`, `key_messages`,
-//! `object_rereads` and `registering` are tests of the crates create_destroy and kmip_messages.
+//! `numbers` has the parts that are written by hand, `choice` and `samples` types with a shape.
 #![tactic(auto)]
 
 #[cfg(test)]
@@ -18,10 +17,6 @@ pub mod chosen;
 pub mod data;
 #[cfg(test)]
 mod get_attributes;
-#[cfg(test)]
-mod key_gets;
-#[cfg(test)]
-mod key_messages;
 pub mod laws;
 pub mod leaves;
 #[cfg(test)]
@@ -30,8 +25,6 @@ pub mod message;
 #[cfg(test)]
 mod nesting;
 pub mod numbers;
-#[cfg(test)]
-mod object_rereads;
 pub mod parcel;
 #[cfg(test)]
 mod parcels;
@@ -43,13 +36,9 @@ pub mod query;
 #[cfg(test)]
 mod reading;
 #[cfg(test)]
-mod registering;
-#[cfg(test)]
 mod request;
 #[cfg(test)]
 mod requesting;
-#[cfg(test)]
-mod rereads;
 pub mod samples;
 #[cfg(test)]
 mod writes;

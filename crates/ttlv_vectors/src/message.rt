@@ -38,7 +38,7 @@ impl<B: Allocator> Serialize for Every<B> {
     ghost stated = { written_every };
 
     fn visit<V: Visitor>(&self, visitor: &mut V) -> Result<(), AllocError> {
-        writing::begin_struct(visitor, "0x540060")?;
+        writing::begin_structure(visitor, 0x540060)?;
         writing::unit_variant(visitor, "0x540061", "0x00000001")?;
         self.kind.visit(visitor)?;
         self.numbers.visit(visitor)?;
@@ -47,7 +47,7 @@ impl<B: Allocator> Serialize for Every<B> {
         writing::option(visitor, &self.optional_contents)?;
         self.reasons.visit(visitor)?;
         writing::several(visitor, &self.contents)?;
-        writing::end_struct(visitor, "0x540060")?;
+        writing::end_structure(visitor, 0x540060)?;
         Ok(())
     }
 }
@@ -78,10 +78,9 @@ impl<A: Allocator + Copy> reader::ReadStructure<A> for Every<A> {
 
     const DENIES_UNKNOWN: bool = false;
 
-    #[tactic(auto, unfolding(kmip_ttlv_types::specs::Digits::six_digits))]
     fn has_form() {}
 
-    #[tactic(auto, unfolding(kmip_ttlv_types::specs::Digits::six_digits, crate::specs::Messages::read_every))]
+    #[tactic(auto, unfolding(crate::specs::Messages::read_every))]
     fn from_fields(
         fields: (
             EveryConstant,

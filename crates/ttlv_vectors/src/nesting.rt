@@ -50,11 +50,62 @@ fn is_made_again(alloc: Global, data: &Data) -> bool {
     matches!(&data.to_data(alloc), Ok(again) if again == data)
 }
 
+// Whether a value of this depth is written as its bytes by each call.
+fn is_right(alloc: Global, depth: u32) -> Result<bool, Fail> {
+    let text = nested_text(alloc, depth)?;
+    let data = nested(alloc, depth)?;
+    Ok(is_written(alloc, &data, text.as_str()) && is_made_again(alloc, &data))
+}
+
+// The last have 1,016 bytes, 1,024, 1,032 and more.
 #[test]
 fn values_nested_deep(rt: HostRuntime) -> Result<(), Fail> {
-    let text = nested_text(rt.alloc(), 64)?;
-    let data = nested(rt.alloc(), 64)?;
-    let is_right = is_written(rt.alloc(), &data, text.as_str()) && is_made_again(rt.alloc(), &data);
-    assert!(rt; is_right);
+    for depth in [0, 1, 16, 17, 64, 125, 126, 127, 600] {
+        let is_right = is_right(rt.alloc(), depth)?;
+        assert!(rt; is_right, "{depth}");
+    }
+    Ok(())
+}
+
+// A structure of a byte string of this length, all sevens.
+fn sevens(alloc: Global, len: usize) -> Result<Data, AllocError> {
+    let mut bytes = Vec::new(alloc);
+    bytes.resize(len, 7)?;
+    let inner = Box::new(alloc, Data::Bytes(bytes))?;
+    let mut fields = Vec::new(alloc);
+    let name = "Transparent:0xAABBCC";
+    fields.push(Data::Newtype { name, inner })?;
+    let name = "0xBBBBBB";
+    Ok(Data::Struct { name, fields })
+}
+
+// Its bytes in hexadecimal: a byte string is filled up with zeros to a multiple of eight.
+fn sevens_text(alloc: Global, len: usize) -> Result<String, Fail> {
+    let filling = (8 - len % 8) % 8;
+    let mut text = String::new(alloc);
+    write!(
+        text,
+        "BBBBBB01{:08X}AABBCC08{len:08X}",
+        len.wrapping_add(filling).wrapping_add(8)
+    )?;
+    for _ in 0..len {
+        text.push_str("07")?;
+    }
+    for _ in 0..filling {
+        text.push_str("00")?;
+    }
+    Ok(text)
+}
+
+#[test]
+fn byte_strings_of_many_lengths(rt: HostRuntime) -> Result<(), Fail> {
+    for len in [
+        0, 1, 7, 8, 9, 996, 1_000, 1_001, 1_007, 1_008, 1_009, 4_096, 4_097,
+    ] {
+        let text = sevens_text(rt.alloc(), len)?;
+        let data = sevens(rt.alloc(), len)?;
+        let is_right = is_written(rt.alloc(), &data, text.as_str());
+        assert!(rt; is_right, "{len}");
+    }
     Ok(())
 }

@@ -13,7 +13,7 @@ use kmip_ttlv::reader::{
     read_message, read_structure,
 };
 use kmip_ttlv::shape::{Decode, Serialize};
-use kmip_ttlv::visit::Visitor;
+use kmip_ttlv::visit::{self, Visitor};
 use std::alloc::{AllocError, Allocator, Global};
 
 /// Numbers, each of which may be absent.
@@ -32,11 +32,11 @@ impl Serialize for OptionalNumbers {
 
     #[tactic(auto, using(kmip_ttlv_base::proofs::Visiting::visited_joined), unfolding(crate::specs::Numbers::written_optional_numbers))]
     fn visit<V: Visitor>(&self, visitor: &mut V) -> Result<(), AllocError> {
-        writing::begin_struct(visitor, "0x540010")?;
-        writing::optional_integer(visitor, "Transparent:0x540002", &self.count)?;
-        writing::optional_long_integer(visitor, "Transparent:0x540003", &self.long)?;
-        writing::optional_date_time(visitor, "Transparent:0x540004", &self.date)?;
-        writing::end_struct(visitor, "0x540010")?;
+        writing::begin_structure(visitor, 0x540010)?;
+        writing::optional_integer(visitor, 0x540002, &self.count)?;
+        writing::optional_long_integer(visitor, 0x540003, &self.long)?;
+        writing::optional_date_time(visitor, 0x540004, &self.date)?;
+        writing::end_structure(visitor, 0x540010)?;
         Ok(())
     }
 }
@@ -60,10 +60,9 @@ impl<A: Allocator + Copy> ReadStructure<A> for OptionalNumbers {
 
     const DENIES_UNKNOWN: bool = false;
 
-    #[tactic(auto, unfolding(kmip_ttlv_types::specs::Digits::six_digits))]
     fn has_form() {}
 
-    #[tactic(auto, unfolding(kmip_ttlv_types::specs::Digits::six_digits, crate::specs::Numbers::read_optional_numbers))]
+    #[tactic(auto, unfolding(crate::specs::Numbers::read_optional_numbers))]
     fn from_fields(fields: (Option<i32>, Option<i64>, Option<DateTime>)) -> Self {
         let (count, long, date) = fields;
         OptionalNumbers {
@@ -117,10 +116,10 @@ impl Serialize for Reasons {
 
     #[tactic(auto, using(kmip_ttlv_base::proofs::Visiting::visited_joined), unfolding(crate::specs::Numbers::written_reasons))]
     fn visit<V: Visitor>(&self, visitor: &mut V) -> Result<(), AllocError> {
-        writing::begin_struct(visitor, "0x540015")?;
-        writing::enumeration(visitor, "Transparent:0x540007", self.first)?;
-        writing::optional_enumeration(visitor, "Transparent:0x540008", &self.second)?;
-        writing::end_struct(visitor, "0x540015")?;
+        writing::begin_structure(visitor, 0x540015)?;
+        writing::tagged(visitor, 0x540007, visit::Leaf::U32(self.first))?;
+        writing::optional_enumeration(visitor, 0x540008, &self.second)?;
+        writing::end_structure(visitor, 0x540015)?;
         Ok(())
     }
 }
@@ -140,10 +139,9 @@ impl<A: Allocator + Copy> ReadStructure<A> for Reasons {
 
     const DENIES_UNKNOWN: bool = false;
 
-    #[tactic(auto, unfolding(kmip_ttlv_types::specs::Digits::six_digits))]
     fn has_form() {}
 
-    #[tactic(auto, unfolding(kmip_ttlv_types::specs::Digits::six_digits, crate::specs::Numbers::read_reasons))]
+    #[tactic(auto, unfolding(crate::specs::Numbers::read_reasons))]
     fn from_fields(fields: (u32, Option<u32>)) -> Self {
         let (first, second) = fields;
         Reasons { first, second }
@@ -193,11 +191,11 @@ impl<B: Allocator> Serialize for Named<B> {
 
     #[tactic(auto, unfolding(crate::specs::Numbers::named_value))]
     fn visit<V: Visitor>(&self, visitor: &mut V) -> Result<(), AllocError> {
-        writing::begin_struct(visitor, "0x540070")?;
-        writing::text_string(visitor, "Transparent:0x540042", self.name.as_str())?;
-        writing::integer(visitor, "Transparent:0x540002", self.count)?;
-        writing::date_time(visitor, "Transparent:0x540004", self.date)?;
-        writing::end_struct(visitor, "0x540070")?;
+        writing::begin_structure(visitor, 0x540070)?;
+        writing::tagged(visitor, 0x540042, visit::Leaf::Text(self.name.as_str()))?;
+        writing::tagged(visitor, 0x540002, visit::Leaf::I32(self.count))?;
+        writing::tagged(visitor, 0x540004, visit::Leaf::DateTime(self.date))?;
+        writing::end_structure(visitor, 0x540070)?;
         Ok(())
     }
 }
@@ -221,10 +219,9 @@ impl<A: Allocator + Copy> ReadStructure<A> for Named<A> {
 
     const DENIES_UNKNOWN: bool = false;
 
-    #[tactic(auto, unfolding(kmip_ttlv_types::specs::Digits::six_digits))]
     fn has_form() {}
 
-    #[tactic(auto, unfolding(kmip_ttlv_types::specs::Digits::six_digits, crate::specs::Numbers::named_value))]
+    #[tactic(auto, unfolding(crate::specs::Numbers::named_value))]
     fn from_fields(fields: (String<A>, i32, DateTime)) -> Self {
         let (name, count, date) = fields;
         Named {
@@ -267,14 +264,14 @@ impl Serialize for Many {
     ghost stated = { many_value };
 
     fn visit<V: Visitor>(&self, visitor: &mut V) -> Result<(), AllocError> {
-        writing::begin_struct(visitor, "0x540080")?;
-        writing::integer(visitor, "Transparent:0x540002", self.count)?;
-        writing::integer(visitor, "Transparent:0x540081", self.other)?;
-        writing::long_integer(visitor, "Transparent:0x540003", self.long)?;
-        writing::date_time(visitor, "Transparent:0x540004", self.date)?;
-        writing::boolean(visitor, "Transparent:0x540005", self.truth)?;
-        writing::interval(visitor, "Transparent:0x540006", self.seconds)?;
-        writing::end_struct(visitor, "0x540080")?;
+        writing::begin_structure(visitor, 0x540080)?;
+        writing::tagged(visitor, 0x540002, visit::Leaf::I32(self.count))?;
+        writing::tagged(visitor, 0x540081, visit::Leaf::I32(self.other))?;
+        writing::tagged(visitor, 0x540003, visit::Leaf::I64(self.long))?;
+        writing::tagged(visitor, 0x540004, visit::Leaf::DateTime(self.date))?;
+        writing::tagged(visitor, 0x540005, visit::Leaf::Bool(self.truth))?;
+        writing::tagged(visitor, 0x540006, visit::Leaf::Interval(self.seconds))?;
+        writing::end_structure(visitor, 0x540080)?;
         Ok(())
     }
 }
@@ -300,10 +297,9 @@ impl<A: Allocator + Copy> ReadStructure<A> for Many {
 
     const DENIES_UNKNOWN: bool = false;
 
-    #[tactic(auto, unfolding(kmip_ttlv_types::specs::Digits::six_digits))]
     fn has_form() {}
 
-    #[tactic(auto, unfolding(kmip_ttlv_types::specs::Digits::six_digits, crate::specs::Numbers::many_value))]
+    #[tactic(auto, unfolding(crate::specs::Numbers::many_value))]
     fn from_fields(fields: (i32, i32, i64, DateTime, (bool, Interval))) -> Self {
         let (count, other, long, date, (truth, seconds)) = fields;
         Many {

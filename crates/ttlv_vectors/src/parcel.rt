@@ -24,9 +24,9 @@ impl<B: Allocator> Serialize for Note<B> {
 
     #[tactic(auto, unfolding(crate::specs::Parcels::note_value))]
     fn visit<V: Visitor>(&self, visitor: &mut V) -> Result<(), AllocError> {
-        writing::begin_struct(visitor, "0x540081")?;
-        writing::string(visitor, "Transparent:0x540082", &self.text)?;
-        writing::end_struct(visitor, "0x540081")?;
+        writing::begin_structure(visitor, 0x540081)?;
+        writing::string(visitor, 0x540082, &self.text)?;
+        writing::end_structure(visitor, 0x540081)?;
         Ok(())
     }
 }
@@ -46,10 +46,9 @@ impl<A: Allocator + Copy> reader::ReadStructure<A> for Note<A> {
 
     const DENIES_UNKNOWN: bool = false;
 
-    #[tactic(auto, unfolding(kmip_ttlv_types::specs::Digits::six_digits))]
     fn has_form() {}
 
-    #[tactic(auto, unfolding(kmip_ttlv_types::specs::Digits::six_digits, crate::specs::Parcels::note_value))]
+    #[tactic(auto, unfolding(crate::specs::Parcels::note_value))]
     fn from_fields(fields: (String<A>,)) -> Self {
         let (text,) = fields;
         Note { text }
@@ -91,11 +90,11 @@ impl<B: Allocator> Serialize for Parcel<B> {
     ghost stated = { written_parcel };
 
     fn visit<V: Visitor>(&self, visitor: &mut V) -> Result<(), AllocError> {
-        writing::begin_struct(visitor, "0x540080")?;
+        writing::begin_structure(visitor, 0x540080)?;
         self.moments.visit(visitor)?;
         writing::option(visitor, &self.contents)?;
         writing::option(visitor, &self.note)?;
-        writing::end_struct(visitor, "0x540080")?;
+        writing::end_structure(visitor, 0x540080)?;
         Ok(())
     }
 }
@@ -119,10 +118,9 @@ impl<A: Allocator + Copy> reader::ReadStructure<A> for Parcel<A> {
 
     const DENIES_UNKNOWN: bool = false;
 
-    #[tactic(auto, unfolding(kmip_ttlv_types::specs::Digits::six_digits))]
     fn has_form() {}
 
-    #[tactic(auto, unfolding(kmip_ttlv_types::specs::Digits::six_digits, crate::specs::Parcels::read_parcel))]
+    #[tactic(auto, unfolding(crate::specs::Parcels::read_parcel))]
     fn from_fields(
         fields: (
             Boxed<Moments, A>,

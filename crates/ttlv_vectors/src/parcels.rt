@@ -3,10 +3,10 @@
 use crate::bytes::{CONTENTS, MOMENTS, is_both_ways, joined};
 use crate::leaves::{Contents, Moments};
 use crate::parcel::{Note, Parcel};
-use crate::rereads::comes_back_in;
 use kmip_ttlv::Boxed;
 use kmip_ttlv::laws::Sound;
 use kmip_ttlv::memory::BoundedAllocator;
+use sample_shapes::rereads::comes_back_in;
 use std::alloc::{AllocError, Allocator, Global};
 use std::test::Fail;
 

@@ -5,7 +5,7 @@ use crate::bytes::{is_both_ways, is_written, joined};
 use crate::low_level::is_text;
 use crate::query::{
     ApplicationNamespace, FailedItem, LocateRequestPayload, MaximumItems, ObjectType, Operation,
-    QueryResponsePayload, ResultReason, ResultStatus, TextAttribute,
+    QueryResponsePayload, ResultReason, ResultStatus, TextAttribute, operation, result_reason,
 };
 use kmip_ttlv::error::ErrorKind;
 use kmip_ttlv::reader::{ReadStructure, read_message};
@@ -94,7 +94,7 @@ const ANSWERS: [AnswerRow; 4] = [
         ["42007C0100000000", "", "", "", "", "", ""],
     ),
     (
-        &[Operation::Get],
+        &[operation::GET],
         &[],
         None,
         0,
@@ -108,7 +108,7 @@ const ANSWERS: [AnswerRow; 4] = [
         ["42007C0100000040", KEY, SSL, SSL, SSL, "", ""],
     ),
     (
-        &[Operation::Locate, Operation::Get, Operation::Query],
+        &[operation::LOCATE, operation::GET, operation::QUERY],
         &[ObjectType::SymmetricKey],
         Some("ACME"),
         1,
@@ -254,19 +254,21 @@ type FailedRow = (
 
 const FAILURES: [FailedRow; 3] = [
     (
-        Operation::Other(9),
-        Some(ResultReason::Other(0x8000_0001)),
+        Operation { number: 9 },
+        Some(ResultReason {
+            number: 0x8000_0001,
+        }),
         Some("No"),
         ["42000F0100000040", CHECK, FAILED, VENDORS, NO],
     ),
     (
-        Operation::Query,
-        Some(ResultReason::GeneralFailure),
+        operation::QUERY,
+        Some(result_reason::GENERAL_FAILURE),
         None,
         ["42000F0100000030", QUERY, FAILED, GENERAL, ""],
     ),
     (
-        Operation::Get,
+        operation::GET,
         None,
         None,
         ["42000F0100000020", GET, FAILED, "", ""],
@@ -295,44 +297,11 @@ fn any_number_is_read_and_written(rt: HostRuntime) {
     }
 }
 
-// Whether an item of a number that has a name is written, and read as that.
-fn a_name_is_read(alloc: Global) -> bool {
-    let Ok(bytes) = &joined(alloc, &["42000F0100000020", LOCATE, FAILED]) else {
-        return false;
-    };
-    let item: FailedItem = FailedItem {
-        operation: Operation::Other(8),
-        status: ResultStatus::Failed,
-        reason: None,
-        message: None,
-    };
-    let found: kmip_ttlv::error::Result<FailedItem> = read_message(alloc, bytes);
-    is_written(alloc, &item, bytes)
-        && matches!(&found, Ok(item) if item.operation == Operation::Locate)
-}
-
 #[test]
-fn a_number_with_a_name_is_read_as_that(rt: HostRuntime) {
-    let is_right = a_name_is_read(rt.alloc());
-    assert!(rt; is_right);
-}
-
-// Numbers, and what they name.
-const NUMBERS: [(u32, Operation); 5] = [
-    (8, Operation::Locate),
-    (0x18, Operation::Query),
-    (0, Operation::Other(0)),
-    (9, Operation::Other(9)),
-    (u32::MAX, Operation::Other(u32::MAX)),
-];
-
-#[test]
-fn names_of_numbers(rt: HostRuntime) -> Result<(), Fail> {
-    for (number, operation) in NUMBERS {
-        assert!(rt; Operation::from_number(number) == operation, "{number}");
-        assert!(rt; operation.number() == number, "{number}");
-    }
-    Ok(())
+fn names_of_numbers(rt: HostRuntime) {
+    assert!(rt; operation::LOCATE.number == 8);
+    assert!(rt; operation::QUERY.number == 0x18);
+    assert!(rt; result_reason::GENERAL_FAILURE.number == 0x100);
 }
 
 // Whether a search with three attributes is read if the growth after so many fails, whether memory runs out, and whether one failed.

@@ -1,16 +1,13 @@
 // Written by codegen from types.table: change that, and run codegen/codegen.
 //! A search for objects, what a server can do, and what failed (KMIP 1.0, sections 4.8, 4.24 and 7).
 
-ghost use Rattle.std.specs.Prelude.{◌≡◌, ◌==◌, refl, Some, codes, false};
-ghost use Rattle.std.proofs.Common.{rules};
-ghost use Rattle.std.specs.Cmp.Rules.{comparing};
-ghost use Rattle.std.specs.Ordering.{on};
-ghost use Rattle.ttlv_vectors.specs.Queries.{maximum_items_form, maximum_items_value, text_attribute_form, text_attribute_value, locate_request_payload_form, written_locate_request_payload, read_locate_request_payload, operation_form, written_operation, read_operation, operation_number, operation_read_number, object_type_form, object_type_value, object_type_number, object_type_variants, application_namespace_form, application_namespace_value, query_response_payload_form, written_query_response_payload, read_query_response_payload, result_reason_form, written_result_reason, read_result_reason, result_reason_number, result_reason_read_number, result_status_form, result_status_value, result_status_number, result_status_variants, failed_item_form, written_failed_item, read_failed_item};
+ghost use Rattle.std.specs.Prelude.{◌≡◌, refl, codes, false};
+ghost use Rattle.ttlv_vectors.specs.Queries.{maximum_items_form, maximum_items_value, text_attribute_form, text_attribute_value, locate_request_payload_form, written_locate_request_payload, read_locate_request_payload, object_type_form, object_type_value, object_type_number, object_type_variants, application_namespace_form, application_namespace_value, query_response_payload_form, written_query_response_payload, read_query_response_payload, result_status_form, result_status_value, result_status_number, result_status_variants, failed_item_form, written_failed_item, read_failed_item};
 
 use kmip_ttlv::messages::writing;
 use kmip_ttlv::shape::{Decode, Serialize};
-use kmip_ttlv::visit::Visitor;
-use kmip_ttlv::{error, reader};
+use kmip_ttlv::visit::{Leaf, Visitor};
+use kmip_ttlv::{Enumeration, error, reader};
 use std::alloc::{AllocError, Allocator, Global};
 
 /// How many objects are named at most.
@@ -24,7 +21,7 @@ impl Serialize for MaximumItems {
     ghost stated = { maximum_items_value };
 
     fn visit<V: Visitor>(&self, visitor: &mut V) -> Result<(), AllocError> {
-        writing::integer(visitor, "Transparent:0x42004F", self.count)?;
+        writing::tagged(visitor, 0x42004F, Leaf::I32(self.count))?;
         Ok(())
     }
 }
@@ -36,7 +33,6 @@ impl<A: Allocator + Copy> reader::ReadItem<A> for MaximumItems {
 
     ghost plain = { (refl, refl) };
 
-    #[tactic(auto, unfolding(kmip_ttlv_types::specs::Digits::six_digits))]
     fn read_item<'b>(
         scope: &reader::Scope<'b, A>,
         cursor: &mut reader::Cursor<'b, A>,
@@ -61,10 +57,10 @@ impl<B: Allocator> Serialize for TextAttribute<B> {
 
     #[tactic(auto, unfolding(crate::specs::Queries::text_attribute_value))]
     fn visit<V: Visitor>(&self, visitor: &mut V) -> Result<(), AllocError> {
-        writing::begin_struct(visitor, "0x420008")?;
-        writing::string(visitor, "Transparent:0x42000A", &self.name)?;
-        writing::string(visitor, "Transparent:0x42000B", &self.value)?;
-        writing::end_struct(visitor, "0x420008")?;
+        writing::begin_structure(visitor, 0x420008)?;
+        writing::string(visitor, 0x42000A, &self.name)?;
+        writing::string(visitor, 0x42000B, &self.value)?;
+        writing::end_structure(visitor, 0x420008)?;
         Ok(())
     }
 }
@@ -87,10 +83,9 @@ impl<A: Allocator + Copy> reader::ReadStructure<A> for TextAttribute<A> {
 
     const DENIES_UNKNOWN: bool = false;
 
-    #[tactic(auto, unfolding(kmip_ttlv_types::specs::Digits::six_digits))]
     fn has_form() {}
 
-    #[tactic(auto, unfolding(kmip_ttlv_types::specs::Digits::six_digits, crate::specs::Queries::text_attribute_value))]
+    #[tactic(auto, unfolding(crate::specs::Queries::text_attribute_value))]
     fn from_fields(fields: (String<A>, String<A>)) -> Self {
         let (name, value) = fields;
         TextAttribute { name, value }
@@ -130,10 +125,10 @@ impl<B: Allocator> Serialize for LocateRequestPayload<B> {
     ghost stated = { written_locate_request_payload };
 
     fn visit<V: Visitor>(&self, visitor: &mut V) -> Result<(), AllocError> {
-        writing::begin_struct(visitor, "0x420079")?;
+        writing::begin_structure(visitor, 0x420079)?;
         writing::option(visitor, &self.maximum_items)?;
         writing::several(visitor, &self.attributes)?;
-        writing::end_struct(visitor, "0x420079")?;
+        writing::end_structure(visitor, 0x420079)?;
         Ok(())
     }
 }
@@ -156,10 +151,9 @@ impl<A: Allocator + Copy> reader::ReadStructure<A> for LocateRequestPayload<A> {
 
     const DENIES_UNKNOWN: bool = false;
 
-    #[tactic(auto, unfolding(kmip_ttlv_types::specs::Digits::six_digits))]
     fn has_form() {}
 
-    #[tactic(auto, unfolding(kmip_ttlv_types::specs::Digits::six_digits, crate::specs::Queries::read_locate_request_payload))]
+    #[tactic(auto, unfolding(crate::specs::Queries::read_locate_request_payload))]
     fn from_fields(fields: (Option<MaximumItems>, Vec<TextAttribute<A>, A>)) -> Self {
         let (maximum_items, attributes) = fields;
         LocateRequestPayload {
@@ -189,83 +183,18 @@ impl<A: Allocator + Copy> reader::ReadNested<A> for LocateRequestPayload<A> {
 }
 
 /// What a request asks for (KMIP 1.0, section 9.1.3.2.26).
-#[derive(Clone, Copy, Debug)]
-pub enum Operation {
+pub type Operation = Enumeration<0x42005C>;
+
+/// The numbers of `Operation` that have a name.
+pub mod operation {
+    use super::Operation;
+
     /// Objects are sought.
-    Locate,
+    pub const LOCATE: Operation = Operation { number: 0x00000008 };
     /// An object is to be got.
-    Get,
+    pub const GET: Operation = Operation { number: 0x0000000A };
     /// The server is to say what it can do.
-    Query,
-    /// Any other number. One that has a name is encoded as it is, and decoded by its name, to which it is equal.
-    Other(u32),
-}
-
-impl Operation {
-    /// Its number.
-    pub fn number(self) -> u32
-        ensures { result ≡ operation_number self }
-    {
-        match self {
-            Operation::Locate => 0x00000008,
-            Operation::Get => 0x0000000A,
-            Operation::Query => 0x00000018,
-            Operation::Other(number) => number,
-        }
-    }
-
-    /// The one of a number: by its name, if it has one.
-    pub fn from_number(number: u32) -> Operation
-        ensures { operation_read_number result ≡ Some number }
-    {
-        match number {
-            0x00000008 => Operation::Locate,
-            0x0000000A => Operation::Get,
-            0x00000018 => Operation::Query,
-            _ => Operation::Other(number),
-        }
-    }
-}
-
-/// By their numbers.
-impl PartialEq for Operation {
-    ghost eq = { on operation_number ◌==◌ };
-
-    ghost laws = { Prim.search (comparing, rules) };
-
-    fn eq(&self, other: &Operation) -> bool {
-        self.number() == other.number()
-    }
-}
-
-impl Eq for Operation {
-    ghost laws = { Prim.search (comparing, rules) };
-}
-
-impl Serialize for Operation {
-    ghost stated = { written_operation };
-
-    #[tactic(auto, unfolding(crate::specs::Queries::written_operation))]
-    fn visit<V: Visitor>(&self, visitor: &mut V) -> Result<(), AllocError> {
-        writing::enumeration(visitor, "Transparent:0x42005C", self.number())
-    }
-}
-
-impl<A: Allocator + Copy> reader::ReadItem<A> for Operation {
-    ghost form = { operation_form };
-
-    ghost value = { read_operation };
-
-    ghost plain = { (refl, refl) };
-
-    #[tactic(auto, unfolding(kmip_ttlv_types::specs::Digits::six_digits, crate::specs::Queries::read_operation))]
-    fn read_item<'b>(
-        scope: &reader::Scope<'b, A>,
-        cursor: &mut reader::Cursor<'b, A>,
-    ) -> reader::Step<Self, A> {
-        let number: u32 = cursor.wrapped_leaf(scope, 0x42005C)?;
-        Ok(Operation::from_number(number))
-    }
+    pub const QUERY: Operation = Operation { number: 0x00000018 };
 }
 
 /// What an object is (KMIP 1.0, section 9.1.3.2).
@@ -319,7 +248,7 @@ impl<A: Allocator + Copy> reader::ReadItem<A> for ObjectType {
 
     ghost plain = { (refl, refl) };
 
-    #[tactic(auto, unfolding(kmip_ttlv_types::specs::Digits::six_digits, crate::specs::Queries::object_type_value))]
+    #[tactic(auto, unfolding(crate::specs::Queries::object_type_value))]
     fn read_item<'b>(
         scope: &reader::Scope<'b, A>,
         cursor: &mut reader::Cursor<'b, A>,
@@ -340,7 +269,7 @@ impl<B: Allocator> Serialize for ApplicationNamespace<B> {
     ghost stated = { application_namespace_value };
 
     fn visit<V: Visitor>(&self, visitor: &mut V) -> Result<(), AllocError> {
-        writing::string(visitor, "Transparent:0x420003", &self.name)
+        writing::string(visitor, 0x420003, &self.name)
     }
 }
 
@@ -351,7 +280,6 @@ impl<A: Allocator + Copy> reader::ReadItem<A> for ApplicationNamespace<A> {
 
     ghost plain = { (refl, refl) };
 
-    #[tactic(auto, unfolding(kmip_ttlv_types::specs::Digits::six_digits))]
     fn read_item<'b>(
         scope: &reader::Scope<'b, A>,
         cursor: &mut reader::Cursor<'b, A>,
@@ -379,12 +307,12 @@ impl<B: Allocator> Serialize for QueryResponsePayload<B> {
     ghost stated = { written_query_response_payload };
 
     fn visit<V: Visitor>(&self, visitor: &mut V) -> Result<(), AllocError> {
-        writing::begin_struct(visitor, "0x42007C")?;
+        writing::begin_structure(visitor, 0x42007C)?;
         writing::several(visitor, &self.operations)?;
         writing::several(visitor, &self.object_types)?;
-        writing::optional_text_string(visitor, "Transparent:0x42009D", &self.vendor)?;
+        writing::optional_text_string(visitor, 0x42009D, &self.vendor)?;
         writing::several(visitor, &self.namespaces)?;
-        writing::end_struct(visitor, "0x42007C")?;
+        writing::end_structure(visitor, 0x42007C)?;
         Ok(())
     }
 }
@@ -409,10 +337,9 @@ impl<A: Allocator + Copy> reader::ReadStructure<A> for QueryResponsePayload<A> {
 
     const DENIES_UNKNOWN: bool = false;
 
-    #[tactic(auto, unfolding(kmip_ttlv_types::specs::Digits::six_digits))]
     fn has_form() {}
 
-    #[tactic(auto, unfolding(kmip_ttlv_types::specs::Digits::six_digits, crate::specs::Queries::read_query_response_payload))]
+    #[tactic(auto, unfolding(crate::specs::Queries::read_query_response_payload))]
     fn from_fields(
         fields: (
             Vec<Operation, A>,
@@ -451,83 +378,18 @@ impl<A: Allocator + Copy> reader::ReadNested<A> for QueryResponsePayload<A> {
 }
 
 /// Why an operation failed (KMIP 1.0, section 9.1.3.2).
-#[derive(Clone, Copy, Debug)]
-pub enum ResultReason {
+pub type ResultReason = Enumeration<0x42007E>;
+
+/// The numbers of `ResultReason` that have a name.
+pub mod result_reason {
+    use super::ResultReason;
+
     /// There is no such object.
-    ItemNotFound,
+    pub const ITEM_NOT_FOUND: ResultReason = ResultReason { number: 0x00000001 };
     /// The server doesn't have the operation.
-    OperationNotSupported,
+    pub const OPERATION_NOT_SUPPORTED: ResultReason = ResultReason { number: 0x00000005 };
     /// Anything that has no other reason.
-    GeneralFailure,
-    /// Any other number. One that has a name is encoded as it is, and decoded by its name, to which it is equal.
-    Other(u32),
-}
-
-impl ResultReason {
-    /// Its number.
-    pub fn number(self) -> u32
-        ensures { result ≡ result_reason_number self }
-    {
-        match self {
-            ResultReason::ItemNotFound => 0x00000001,
-            ResultReason::OperationNotSupported => 0x00000005,
-            ResultReason::GeneralFailure => 0x00000100,
-            ResultReason::Other(number) => number,
-        }
-    }
-
-    /// The one of a number: by its name, if it has one.
-    pub fn from_number(number: u32) -> ResultReason
-        ensures { result_reason_read_number result ≡ Some number }
-    {
-        match number {
-            0x00000001 => ResultReason::ItemNotFound,
-            0x00000005 => ResultReason::OperationNotSupported,
-            0x00000100 => ResultReason::GeneralFailure,
-            _ => ResultReason::Other(number),
-        }
-    }
-}
-
-/// By their numbers.
-impl PartialEq for ResultReason {
-    ghost eq = { on result_reason_number ◌==◌ };
-
-    ghost laws = { Prim.search (comparing, rules) };
-
-    fn eq(&self, other: &ResultReason) -> bool {
-        self.number() == other.number()
-    }
-}
-
-impl Eq for ResultReason {
-    ghost laws = { Prim.search (comparing, rules) };
-}
-
-impl Serialize for ResultReason {
-    ghost stated = { written_result_reason };
-
-    #[tactic(auto, unfolding(crate::specs::Queries::written_result_reason))]
-    fn visit<V: Visitor>(&self, visitor: &mut V) -> Result<(), AllocError> {
-        writing::enumeration(visitor, "Transparent:0x42007E", self.number())
-    }
-}
-
-impl<A: Allocator + Copy> reader::ReadItem<A> for ResultReason {
-    ghost form = { result_reason_form };
-
-    ghost value = { read_result_reason };
-
-    ghost plain = { (refl, refl) };
-
-    #[tactic(auto, unfolding(kmip_ttlv_types::specs::Digits::six_digits, crate::specs::Queries::read_result_reason))]
-    fn read_item<'b>(
-        scope: &reader::Scope<'b, A>,
-        cursor: &mut reader::Cursor<'b, A>,
-    ) -> reader::Step<Self, A> {
-        let number: u32 = cursor.wrapped_leaf(scope, 0x42007E)?;
-        Ok(ResultReason::from_number(number))
-    }
+    pub const GENERAL_FAILURE: ResultReason = ResultReason { number: 0x00000100 };
 }
 
 /// What became of an operation that didn't succeed (KMIP 1.0, section 9.1.3.2).
@@ -585,7 +447,7 @@ impl<A: Allocator + Copy> reader::ReadItem<A> for ResultStatus {
 
     ghost plain = { (refl, refl) };
 
-    #[tactic(auto, unfolding(kmip_ttlv_types::specs::Digits::six_digits, crate::specs::Queries::result_status_value))]
+    #[tactic(auto, unfolding(crate::specs::Queries::result_status_value))]
     fn read_item<'b>(
         scope: &reader::Scope<'b, A>,
         cursor: &mut reader::Cursor<'b, A>,
@@ -612,12 +474,12 @@ impl<B: Allocator> Serialize for FailedItem<B> {
     ghost stated = { written_failed_item };
 
     fn visit<V: Visitor>(&self, visitor: &mut V) -> Result<(), AllocError> {
-        writing::begin_struct(visitor, "0x42000F")?;
+        writing::begin_structure(visitor, 0x42000F)?;
         self.operation.visit(visitor)?;
         self.status.visit(visitor)?;
         writing::option(visitor, &self.reason)?;
-        writing::optional_text_string(visitor, "Transparent:0x42007D", &self.message)?;
-        writing::end_struct(visitor, "0x42000F")?;
+        writing::optional_text_string(visitor, 0x42007D, &self.message)?;
+        writing::end_structure(visitor, 0x42000F)?;
         Ok(())
     }
 }
@@ -642,10 +504,9 @@ impl<A: Allocator + Copy> reader::ReadStructure<A> for FailedItem<A> {
 
     const DENIES_UNKNOWN: bool = false;
 
-    #[tactic(auto, unfolding(kmip_ttlv_types::specs::Digits::six_digits))]
     fn has_form() {}
 
-    #[tactic(auto, unfolding(kmip_ttlv_types::specs::Digits::six_digits, crate::specs::Queries::read_failed_item))]
+    #[tactic(auto, unfolding(crate::specs::Queries::read_failed_item))]
     fn from_fields(
         fields: (
             Operation,

@@ -1,13 +1,15 @@
 //! Small types with their laws.
 
-ghost use Rattle.std.specs.Prelude.{◌≡◌, IfOk};
-ghost use Rattle.ttlv_vectors.specs.Samples.{single_form, read_single, written_single};
+ghost use Rattle.std.specs.Prelude.{◌≡◌, IfOk, codes};
+ghost use Rattle.kmip_ttlv.specs.Gives.{Gives};
+ghost use Rattle.kmip_ttlv.specs.Values.{view, views, struct_value};
+ghost use Rattle.ttlv_vectors.specs.Samples.{single_form, read_single, written_single, enclosed};
 
 use crate::data::number_of;
 use kmip_ttlv::laws::agreeing_values_come_back;
-use kmip_ttlv::parts::{begin_struct, end_struct, integer};
+use kmip_ttlv::parts::{begin_struct, begin_structure, end_struct, end_structure, integer, tagged};
 use kmip_ttlv::shape::{ByShape, Data, Deserialize, FieldShape, Serialize, Shape};
-use kmip_ttlv::visit::Visitor;
+use kmip_ttlv::visit::{Leaf, Visitor};
 use kmip_ttlv::{from_slice, to_vec};
 use std::alloc::{AllocError, Allocator};
 
@@ -25,6 +27,18 @@ impl Serialize for Single {
         integer(visitor, "Transparent:0xBBBBBB", self.number)?;
         end_struct(visitor, "0xAAAAAA")?;
         Ok(())
+    }
+}
+
+// The fields of the data that the shape gives.
+fn fields_of<A: Allocator>(value: &Data<A>) -> &Vec<Data<A>, A>
+    requires { Gives single_form (view value.now) }
+    ensures { view value.now ≡ struct_value (codes "0xAAAAAA") (views result.now.items) }
+{
+    match value {
+        Data::Struct { name: _, fields } => fields,
+        Data::Structure { tag: _, fields } => fields,
+        _ => unreachable!(),
     }
 }
 
@@ -49,12 +63,27 @@ impl<A: Allocator + Copy> Deserialize<A> for Single {
     }
 
     fn from_data(_alloc: A, value: &mut Data<A>) -> Result<Single, AllocError> {
-        let Data::Struct { name: _, fields } = &*value else {
-            unreachable!()
-        };
+        let fields = fields_of(&*value);
         Ok(Single {
             number: number_of(&fields[0]),
         })
+    }
+}
+
+/// A number in a structure, whose tags are parameters.
+#[derive(Clone, Copy, Debug, PartialEq, Eq)]
+pub struct Enclosed<const OUTER: u32, const INNER: u32> {
+    pub number: i32,
+}
+
+impl<const OUTER: u32, const INNER: u32> Serialize for Enclosed<OUTER, INNER> {
+    ghost stated = { λ s. enclosed OUTER INNER s.number };
+
+    fn visit<V: Visitor>(&self, visitor: &mut V) -> Result<(), AllocError> {
+        begin_structure(visitor, OUTER)?;
+        tagged(visitor, INNER, Leaf::I32(self.number))?;
+        end_structure(visitor, OUTER)?;
+        Ok(())
     }
 }
 

@@ -1,4 +1,4 @@
-//! How many writes a writer sees: they are the bytes of `to_vec`, or a beginning where it fails.
+//! How many writes a writer sees: they are the bytes of `to_vec`, or a beginning where it fails. And what memory they take.
 
 use crate::data::{newtype, tagged_number};
 use crate::request::CreateRequest;
@@ -87,6 +87,32 @@ fn contents(alloc: Global, count: u32) -> Result<Data, AllocError> {
 #[test]
 fn a_request_is_one_write(rt: HostRuntime) -> Result<(), Fail> {
     assert!(rt; writes_of(rt.alloc(), &REQUEST, 296) == Some(1));
+    Ok(())
+}
+
+// A message of up to 1,024 bytes is put together on the stack: the vector is all that memory is asked for.
+#[test]
+fn a_request_takes_memory_for_its_bytes_alone(rt: HostRuntime) -> Result<(), Fail> {
+    let memory = BoundedAllocator::in_blocks(rt.alloc(), usize::MAX);
+    let bytes = to_vec(&memory, &REQUEST)?;
+    assert!(rt;
+        bytes.len() == 296 && memory.asked() == 296,
+        "{}",
+        memory.asked()
+    );
+    Ok(())
+}
+
+#[test]
+fn a_written_request_takes_no_memory(rt: HostRuntime) -> Result<(), Fail> {
+    let memory = BoundedAllocator::in_blocks(rt.alloc(), usize::MAX);
+    let mut writer = Vec::new(rt.alloc());
+    to_writer(&memory, &REQUEST, &mut writer)?;
+    assert!(rt;
+        writer.len() == 296 && memory.asked() == 0,
+        "{}",
+        memory.asked()
+    );
     Ok(())
 }
 

@@ -3,7 +3,7 @@
 
 use crate::low_level::{are_bytes, is_text};
 use crate::request::CreateRequest;
-use crate::samples::{Single, there_and_back};
+use crate::samples::{Enclosed, Single, there_and_back};
 use kmip_ttlv::error::{Error, ErrorKind, ErrorLocation};
 use kmip_ttlv::ser::TtlvSerializer;
 use kmip_ttlv::shape::{Data, Serialize};
@@ -121,6 +121,19 @@ fn a_number_that_is_written_and_read_back(rt: HostRuntime) -> Result<(), Fail> {
         assert!(rt; comes_back(rt.alloc(), number), "{number}");
     }
     Ok(())
+}
+
+#[test]
+fn tags_that_are_parameters(rt: HostRuntime) {
+    let alloc = rt.alloc();
+    let text = "AAAAAA0100000010BBBBBB02000000040000000300000000";
+    let small = Enclosed::<0xAA_AAAA, 0xBB_BBBB> { number: 3 };
+    assert!(rt; value_is_written(alloc, &small, text));
+    let large = Enclosed::<0xFFAA_AAAA, 0x01BB_BBBB> { number: 3 };
+    assert!(rt; value_is_written(alloc, &large, text));
+    let zero = Enclosed::<0, 0xFF_FFFF> { number: -1 };
+    let text = "0000000100000010FFFFFF0200000004FFFFFFFF00000000";
+    assert!(rt; value_is_written(alloc, &zero, text));
 }
 
 // A request to create a key of 128 bits, of 296 bytes.

@@ -3,7 +3,7 @@
 use crate::file::{Message, Shown};
 use crate::tally::Tally;
 use kmip_ttlv_items::{Fault, FaultKind, FoundItem, find_fault, walk_items};
-use kmip_ttlv_json::{Hiding, JsonError, from_json, push_json};
+use kmip_ttlv_json::{Hiding, from_json, push_json};
 use kmip_ttlv_util::{CheckedError, LentTagMap, PrettyPrinter};
 use std::alloc::{AllocError, Global};
 use std::collections::HashMap;
@@ -193,12 +193,7 @@ fn json_of(alloc: Global, hiding: Hiding, bytes: &[u8]) -> Result<String, AllocE
 pub fn bytes_in(alloc: Global, json: &str) -> Result<String, AllocError> {
     match from_json(alloc, json) {
         Ok(bytes) => hex::encode_upper(alloc, bytes.as_slice()),
-        Err(error) => match error {
-            JsonError::NotJson { line, column } | JsonError::TooDeep { line, column } => {
-                format!(in alloc; "{}: line {line}, column {column}", error.words())
-            }
-            _ => String::from_str(alloc, error.words()),
-        },
+        Err(error) => format!(in alloc; "byte {}: {}", error.offset(), error.words()),
     }
 }
 

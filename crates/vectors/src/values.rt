@@ -130,6 +130,21 @@ fn named_of(alloc: Global, kind: &str, json: &Value, depth: u32) -> Option<Data>
     }
 }
 
+// The data under a tag by its number.
+#[cycle(data)]
+fn numbered_of(alloc: Global, kind: &str, json: &Value, depth: u32) -> Option<Data> {
+    let [number, inner] = items(json)? else {
+        return None;
+    };
+    let tag = u32::try_from(number.as_u64()?).ok()?;
+    if kind == "tagged" {
+        let inner = boxed(alloc, inner, depth)?;
+        return Some(Data::Tagged { tag, inner });
+    }
+    let fields = all_of(alloc, inner, depth)?;
+    Some(Data::Structure { tag, fields })
+}
+
 /// The data that JSON no deeper than this is, if it is a value.
 #[cycle(data)]
 pub fn data_of(alloc: Global, json: &Value, depth: u32) -> Option<Data> {
@@ -148,6 +163,7 @@ pub fn data_of(alloc: Global, json: &Value, depth: u32) -> Option<Data> {
         "sequence" => Some(Data::Seq(all_of(alloc, inner, depth - 1)?)),
         "variant" | "tuple" => variant_of(alloc, kind, inner, depth - 1),
         "structure" | "newtype" | "unit" => named_of(alloc, kind, inner, depth - 1),
+        "tagged" | "numbered" => numbered_of(alloc, kind, inner, depth - 1),
         _ => match inner {
             Value::String(text) => string_of(alloc, kind, text.as_str()),
             _ => number_of(kind, inner),

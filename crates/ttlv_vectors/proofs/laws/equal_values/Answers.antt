@@ -1,21 +1,21 @@
 -- Written by codegen from types.table: change that, and run codegen/codegen.
 -- Values of a type are equal if they stand for the same: each part is, and numbers tell apart the variants of an Enumeration.
 use Rattle.kmip_ttlv.specs.Boxes.{boxed}
-use Rattle.kmip_ttlv.specs.Values.{big_integer_value, boolean_value, bytes_value, interval_value, newtype_value, text_value}
-use Rattle.kmip_ttlv_laws.proofs.Boxes.{boxes_equal}
-use Rattle.kmip_ttlv_laws.proofs.Equal.{any_equal, apart, big_integers_equal, booleans_equal, bytes_equal, date_times_equal, found_same, in_unit, in_variant}
-use Rattle.kmip_ttlv_laws.proofs.Equal.{integers_equal, intervals_equal, last_equal, long_integers_equal, newtypes_equal, numbers_equal, options_equal}
-use Rattle.kmip_ttlv_laws.proofs.Equal.{options_same, others_equal, part_equal, row_of, structures_equal, texts_equal}
+use Rattle.kmip_ttlv.specs.Enumerations.{enumeration_value}
+use Rattle.kmip_ttlv.specs.MessageParts.{tagged}
+use Rattle.kmip_ttlv.specs.Values.{big_integer_value, boolean_value, bytes_value, interval_value, text_value}
+use Rattle.kmip_ttlv_parts.proofs.Boxes.{boxes_equal}
+use Rattle.kmip_ttlv_parts.proofs.Enumerations.{enumerations_equal}
+use Rattle.kmip_ttlv_parts.proofs.Equal.{any_equal, apart, big_integers_equal, booleans_equal, bytes_equal, date_times_equal, found_same, in_unit, in_variant}
+use Rattle.kmip_ttlv_parts.proofs.Equal.{integers_equal, intervals_equal, last_equal, long_integers_equal, newtypes_equal, options_equal, part_equal, row_of}
+use Rattle.kmip_ttlv_parts.proofs.Equal.{structures_equal, texts_equal}
 use Rattle.std.proofs.Common.{refl}
 use Rattle.std.specs.Prelude.{List, Some, [], codes, string_bytes, ℕ, ◌∷◌, ◌≡◌}
 use denote.Enum.Bare.{true_same}
 use Rattle.ttlv_vectors.specs.Leaves.{numbers_value, moments_value, contents_value, read_optional_contents, kind_number, kind_value}
 use Rattle.ttlv_vectors.specs.Chosens.{read_said, read_named, read_place, read_chosen}
-use Rattle.ttlv_vectors.specs.Queries.{maximum_items_value, text_attribute_value, read_locate_request_payload, operation_number, operation_numbers}
-use Rattle.ttlv_vectors.specs.Queries.{written_operation, read_operation, object_type_number, object_type_value, application_namespace_value}
-use Rattle.ttlv_vectors.specs.Queries.{returned_query_response_payload, read_query_response_payload, result_reason_number, result_reason_numbers}
-use Rattle.ttlv_vectors.specs.Queries.{written_result_reason, read_result_reason, result_status_number, result_status_value, returned_failed_item}
-use Rattle.ttlv_vectors.specs.Queries.{read_failed_item}
+use Rattle.ttlv_vectors.specs.Queries.{maximum_items_value, text_attribute_value, read_locate_request_payload, object_type_number, object_type_value}
+use Rattle.ttlv_vectors.specs.Queries.{application_namespace_value, read_query_response_payload, result_status_number, result_status_value, read_failed_item}
 use Rattle.ttlv_vectors.specs.Parcels.{note_value, read_parcel}
 use Rattle.ttlv_vectors.specs.declared.leaves.Kind.{Kind}
 use Rattle.ttlv_vectors.specs.declared.leaves.Kind.TheVariants as kind
@@ -23,7 +23,7 @@ use Rattle.ttlv_vectors.specs.contracts.leaves.Kind as kind_contract
 use Rattle.ttlv_vectors.specs.declared.chosen.Said.TheVariants as said
 use Rattle.ttlv_vectors.specs.declared.chosen.Named.TheVariants as named
 use Rattle.ttlv_vectors.specs.declared.chosen.Place.TheVariants as place
-use Rattle.ttlv_vectors.specs.declared.query.{Operation.TheVariants.Other, ObjectType.ObjectType, ResultReason.TheVariants.Other, ResultStatus.ResultStatus}
+use Rattle.ttlv_vectors.specs.declared.query.{ObjectType.ObjectType, ResultStatus.ResultStatus}
 use Rattle.ttlv_vectors.specs.declared.query.ObjectType.TheVariants as object_type
 use Rattle.ttlv_vectors.specs.contracts.query.ObjectType as object_type_contract
 use Rattle.ttlv_vectors.specs.declared.query.ResultStatus.TheVariants as result_status
@@ -50,16 +50,12 @@ returns-clause-contents g c x y e =
 pub returns-clause-optional_contents : goal.returns-clause-optional_contents
 unfolding read_optional_contents
 returns-clause-optional_contents g c x y e =
-    structures_equal (part_equal
-    (options_same (λ y. newtype_value (codes "Transparent:0x540005") (boolean_value y)) _ (λ a b. newtypes_equal (booleans_equal a b)) x.truth y.truth) (
-    part_equal (options_same (λ y. newtype_value (codes "Transparent:0x540006") (interval_value y)) _ (λ a b. newtypes_equal (intervals_equal a b)) x.seconds
-    y.seconds) (
-    part_equal (options_same (λ y. newtype_value (codes "Transparent:0x540021") (text_value (string_bytes y))) _ (λ a b. newtypes_equal (texts_equal a b))
-    x.text y.text) (
-    part_equal (options_same (λ y. newtype_value (codes "Transparent:0x540022") (bytes_value y.items)) _ (λ a b. newtypes_equal (bytes_equal a.items b.items))
-    x.bytes y.bytes) (
-    last_equal (options_same (λ y. newtype_value (codes "Transparent:0x540023") (big_integer_value y.items)) _
-    (λ a b. newtypes_equal (big_integers_equal a.items b.items)) x.big y.big)))))) e
+    structures_equal (part_equal (options_equal (λ y. tagged 0x540005 (boolean_value y)) _ (λ a b. newtypes_equal (booleans_equal a b)) x.truth y.truth) (
+    part_equal (options_equal (λ y. tagged 0x540006 (interval_value y)) _ (λ a b. newtypes_equal (intervals_equal a b)) x.seconds y.seconds) (
+    part_equal (options_equal (λ y. tagged 0x540021 (text_value (string_bytes y))) _ (λ a b. newtypes_equal (texts_equal a b)) x.text y.text) (
+    part_equal (options_equal (λ y. tagged 0x540022 (bytes_value y.items)) _ (λ a b. newtypes_equal (bytes_equal a.items b.items)) x.bytes y.bytes) (
+    last_equal (options_equal (λ y. tagged 0x540023 (big_integer_value y.items)) _ (λ a b. newtypes_equal (big_integers_equal a.items b.items)) x.big
+    y.big)))))) e
 
 abbrev kind_rows : List (List ℕ × Kind)
 kind_rows =
@@ -113,9 +109,9 @@ pub returns-clause-chosen : goal.returns-clause-chosen
 unfolding read_chosen
 returns-clause-chosen g c x y e =
     structures_equal (part_equal (returns-clause-word g c x.word y.word) (part_equal (returns-clause-said g c x.said y.said) (
-    part_equal (options_same read_named _ (returns-clause-named g c) x.named y.named) (
-    part_equal (options_same read_said _ (returns-clause-said g c) x.more y.more) (
-    last_equal (any_equal read_place read_place _ (returns-clause-place g c) x.places.items y.places.items)))))) e
+    part_equal (options_equal read_named _ (returns-clause-named g c) x.named y.named) (
+    part_equal (options_equal read_said _ (returns-clause-said g c) x.more y.more) (
+    last_equal (any_equal read_place _ (returns-clause-place g c) x.places.items y.places.items)))))) e
 
 pub returns-clause-maximum_items : goal.returns-clause-maximum_items
 returns-clause-maximum_items g c x y e = newtypes_equal (integers_equal x.count y.count) e
@@ -128,13 +124,8 @@ returns-clause-text_attribute g c x y e =
 pub returns-clause-locate_request_payload : goal.returns-clause-locate_request_payload
 unfolding read_locate_request_payload
 returns-clause-locate_request_payload g c x y e =
-    structures_equal (part_equal (options_same maximum_items_value _ (returns-clause-maximum_items g c) x.maximum_items y.maximum_items) (
-    last_equal (any_equal text_attribute_value text_attribute_value _ (returns-clause-text_attribute g c) x.attributes.items y.attributes.items))) e
-
-pub returns-clause-operation : goal.returns-clause-operation
-unfolding written_operation read_operation
-returns-clause-operation g c x (Other n) e = newtypes_equal (others_equal operation_numbers (operation_number x) n) e
-returns-clause-operation g c x y e = newtypes_equal (numbers_equal (operation_number x) (operation_number y)) e
+    structures_equal (part_equal (options_equal maximum_items_value _ (returns-clause-maximum_items g c) x.maximum_items y.maximum_items) (
+    last_equal (any_equal text_attribute_value _ (returns-clause-text_attribute g c) x.attributes.items y.attributes.items))) e
 
 abbrev object_type_rows : List (List ℕ × ObjectType)
 object_type_rows =
@@ -155,19 +146,12 @@ pub returns-clause-application_namespace : goal.returns-clause-application_names
 returns-clause-application_namespace g c x y e = newtypes_equal (texts_equal x.name y.name) e
 
 pub returns-clause-query_response_payload : goal.returns-clause-query_response_payload
-unfolding returned_query_response_payload read_query_response_payload
+unfolding read_query_response_payload
 returns-clause-query_response_payload g c x y e =
-    structures_equal (part_equal (any_equal written_operation read_operation _ (returns-clause-operation g c) x.operations.items y.operations.items) (
-    part_equal (any_equal object_type_value object_type_value _ (returns-clause-object_type g c) x.object_types.items y.object_types.items) (
-    part_equal (options_same (λ y. newtype_value (codes "Transparent:0x42009D") (text_value (string_bytes y))) _ (λ a b. newtypes_equal (texts_equal a b))
-    x.vendor y.vendor) (
-    last_equal (any_equal application_namespace_value application_namespace_value _ (returns-clause-application_namespace g c) x.namespaces.items
-    y.namespaces.items))))) e
-
-pub returns-clause-result_reason : goal.returns-clause-result_reason
-unfolding written_result_reason read_result_reason
-returns-clause-result_reason g c x (Other n) e = newtypes_equal (others_equal result_reason_numbers (result_reason_number x) n) e
-returns-clause-result_reason g c x y e = newtypes_equal (numbers_equal (result_reason_number x) (result_reason_number y)) e
+    structures_equal (part_equal (any_equal enumeration_value _ enumerations_equal x.operations.items y.operations.items) (
+    part_equal (any_equal object_type_value _ (returns-clause-object_type g c) x.object_types.items y.object_types.items) (
+    part_equal (options_equal (λ y. tagged 0x42009D (text_value (string_bytes y))) _ (λ a b. newtypes_equal (texts_equal a b)) x.vendor y.vendor) (
+    last_equal (any_equal application_namespace_value _ (returns-clause-application_namespace g c) x.namespaces.items y.namespaces.items))))) e
 
 abbrev result_status_rows : List (List ℕ × ResultStatus)
 result_status_rows =
@@ -187,12 +171,11 @@ returns-clause-result_status g c x y e =
     true_same result_status_contract.the_type x y (found_same result_status_number result_status_rows result_status_found x y (in_unit e))
 
 pub returns-clause-failed_item : goal.returns-clause-failed_item
-unfolding returned_failed_item read_failed_item
+unfolding read_failed_item
 returns-clause-failed_item g c x y e =
-    structures_equal (part_equal (returns-clause-operation g c x.operation y.operation) (part_equal (returns-clause-result_status g c x.status y.status) (
-    part_equal (options_equal written_result_reason read_result_reason _ (returns-clause-result_reason g c) x.reason y.reason) (
-    last_equal (options_same (λ y. newtype_value (codes "Transparent:0x42007D") (text_value (string_bytes y))) _ (λ a b. newtypes_equal (texts_equal a b))
-    x.message y.message))))) e
+    structures_equal (part_equal (enumerations_equal x.operation y.operation) (part_equal (returns-clause-result_status g c x.status y.status) (
+    part_equal (options_equal enumeration_value _ enumerations_equal x.reason y.reason) (
+    last_equal (options_equal (λ y. tagged 0x42007D (text_value (string_bytes y))) _ (λ a b. newtypes_equal (texts_equal a b)) x.message y.message))))) e
 
 pub returns-clause-note : goal.returns-clause-note
 unfolding note_value
@@ -203,5 +186,5 @@ pub returns-clause-parcel : goal.returns-clause-parcel
 unfolding read_parcel
 returns-clause-parcel g c x y e =
     structures_equal (part_equal (returns-clause-moments g c x.moments.inner.value y.moments.inner.value) (
-    part_equal (options_same (boxed contents_value) _ (boxes_equal contents_value contents_value _ (returns-clause-contents g c)) x.contents y.contents) (
-    last_equal (options_same (boxed note_value) _ (boxes_equal note_value note_value _ (returns-clause-note g c)) x.note y.note)))) e
+    part_equal (options_equal (boxed contents_value) _ (boxes_equal contents_value _ (returns-clause-contents g c)) x.contents y.contents) (
+    last_equal (options_equal (boxed note_value) _ (boxes_equal note_value _ (returns-clause-note g c)) x.note y.note)))) e

@@ -15,3 +15,6 @@ decreases-variant_of l = 3 * l.depth + 2
 
 abbrev pub decreases-named_of : goal.decreases-named_of
 decreases-named_of l = 3 * l.depth + 2
+
+abbrev pub decreases-numbered_of : goal.decreases-numbered_of
+decreases-numbered_of l = 3 * l.depth + 2

@@ -1,6 +1,6 @@
 -- Written by codegen from types.table: change that, and run codegen/codegen.
 -- What a visitor receives: a line for each part, by what its call ensures.
-use Rattle.kmip_ttlv_laws.proofs.Receiving.{all_received, optional_received, part_received, structure_received}
+use Rattle.kmip_ttlv_parts.proofs.Receiving.{all_received, optional_received, part_received, structure_received}
 use Rattle.std.proofs.Common.{refl}
 use Rattle.ttlv_vectors.specs.Chosens.{written_chosen, written_named, written_said}
 use Rattle.ttlv_vectors.proofs.chosen.ChosenSerialize.visit.Goals as goal
@@ -9,10 +9,10 @@ pub returns-clause-received : goal.returns-clause-received
 unfolding written_chosen
 returns-clause-received g c =
     let x = c.args.self.now in
-    structure_received g.V.Visitor.knows g.V.Visitor.step (written_chosen x) refl c.in_ok-begin_struct.ensures.received (
+    structure_received g.V.Visitor.knows g.V.Visitor.step (written_chosen x) refl c.in_ok-begin_structure.ensures.received (
     part_received c.in_ok-visit.ensures.received (
     part_received c.in_ok-visit-2.ensures.received (
     optional_received written_named x.named c.in_ok-option.ensures.received (
     optional_received written_said x.more c.in_ok-option-2.ensures.received (
     part_received c.in_ok-several.ensures.received (
-    all_received)))))) c.in_ok-end_struct.ensures.received
+    all_received)))))) c.in_ok-end_structure.ensures.received

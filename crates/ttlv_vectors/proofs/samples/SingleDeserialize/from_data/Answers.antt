@@ -6,13 +6,14 @@ use Rattle.ttlv_vectors.proofs.SingleData.{is_one, first_is_number, is_read}
 use Rattle.ttlv_vectors.proofs.samples.SingleDeserialize.from_data.Goals as goal
 
 pub index-requires : goal.index-requires
-index-requires g c = omega (arith, is_one c.args.value.now c.in-Struct.name c.in-Struct.fields c.in-Struct.is c.requires)
+index-requires g c = omega (arith, is_one c.args.value.now c.fields_of-fields.result.now.items c.fields_of-fields.ensures c.requires)
 
 pub number_of-requires : goal.number_of-requires
-number_of-requires g c = first_is_number c.args.value.now c.in-Struct.name c.in-Struct.fields c.index.result.now c.in-Struct.is c.requires c.index.ensures
+number_of-requires g c =
+    first_is_number c.args.value.now c.fields_of-fields.result.now.items c.index.result.now c.fields_of-fields.ensures c.requires c.index.ensures
 
 pub returns : goal.returns
 returns g c =
     let n = c.number_of.result in
-    is_read c.args.value.now c.in-Struct.name c.in-Struct.fields c.index.result.now n c.in-Struct.is c.requires c.index.ensures c.number_of.ensures
+    is_read c.args.value.now c.fields_of-fields.result.now.items c.index.result.now n c.fields_of-fields.ensures c.requires c.index.ensures c.number_of.ensures
     ∙ ap read_single (sym (to_z-of_z w32 n (sfits_of c.number_of.type_inv)))
