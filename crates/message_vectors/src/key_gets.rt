@@ -1,17 +1,11 @@
 //! Messages of a peer that get a symmetric key, plain or wrapped, read and written again: the identifier and the key are of our
 //! choosing. What wraps the key comes back with it.
 
-use kmip_messages::key::{
-    KeyBlock, KeyMaterial, KeyValue, KeyWrappingData, WrappingParameters, wrapping_method,
-};
-use kmip_messages::object::ManagedObject;
-use kmip_messages::request::Request;
-use kmip_messages::request_payload::RequestPayload;
-use kmip_messages::response::Response;
-use kmip_messages::response_payload::{GetResponse, ResponsePayload};
+use crate::contents::{Asked, Told, Wanted, becomes, request_has, response_has};
+use crate::tally::Tally;
+use kmip_messages::key::WrappingParameters;
 use kmip_messages::values::{block_cipher_mode, hashing_algorithm, key_role_type, padding_method};
-use sample_shapes::rereads::{comes_back, decoded, is_encoded_again};
-use std::alloc::Global;
+use std::io;
 
 const REQUEST: &str = "420078010000009042007701000000384200690100000020\
 42006A0200000004000000010000000042006B02000000040000000000000000\
@@ -139,161 +133,18 @@ const ENCRYPTED: &str = "42007B010000013042007A01000000484200690100000020\
 4200280500000004000000030000000042002A02000000040000008000000000\
 420046010000001042009E05000000040000000100000000";
 
-const IDENTIFIER: &str = "49a1ca88-6bea-4fb2-b450-7e58802c3038";
-
-// Whether a request is to get the object of this identifier.
-fn gets(request: &Request, identifier: &str) -> bool {
-    let Some(item) = request.items.first() else {
-        return false;
-    };
-    match &item.payload {
-        RequestPayload::Get(payload) => {
-            matches!(&payload.unique_identifier, Some(text) if text.as_str() == identifier)
-        }
-        _ => false,
-    }
-}
-
-// What a response got.
-fn got(response: &Response) -> Option<&GetResponse> {
-    let Some(item) = response.items.first() else {
-        return None;
-    };
-    match &item.payload {
-        Some(ResponsePayload::Get(payload)) => Some(payload),
-        _ => None,
-    }
-}
-
-// The key block of the symmetric key that a response has.
-fn key_block(response: &Response) -> Option<&KeyBlock> {
-    let Some(payload) = got(response) else {
-        return None;
-    };
-    match payload.object() {
-        Some(ManagedObject::SymmetricKey(key)) => Some(&key.key_block),
-        _ => None,
-    }
-}
-
-// Whether a response has the key of 128 bits whose bytes count up, under this identifier.
-fn is_the_key(response: &Response, identifier: &str) -> bool {
-    let (Some(payload), Some(block)) = (got(response), key_block(response)) else {
-        return false;
-    };
-    let KeyValue::Plain(value) = &block.key_value else {
-        return false;
-    };
-    let KeyMaterial::Bytes(key) = &value.key_material else {
-        return false;
-    };
-    payload.unique_identifier.as_str() == identifier
-        && matches!(&block.cryptographic_length, Some(length) if length.bits == 128)
-        && key.bytes.as_slice() == [0, 1, 2, 3, 4, 5, 6, 7, 8, 9, 10, 11, 12, 13, 14, 15].as_slice()
-}
-
-// What wraps that key.
-fn wrapping(response: &Response) -> Option<&KeyWrappingData> {
-    match key_block(response) {
-        Some(block) => block.key_wrapping_data.as_deref(),
-        None => None,
-    }
-}
-
-// How the key is used that made its MAC.
-fn mac_parameters(response: &Response) -> Option<WrappingParameters> {
-    let Some(wrapping) = wrapping(response) else {
-        return None;
-    };
-    match &wrapping.mac_signature_key_information {
-        Some(key) => key.cryptographic_parameters,
-        None => None,
-    }
-}
-
-// Whether the key is wrapped as `WRAPPED` says, part by part.
-fn is_wrapped(response: &Response) -> bool {
-    let Some(wrapping) = wrapping(response) else {
-        return false;
-    };
-    let Some(key) = &wrapping.mac_signature_key_information else {
-        return false;
-    };
-    let (Some(mac), Some(nonce)) = (&wrapping.mac_signature, &wrapping.iv_counter_nonce) else {
-        return false;
-    };
-    wrapping.wrapping_method == wrapping_method::MAC_SIGN
-        && wrapping.encryption_key_information.is_none()
-        && key.unique_identifier.as_str() == "mac-key"
-        && key.cryptographic_parameters.is_none()
-        && mac.as_slice()
-            == [
-                240, 241, 242, 243, 244, 245, 246, 247, 248, 249, 250, 251, 252, 253, 254, 255,
-            ]
-            .as_slice()
-        && nonce.as_slice()
-            == [160, 161, 162, 163, 164, 165, 166, 167, 168, 169, 170, 171].as_slice()
-}
-
-// Whether the request is read as what it is, comes back, and is no response.
-fn is_the_request(alloc: Global) -> bool {
-    let is_it = match &decoded::<Request>(alloc, REQUEST) {
-        Some(request) => gets(request, IDENTIFIER),
-        None => false,
-    };
-    is_it
-        && comes_back::<Request>(alloc, REQUEST)
-        && is_encoded_again::<Request>(alloc, REQUEST)
-        && decoded::<Response>(alloc, REQUEST).is_none()
-}
-
-#[test]
-fn a_request_there_and_back(rt: HostRuntime) {
-    let is_right = is_the_request(rt.alloc());
-    assert!(rt; is_right);
-}
-
-// Whether a response comes back, and is no request.
-fn is_a_response(alloc: Global, digits: &str) -> bool {
-    comes_back::<Response>(alloc, digits)
-        && is_encoded_again::<Response>(alloc, digits)
-        && decoded::<Request>(alloc, digits).is_none()
-}
-
-#[test]
-fn responses_there_and_back(rt: HostRuntime) {
-    for digits in [
-        RESPONSE,
-        WRAPPED,
-        WITH_PARAMETERS,
-        WITH_ALL_PARAMETERS,
-        ENCRYPTED,
-    ] {
-        let is_right = is_a_response(rt.alloc(), digits);
-        assert!(rt; is_right);
-    }
-}
-
-// Whether the key is read, and what wraps it, or nothing that does.
-fn key_is_read(alloc: Global, digits: &str, has_wrapping: bool) -> bool {
-    match &decoded::<Response>(alloc, digits) {
-        Some(response) => {
-            is_the_key(response, IDENTIFIER)
-                && wrapping(response).is_some() == has_wrapping
-                && is_wrapped(response) == has_wrapping
-        }
-        None => false,
-    }
-}
-
-// A plain key has nothing that wraps it.
-#[test]
-fn keys_are_read(rt: HostRuntime) {
-    for (digits, has_wrapping) in [(RESPONSE, false), (WRAPPED, true)] {
-        let is_right = key_is_read(rt.alloc(), digits, has_wrapping);
-        assert!(rt; is_right);
-    }
-}
+// The messages, each with what has to become of it. An item that no part takes would be lost as the message is encoded again.
+const MESSAGES: [(&str, Wanted); 9] = [
+    (REQUEST, Wanted::Back),
+    (RESPONSE, Wanted::Back),
+    (WRAPPED, Wanted::Back),
+    (WITH_PARAMETERS, Wanted::Back),
+    (WITH_ALL_PARAMETERS, Wanted::Back),
+    (ENCRYPTED, Wanted::Back),
+    (FOLLOWED, Wanted::Undecoded),
+    (FOLLOWED_WITHIN, Wanted::Undecoded),
+    (FOLLOWED_PARAMETERS, Wanted::Undecoded),
+];
 
 const MODE: WrappingParameters = WrappingParameters {
     block_cipher_mode: Some(block_cipher_mode::GCM),
@@ -309,27 +160,39 @@ const ALL: WrappingParameters = WrappingParameters {
     key_role_type: Some(key_role_type::KEK),
 };
 
-// Whether the MAC was made with a key that is used so.
-fn has_parameters(alloc: Global, digits: &str, wanted: &WrappingParameters) -> bool {
-    match &decoded::<Response>(alloc, digits) {
-        Some(response) => mac_parameters(response) == Some(*wanted),
-        None => false,
+// What is in the messages. A plain key has nothing that wraps it.
+fn try_contents(tally: &mut Tally<'_>) -> io::Result<()> {
+    let alloc = tally.alloc();
+    for (what, is_right) in [
+        (
+            "an object is asked for",
+            request_has(alloc, REQUEST, Asked::Object),
+        ),
+        ("a plain key", response_has(alloc, RESPONSE, Told::Key)),
+        (
+            "a key that is wrapped",
+            response_has(alloc, WRAPPED, Told::WrappedKey(None)),
+        ),
+        (
+            "a key that is wrapped with a mode",
+            response_has(alloc, WITH_PARAMETERS, Told::WrappedKey(Some(MODE))),
+        ),
+        (
+            "a key that is wrapped with all parameters",
+            response_has(alloc, WITH_ALL_PARAMETERS, Told::WrappedKey(Some(ALL))),
+        ),
+    ] {
+        tally.note(what, is_right)?;
     }
+    Ok(())
 }
 
-#[test]
-fn parameters_are_read(rt: HostRuntime) {
-    let alloc = rt.alloc();
-    let is_right = has_parameters(alloc, WITH_PARAMETERS, &MODE)
-        && has_parameters(alloc, WITH_ALL_PARAMETERS, &ALL);
-    assert!(rt; is_right);
-}
-
-// An item that no part takes would be lost as the message is encoded again.
-#[test]
-fn what_would_be_lost_is_an_error(rt: HostRuntime) {
-    for digits in [FOLLOWED, FOLLOWED_WITHIN, FOLLOWED_PARAMETERS] {
-        let is_right = decoded::<Response>(rt.alloc(), digits).is_none();
-        assert!(rt; is_right);
+/// Tries them.
+pub fn try_all(tally: &mut Tally<'_>) -> io::Result<()> {
+    for row in &MESSAGES {
+        let (digits, wanted) = *row;
+        let is_right = becomes(tally.alloc(), digits, wanted);
+        tally.note(digits, is_right)?;
     }
+    try_contents(tally)
 }

@@ -1,5 +1,6 @@
 //! Messages that create and destroy a key, both ways, and their diagnostics.
 
+use crate::tally::Tally;
 use create_destroy::calls::{read_request, read_response, write_request, write_response};
 use create_destroy::request::Request;
 use create_destroy::response::Response;
@@ -8,7 +9,7 @@ use kmip_ttlv::laws::Sound;
 use kmip_ttlv_memory::BoundedAllocator;
 use sample_shapes::rereads::comes_back;
 use std::alloc::Global;
-use std::test::Fail;
+use std::io;
 
 const CREATE_REQUEST: &str = "42007801000001204200770100000038\
 420069010000002042006A0200000004000000010000000042006B02000000040000000000000000\
@@ -46,28 +47,31 @@ const DESTROY_RESPONSE: &str = "42007B01000000B042007A0100000048\
 42005C0500000004000000140000000042007F0500000004000000000000000042007C0100000030\
 420094070000002466633838333364652D373064322D346563652D623036332D66656465336133633539666500000000";
 
-// A message, how many bytes it has, and its diagnostic.
-const REQUESTS: [(&str, usize, &str); 2] = [
+// A message, whether it is a request, how many bytes it has, and its diagnostic.
+type Row = (&'static str, bool, usize, &'static str);
+
+const MESSAGES: [Row; 4] = [
     (
         CREATE_REQUEST,
+        true,
         296,
         "78[77[69[6Ai6Bi]0Di]0F[5Ce1:79[57e2:91[08[0At0Be3:]08[0At0Bi]08[0At0Bi]]]]]",
     ),
     (
         DESTROY_REQUEST,
+        true,
         152,
         "78[77[69[6Ai6Bi]0Di]0F[5Ce14:79[94t]]]",
     ),
-];
-
-const RESPONSES: [(&str, usize, &str); 2] = [
     (
         CREATE_RESPONSE,
+        false,
         200,
         "7B[7A[69[6Ai6Bi]92d0Di]0F[5Ce1:7Fe0:7C[57e2:94t]]]",
     ),
     (
         DESTROY_RESPONSE,
+        false,
         184,
         "7B[7A[69[6Ai6Bi]92d0Di]0F[5Ce14:7Fe0:7C[94t]]]",
     ),
@@ -86,63 +90,76 @@ fn is_shown(alloc: Global, bytes: &[u8], length: usize, diagnostic: &str) -> boo
     }
 }
 
+// Whether a request is written as these bytes.
+fn is_request_written(alloc: Global, request: &Request, bytes: &[u8]) -> bool {
+    matches!(&write_request(alloc, request), Ok(again) if again.as_slice() == bytes)
+}
+
 // Whether these bytes are a consistent request, and are written for it again.
 fn is_request(alloc: Global, bytes: &[u8]) -> bool {
-    let Ok(request) = read_request(alloc, bytes) else {
-        return false;
-    };
-    if request.batch_count != 1 || !request.is_consistent() {
-        return false;
-    }
-    match write_request(alloc, &request) {
-        Ok(again) => again.as_slice() == bytes,
+    match &read_request(alloc, bytes) {
+        Ok(request) => {
+            request.batch_count == 1
+                && request.is_consistent()
+                && is_request_written(alloc, request, bytes)
+        }
         Err(_) => false,
     }
+}
+
+// Whether a response is written as these bytes.
+fn is_response_written(alloc: Global, response: &Response, bytes: &[u8]) -> bool {
+    matches!(&write_response(alloc, response), Ok(again) if again.as_slice() == bytes)
 }
 
 // Whether these bytes are a consistent response, and are written for it again.
 fn is_response(alloc: Global, bytes: &[u8]) -> bool {
-    let Ok(response) = read_response(alloc, bytes) else {
-        return false;
-    };
-    if response.batch_count != 1 || !response.is_consistent() {
-        return false;
-    }
-    match write_response(alloc, &response) {
-        Ok(again) => again.as_slice() == bytes,
+    match &read_response(alloc, bytes) {
+        Ok(response) => {
+            response.batch_count == 1
+                && response.is_consistent()
+                && is_response_written(alloc, response, bytes)
+        }
         Err(_) => false,
     }
 }
 
-// Whether the first of a row is a request and no response, or the other way round, of the length and the diagnostic behind it.
-fn is_right(alloc: Global, row: &(&str, usize, &str), of_request: bool) -> bool {
-    let (digits, length, diagnostic) = *row;
+// Whether a message comes back equal, as a request or as a response.
+fn is_equal_again(alloc: Global, digits: &str, of_request: bool) -> bool {
+    if of_request {
+        comes_back::<Request>(alloc, digits)
+    } else {
+        comes_back::<Response>(alloc, digits)
+    }
+}
+
+// Whether the first of a row is a request and no response, or the other way round, comes back, and has the length and the diagnostic
+// behind it.
+fn is_right(alloc: Global, row: &Row) -> bool {
+    let (digits, of_request, length, diagnostic) = *row;
     let Ok(bytes) = &hex::decode(alloc, digits) else {
         return false;
     };
     is_request(alloc, bytes) == of_request
         && is_response(alloc, bytes) != of_request
+        && is_equal_again(alloc, digits, of_request)
         && is_shown(alloc, bytes, length, diagnostic)
 }
 
-#[test]
-fn messages_there_and_back(rt: HostRuntime) {
-    for row in &REQUESTS {
-        let is_right = is_right(rt.alloc(), row, true);
-        assert!(rt; is_right, "{row:?}");
-    }
-    for row in &RESPONSES {
-        let is_right = is_right(rt.alloc(), row, false);
-        assert!(rt; is_right, "{row:?}");
+// Whether bytes are read as a request or as a response, with this memory.
+fn is_read(memory: &BoundedAllocator<Global>, bytes: &[u8], of_request: bool) -> bool {
+    if of_request {
+        read_request(memory, bytes).is_ok()
+    } else {
+        read_response(memory, bytes).is_ok()
     }
 }
 
-// How many blocks of memory a request takes that is read, and how many a response; none on an error other than out of
-// memory.
-fn blocks_of_request(alloc: Global, bytes: &[u8]) -> Option<u64> {
+// How many blocks of memory a message takes that is read; none on an error other than out of memory.
+fn blocks(alloc: Global, bytes: &[u8], of_request: bool) -> Option<u64> {
     for before in 0..100u64 {
         let memory = BoundedAllocator::failing_after(alloc, before);
-        let is_read = read_request(&memory, bytes).is_ok();
+        let is_read = is_read(&memory, bytes, of_request);
         if !memory.has_failed() {
             return if is_read { Some(before) } else { None };
         }
@@ -150,56 +167,46 @@ fn blocks_of_request(alloc: Global, bytes: &[u8]) -> Option<u64> {
     None
 }
 
-fn blocks_of_response(alloc: Global, bytes: &[u8]) -> Option<u64> {
-    for before in 0..100u64 {
-        let memory = BoundedAllocator::failing_after(alloc, before);
-        let is_read = read_response(&memory, bytes).is_ok();
-        if !memory.has_failed() {
-            return if is_read { Some(before) } else { None };
-        }
-    }
-    None
-}
-
-// None is for the texts that rules ask for: a request has a list of items, one of attributes, and three names; a response
-// a list of items, and an identifier.
-fn takes_few_blocks(alloc: Global) -> bool {
-    match (
-        &hex::decode(alloc, CREATE_REQUEST),
-        &hex::decode(alloc, CREATE_RESPONSE),
-    ) {
-        (Ok(request), Ok(response)) => {
-            blocks_of_request(alloc, request) == Some(5)
-                && blocks_of_response(alloc, response) == Some(2)
-        }
-        _ => false,
+// Whether a message takes so many blocks.
+fn takes_blocks(alloc: Global, digits: &str, of_request: bool, count: u64) -> bool {
+    match &hex::decode(alloc, digits) {
+        Ok(bytes) => blocks(alloc, bytes, of_request) == Some(count),
+        Err(_) => false,
     }
 }
 
-#[test]
-fn memory_is_for_lists_and_texts_alone(rt: HostRuntime) {
-    let is_right = takes_few_blocks(rt.alloc());
-    assert!(rt; is_right);
-}
+// Messages, whether they are requests, and how many blocks they take. None is for the texts that rules ask for: a request has a list of
+// items, one of attributes, and three names; a response a list of items, and an identifier.
+const BLOCKS: [(&str, bool, u64); 2] = [(CREATE_REQUEST, true, 5), (CREATE_RESPONSE, false, 2)];
 
-#[test]
-fn worked_messages_come_back(rt: HostRuntime) -> Result<(), Fail> {
-    let alloc = rt.alloc();
-    assert!(rt; comes_back::<Request>(alloc, CREATE_REQUEST));
-    assert!(rt; comes_back::<Request>(alloc, DESTROY_REQUEST));
-    assert!(rt; comes_back::<Response>(alloc, CREATE_RESPONSE));
-    assert!(rt; comes_back::<Response>(alloc, DESTROY_RESPONSE));
+fn try_blocks(tally: &mut Tally<'_>) -> io::Result<()> {
+    for row in &BLOCKS {
+        let (digits, of_request, count) = *row;
+        let is_right = takes_blocks(tally.alloc(), digits, of_request, count);
+        tally.note("memory is for lists and texts alone", is_right)?;
+    }
     Ok(())
 }
 
-#[test]
-fn a_message_without_items_is_not_sound(rt: HostRuntime) {
+// Whether a message without items is sound.
+fn is_empty_sound(alloc: Global) -> bool {
     let empty: Request = Request {
         major: 1,
         minor: 0,
         batch_count: 0,
-        items: Vec::new(rt.alloc()),
+        items: Vec::new(alloc),
     };
-    let is_sound = empty.is_sound();
-    assert!(rt; !is_sound);
+    empty.is_sound()
+}
+
+/// Tries them.
+pub fn try_all(tally: &mut Tally<'_>) -> io::Result<()> {
+    for row in &MESSAGES {
+        let (digits, _, _, _) = *row;
+        let is_right = is_right(tally.alloc(), row);
+        tally.note(digits, is_right)?;
+    }
+    try_blocks(tally)?;
+    let is_sound = is_empty_sound(tally.alloc());
+    tally.note("a message without items is not sound", !is_sound)
 }

@@ -1,109 +1,65 @@
 //! A request to register each of the eight types of objects of KMIP 1.0 (section 2.2): it is decoded, comes back equal, and is
 //! encoded as the same bytes. These are made of items by hand, as section 9.1 has them.
 
-use kmip_messages::object::ManagedObject;
+use crate::contents::{Asked, Wanted, becomes, request_has};
+use crate::tally::Tally;
 use kmip_messages::request::Request;
-use kmip_messages::request_payload::RequestPayload;
 use kmip_ttlv::error::{Error, ErrorKind};
 use kmip_ttlv::from_slice;
 use kmip_ttlv::memory::BoundedAllocator;
-use sample_shapes::rereads::{comes_back, comes_back_in, decoded, is_encoded_again};
+use kmip_ttlv::shape::Decode;
+use sample_shapes::rereads::comes_back_in;
 use std::alloc::{Allocator, Global};
 use std::io;
-use std::test::Fail;
 
-// What is registered, its Object Type (section 9.1.3.2), and the request.
-const OBJECTS: [(&str, u32, &str); 8] = [
+// What is registered, its Object Type (section 9.1.3.2), how many bytes a symmetric key has, and the request.
+const OBJECTS: [(&str, Asked, &str); 8] = [
     (
         "a certificate",
-        1,
+        Asked::Registered(1, 0),
         "42007801000000D04200770100000038420069010000002042006A0200000004000000010000000042006B0200000004000000000000000042000D0200000004000000010000000042000F010000008842005C050000000400000003000000004200790100000070420057050000000400000001000000004200910100000030420008010000002842000A070000000C4F626A6563742047726F75700000000042000B070000000647726F7570310000420013010000002042001D0500000004000000010000000042001E08000000033082010000000000",
     ),
     (
         "a symmetric key",
-        2,
+        Asked::Registered(2, 16),
         "42007801000001084200770100000038420069010000002042006A0200000004000000010000000042006B0200000004000000000000000042000D0200000004000000010000000042000F01000000C042005C0500000004000000030000000042007901000000A8420057050000000400000002000000004200910100000030420008010000002842000A070000000C4F626A6563742047726F75700000000042000B070000000647726F757031000042008F0100000058420040010000005042004205000000040000000100000000420045010000001842004308000000100123456789ABCDEF0123456789ABCDEF4200280500000004000000030000000042002A02000000040000008000000000",
     ),
     (
         "a public key",
-        3,
+        Asked::Registered(3, 0),
         "42007801000001004200770100000038420069010000002042006A0200000004000000010000000042006B0200000004000000000000000042000D0200000004000000010000000042000F01000000B842005C0500000004000000030000000042007901000000A0420057050000000400000003000000004200910100000030420008010000002842000A070000000C4F626A6563742047726F75700000000042000B070000000647726F757031000042006D01000000504200400100000048420042050000000400000003000000004200450100000010420043080000000830060201030201054200280500000004000000040000000042002A02000000040000080000000000",
     ),
     (
         "a private key",
-        4,
+        Asked::Registered(4, 0),
         "42007801000001004200770100000038420069010000002042006A0200000004000000010000000042006B0200000004000000000000000042000D0200000004000000010000000042000F01000000B842005C0500000004000000030000000042007901000000A0420057050000000400000004000000004200910100000030420008010000002842000A070000000C4F626A6563742047726F75700000000042000B070000000647726F757031000042006401000000504200400100000048420042050000000400000003000000004200450100000010420043080000000530030201FF0000004200280500000004000000040000000042002A02000000040000080000000000",
     ),
     (
         "the second of three parts of a key",
-        5,
+        Asked::Registered(5, 0),
         "42007801000001584200770100000038420069010000002042006A0200000004000000010000000042006B0200000004000000000000000042000D0200000004000000010000000042000F010000011042005C0500000004000000030000000042007901000000F8420057050000000400000005000000004200910100000030420008010000002842000A070000000C4F626A6563742047726F75700000000042000B070000000647726F757031000042008901000000A842008B020000000400000003000000004200440200000004000000020000000042008C0200000004000000020000000042008A05000000040000000300000000420062040000000800FFFFFFFFFFFFC5420040010000005042004205000000040000000100000000420045010000001842004308000000100123456789ABCDEF0123456789ABCDEF4200280500000004000000030000000042002A02000000040000008000000000",
     ),
     (
         "a template",
-        6,
+        Asked::Registered(6, 0),
         "42007801000001204200770100000038420069010000002042006A0200000004000000010000000042006B0200000004000000000000000042000D0200000004000000010000000042000F01000000D842005C0500000004000000030000000042007901000000C0420057050000000400000006000000004200910100000030420008010000002842000A070000000C4F626A6563742047726F75700000000042000B070000000647726F75703100004200900100000070420008010000003042000A070000001843727970746F67726170686963205573616765204D61736B42000B02000000040000000C00000000420008010000003042000A070000001443727970746F67726170686963204C656E6774680000000042000B02000000040000010000000000",
     ),
     (
         "a password",
-        7,
+        Asked::Registered(7, 0),
         "42007801000000F04200770100000038420069010000002042006A0200000004000000010000000042006B0200000004000000000000000042000D0200000004000000010000000042000F01000000A842005C050000000400000003000000004200790100000090420057050000000400000007000000004200910100000030420008010000002842000A070000000C4F626A6563742047726F75700000000042000B070000000647726F75703100004200850100000040420086050000000400000001000000004200400100000028420042050000000400000002000000004200450100000010420043080000000870617373776F7264",
     ),
     (
         "bytes that the server doesn't look into",
-        8,
+        Asked::Registered(8, 0),
         "42007801000000D04200770100000038420069010000002042006A0200000004000000010000000042006B0200000004000000000000000042000D0200000004000000010000000042000F010000008842005C050000000400000003000000004200790100000070420057050000000400000008000000004200910100000030420008010000002842000A070000000C4F626A6563742047726F75700000000042000B070000000647726F757031000042005B01000000204200590500000004800000000000000042005A080000000300FF100000000000",
     ),
 ];
 
-// The Object Type of the object that a payload lends.
-fn lent_type(payload: &RequestPayload) -> u32 {
-    let RequestPayload::Register(payload) = payload else {
-        return 0;
-    };
-    match payload.object() {
-        Some(ManagedObject::Certificate(_)) => 1,
-        Some(ManagedObject::SymmetricKey(_)) => 2,
-        Some(ManagedObject::PublicKey(_)) => 3,
-        Some(ManagedObject::PrivateKey(_)) => 4,
-        Some(ManagedObject::SplitKey(_)) => 5,
-        Some(ManagedObject::Template(_)) => 6,
-        Some(ManagedObject::SecretData(_)) => 7,
-        Some(ManagedObject::OpaqueObject(_)) => 8,
-        None => 0,
-    }
-}
-
-// The Object Type of the object that a request's first item lends.
-fn registered_type(alloc: Global, digits: &str) -> u32 {
-    let Some(request) = decoded::<Request>(alloc, digits) else {
-        return 0;
-    };
-    match request.items.first() {
-        Some(item) => lent_type(&item.payload),
-        None => 0,
-    }
-}
-
-// Whether a request comes back, and lends an object of this type.
-fn is_registered(alloc: Global, object_type: u32, digits: &str) -> bool {
-    comes_back::<Request>(alloc, digits)
-        && is_encoded_again::<Request>(alloc, digits)
-        && registered_type(alloc, digits) == object_type
-}
-
-#[test]
-fn each_type_of_object_is_registered(rt: HostRuntime) {
-    for (what, object_type, digits) in OBJECTS {
-        let is_right = is_registered(rt.alloc(), object_type, digits);
-        assert!(rt; is_right, "{what}");
-    }
-}
-
 // Whether bytes end too early.
-fn ends_early(alloc: Global, bytes: &[u8]) -> bool {
-    let read: Result<Request, Error> = from_slice(alloc, bytes);
-    match read {
+fn ends_early<T: Decode<Global>>(alloc: Global, bytes: &[u8]) -> bool {
+    let read: Result<T, Error> = from_slice(alloc, bytes);
+    match &read {
         Ok(_) => false,
         Err(error) => {
             matches!(error.kind(), ErrorKind::IoError(error) if error.kind() == io::ErrorKind::UnexpectedEof)
@@ -111,17 +67,22 @@ fn ends_early(alloc: Global, bytes: &[u8]) -> bool {
     }
 }
 
-#[test]
-fn a_request_that_is_cut_ends_early(rt: HostRuntime) -> Result<(), Fail> {
-    let (_, _, digits) = OBJECTS[1];
-    let bytes = hex::decode(rt.alloc(), digits)?;
+// The number of bytes in front of which each beginning ends too early.
+fn early_until<T: Decode<Global>>(alloc: Global, bytes: &[u8]) -> usize {
     for count in 0..bytes.len() {
-        assert!(rt;
-            ends_early(rt.alloc(), &bytes.as_slice()[..count]),
-            "{count}"
-        );
+        if !ends_early::<T>(alloc, &bytes[..count]) {
+            return count;
+        }
     }
-    Ok(())
+    bytes.len()
+}
+
+// That number for a request; none if there are no bytes of it.
+fn request_is_early_until(alloc: Global, digits: &str) -> Option<usize> {
+    match &hex::decode(alloc, digits) {
+        Ok(bytes) => Some(early_until::<Request>(alloc, bytes)),
+        Err(_) => None,
+    }
 }
 
 // Whether a request is decoded and comes back equal, with memory of this allocator.
@@ -152,10 +113,16 @@ fn takes_several(alloc: Global, digits: &str) -> bool {
     }
 }
 
-#[test]
-fn a_request_fails_at_each_growth(rt: HostRuntime) {
-    for (what, _, digits) in OBJECTS {
-        let is_right = takes_several(rt.alloc(), digits);
-        assert!(rt; is_right, "{what}");
+/// Tries them. A request that is cut anywhere ends too early.
+pub fn try_all(tally: &mut Tally<'_>) -> io::Result<()> {
+    let alloc = tally.alloc();
+    for row in &OBJECTS {
+        let (what, asked, digits) = *row;
+        let is_right = becomes(alloc, digits, Wanted::Back) && request_has(alloc, digits, asked);
+        tally.note(what, is_right)?;
+        tally.note(what, takes_several(alloc, digits))?;
     }
+    let (what, _, digits) = OBJECTS[1];
+    let count = request_is_early_until(alloc, digits);
+    tally.note(what, count == Some(digits.len() / 2))
 }

@@ -1,0 +1,85 @@
+//! What becomes of a message that is decoded and encoded again. Each type of message is named in one place, `fate_of`, since each call
+//! at such a type takes the prover long.
+
+use kmip_messages::request::Request;
+use kmip_messages::response::Response;
+use kmip_ttlv::error::Error;
+use kmip_ttlv::laws::{Message, reread};
+use kmip_ttlv::{from_slice, to_vec};
+use std::alloc::Global;
+use std::fmt;
+
+// The tag of a request, and the type code of a Structure.
+const REQUEST: [u8; 4] = [0x42, 0x00, 0x78, 0x01];
+
+/// What becomes of a message.
+#[derive(Drop)]
+pub enum Fate {
+    /// It is sound, and comes back equal and as the same bytes.
+    Back,
+    /// Its digits are none.
+    NoDigits,
+    /// It isn't decoded.
+    Undecoded(Error),
+    /// It is decoded, and isn't sound.
+    Unsound,
+    /// It isn't encoded.
+    Unencoded(Error),
+    /// It comes back as other bytes, or as another message.
+    Changed,
+}
+
+impl fmt::Display for Fate {
+    fn fmt<W: fmt::Write>(&self, f: &mut fmt::Formatter<W>) -> fmt::Result {
+        match self {
+            Fate::Back => write!(f, "it comes back"),
+            Fate::NoDigits => write!(f, "these are no digits"),
+            Fate::Undecoded(error) => write!(f, "{error}"),
+            Fate::Unsound => write!(f, "it is not sound"),
+            Fate::Unencoded(error) => write!(f, "{error}"),
+            Fate::Changed => write!(f, "it is encoded as other bytes"),
+        }
+    }
+}
+
+/// Whether a message that is encoded and decoded again is equal to what it was.
+pub fn is_equal_again<T: Message<Global>>(alloc: Global, message: &T) -> bool {
+    match &reread(alloc, message) {
+        Ok(other) => *message == *other,
+        Err(_) => false,
+    }
+}
+
+// What becomes of a message that was decoded from these bytes.
+fn fate_of_decoded<T: Message<Global>>(alloc: Global, message: &T, bytes: &[u8]) -> Fate {
+    if !message.is_sound() {
+        return Fate::Unsound;
+    }
+    let is_equal = is_equal_again(alloc, message);
+    match to_vec(alloc, message) {
+        Ok(again) if is_equal && again.as_slice() == bytes => Fate::Back,
+        Ok(_) => Fate::Changed,
+        Err(error) => Fate::Unencoded(error),
+    }
+}
+
+// What becomes of the message of this type that bytes are.
+fn fate_as<T: Message<Global>>(alloc: Global, bytes: &[u8]) -> Fate {
+    let read: Result<T, Error> = from_slice(alloc, bytes);
+    match read {
+        Ok(message) => fate_of_decoded(alloc, &message, bytes),
+        Err(error) => Fate::Undecoded(error),
+    }
+}
+
+/// What becomes of the message that these digits are, whatever kind of message it has.
+pub fn fate_of(alloc: Global, digits: &str) -> Fate {
+    let Ok(bytes) = &hex::decode(alloc, digits) else {
+        return Fate::NoDigits;
+    };
+    if bytes.as_slice().starts_with(&REQUEST) {
+        fate_as::<Request>(alloc, bytes.as_slice())
+    } else {
+        fate_as::<Response>(alloc, bytes.as_slice())
+    }
+}
