@@ -4,12 +4,10 @@
 ghost use Rattle.std.specs.Prelude.{map, option_map};
 ghost use Rattle.ttlv_vectors.specs.AttributeRequests.{identifier_value, attribute_name_value, asked_value};
 
-use crate::low_level::are_bytes;
 use kmip_ttlv::parts::{begin_struct, each, end_struct, option, text_string};
 use kmip_ttlv::shape::Serialize;
-use kmip_ttlv::to_vec;
 use kmip_ttlv::visit::Visitor;
-use std::alloc::{AllocError, Global};
+use std::alloc::AllocError;
 
 /// What names an object that the server keeps.
 #[derive(Clone, Copy, Debug)]
@@ -61,61 +59,5 @@ impl<'a> Serialize for GetAttributes<'a> {
         each(visitor, self.attribute_names)?;
         end_struct(visitor, "0x420079")?;
         Ok(())
-    }
-}
-
-// Whether these attributes of this object are asked for in these bytes, in hexadecimal.
-fn asks(
-    alloc: Global,
-    identifier: Option<&'static str>,
-    names: &[AttributeName<'static>],
-    text: &str,
-) -> bool {
-    let request = GetAttributes {
-        unique_identifier: match identifier {
-            Some(text) => Some(UniqueIdentifier { text }),
-            None => None,
-        },
-        attribute_names: names,
-    };
-    match &to_vec(alloc, &request) {
-        Ok(bytes) => are_bytes(alloc, bytes.as_slice(), text),
-        Err(_) => false,
-    }
-}
-
-// What is asked for, and its bytes, in hexadecimal.
-const ASKED: [(Option<&str>, &[AttributeName<'static>], &str); 4] = [
-    (
-        Some("49a1ca88"),
-        &NAMES,
-        "420079010000003842009407000000083439613163613838\
-42000A070000000C4F626A6563742047726F75700000000042000A07000000055374617465000000",
-    ),
-    (
-        Some("49a1ca88"),
-        &[],
-        "420079010000001042009407000000083439613163613838",
-    ),
-    (
-        None,
-        &NAMES,
-        "420079010000002842000A070000000C4F626A6563742047726F75700000000042000A07000000055374617465000000",
-    ),
-    (None, &[], "4200790100000000"),
-];
-
-const NAMES: [AttributeName<'static>; 2] = [
-    AttributeName {
-        text: "Object Group",
-    },
-    AttributeName { text: "State" },
-];
-
-#[test]
-fn attributes_are_asked_for(rt: HostRuntime) {
-    for (identifier, names, text) in ASKED {
-        let is_right = asks(rt.alloc(), identifier, names, text);
-        assert!(rt; is_right, "{text}");
     }
 }

@@ -3,7 +3,6 @@
 
 use kmip_ttlv::types::{SerializableTtlvType, TtlvInteger, TtlvTag};
 use std::alloc::{AllocError, Global};
-use std::test::Fail;
 
 /// Whether this is the text.
 pub fn is_text(text: &Result<String, AllocError>, wanted: &str) -> bool {
@@ -36,8 +35,9 @@ fn names_tag(heap: Global, name: &str, number: Option<u32>) -> bool {
 }
 
 #[test]
-fn a_number_and_names_of_tags(rt: HostRuntime) -> Result<(), Fail> {
-    assert!(rt; integer_is_written(rt.alloc(), 8, "02000000040000000800000000"));
+fn a_number_and_names_of_tags(rt: HostRuntime) {
+    let is_right = integer_is_written(rt.alloc(), 8, "02000000040000000800000000");
+    assert!(rt; is_right);
     for (name, number) in [
         ("0x0x1", Some(1)),
         ("+1F", Some(0x1F)),
@@ -45,9 +45,10 @@ fn a_number_and_names_of_tags(rt: HostRuntime) -> Result<(), Fail> {
         ("", None),
         ("XYZ", None),
     ] {
-        assert!(rt; names_tag(rt.alloc(), name, number), "{name}");
+        let is_right = names_tag(rt.alloc(), name, number);
+        assert!(rt; is_right, "{name}");
     }
     let tag = TtlvTag::from([0, 0, 0x12]);
-    assert!(rt; is_text(&format!(in rt.alloc(); "{tag}"), "0x000012"));
-    Ok(())
+    let is_right = is_text(&format!(in rt.alloc(); "{tag}"), "0x000012");
+    assert!(rt; is_right);
 }

@@ -3,8 +3,8 @@
 use hex::FromHexError;
 use kmip_ttlv::error::Result;
 use kmip_ttlv::reader::{ReadStructure, read_message};
-use kmip_ttlv::shape::Serialize;
-use kmip_ttlv::to_vec;
+use kmip_ttlv::shape::{Data, Decode, Serialize};
+use kmip_ttlv::{from_slice, to_vec};
 use std::alloc::Global;
 
 /// Numbers: -2, and the greatest of 64 bits.
@@ -75,13 +75,18 @@ pub fn joined(alloc: Global, texts: &[&str]) -> std::result::Result<Vec<u8>, Fro
     hex::decode(alloc, text.as_str())
 }
 
+/// What data is written as.
+pub fn data_bytes(alloc: Global, data: &Data) -> Result<Vec<u8>> {
+    to_vec(alloc, data)
+}
+
 /// Whether a value is written as these bytes.
 pub fn is_written<T: Serialize>(alloc: Global, value: &T, bytes: &[u8]) -> bool {
     matches!(&to_vec(alloc, value), Ok(found) if found.as_slice() == bytes)
 }
 
-/// Whether this value is what was read.
-pub fn is_found<T: PartialEq>(found: &Result<T>, value: &T) -> bool {
+// Whether this value is what was read.
+fn is_found<T: PartialEq>(found: &Result<T>, value: &T) -> bool {
     matches!(found, Ok(found) if *found == *value)
 }
 
@@ -95,6 +100,31 @@ pub fn is_both_ways<T: Serialize + ReadStructure<Global> + PartialEq + Drop>(
         Ok(bytes) => {
             is_written(alloc, value, bytes) && is_found(&read_message(alloc, bytes), value)
         }
+        Err(_) => false,
+    }
+}
+
+/// Whether messages are written as the bytes beside them, in hexadecimal, and read of them.
+pub fn come_back<T: Serialize + Decode<Global> + PartialEq>(
+    alloc: Global,
+    rows: &[(T, &str)],
+) -> bool {
+    for row in rows {
+        if !comes_back(alloc, &row.0, row.1) {
+            return false;
+        }
+    }
+    true
+}
+
+/// Whether a message is written as these bytes, in hexadecimal, and read of them.
+pub fn comes_back<T: Serialize + Decode<Global> + PartialEq>(
+    alloc: Global,
+    value: &T,
+    text: &str,
+) -> bool {
+    match &hex::decode(alloc, text) {
+        Ok(bytes) => is_written(alloc, value, bytes) && is_found(&from_slice(alloc, bytes), value),
         Err(_) => false,
     }
 }

@@ -1,12 +1,13 @@
 //! A value that is nested deep, by every call that writes.
 
-use crate::data::tagged_number;
+use crate::bytes::data_bytes;
 use crate::low_level::are_bytes;
 use kmip_ttlv::ser::TtlvSerializer;
 use kmip_ttlv::shape::{Data, Serialize};
-use kmip_ttlv::{to_vec, to_writer};
+use kmip_ttlv::to_writer;
 use std::alloc::{AllocError, Global};
-use std::test::Fail;
+use std::fmt;
+use ttlv_vectors::data::tagged_number;
 
 const LEAF: &str = "AABBCC02000000040000000300000000";
 
@@ -24,25 +25,36 @@ fn nested(alloc: Global, depth: u32) -> Result<Data, AllocError> {
 
 // Their bytes in hexadecimal: each structure holds the headers of those within, of eight bytes each, and the
 // number's sixteen bytes.
-fn nested_text(alloc: Global, depth: u32) -> Result<String, Fail> {
+fn nested_text(alloc: Global, depth: u32) -> Result<String, fmt::Error> {
     let mut text = String::new(alloc);
     for within in (0..depth).rev() {
         let length = within.wrapping_mul(8).wrapping_add(16);
         write!(text, "BBBBBB01{length:08X}")?;
     }
-    text.push_str(LEAF)?;
+    write!(text, "{LEAF}")?;
     Ok(text)
 }
 
-// Whether the data is written as these bytes, in hexadecimal: by a serializer, by itself, and to a writer.
-fn is_written(alloc: Global, data: &Data, text: &str) -> bool {
+// Whether a serializer gives these bytes, in hexadecimal, for the data.
+fn is_serialized(alloc: Global, data: &Data, text: &str) -> bool {
     let mut serializer = TtlvSerializer::new(alloc);
+    let is_taken = serializer.serialize(data).is_ok();
+    let bytes = serializer.into_vec();
+    is_taken && matches!(&bytes, Ok(bytes) if are_bytes(alloc, bytes, text))
+}
+
+// Whether a writer is given these.
+fn is_sent(alloc: Global, data: &Data, text: &str) -> bool {
     let mut writer = Vec::new(alloc);
-    serializer.serialize(data).is_ok()
-        && matches!(&serializer.into_vec(), Ok(bytes) if are_bytes(alloc, bytes, text))
-        && matches!(&to_vec(alloc, data), Ok(bytes) if are_bytes(alloc, bytes, text))
-        && to_writer(alloc, data, &mut writer).is_ok()
-        && are_bytes(alloc, &writer, text)
+    let is_sent = to_writer(alloc, data, &mut writer).is_ok();
+    is_sent && are_bytes(alloc, &writer, text)
+}
+
+// Whether the data is written as these bytes: by a serializer, by itself, and to a writer.
+fn is_written(alloc: Global, data: &Data, text: &str) -> bool {
+    is_serialized(alloc, data, text)
+        && matches!(&data_bytes(alloc, data), Ok(bytes) if are_bytes(alloc, bytes, text))
+        && is_sent(alloc, data, text)
 }
 
 // Data of what this data tells is the same.
@@ -51,20 +63,22 @@ fn is_made_again(alloc: Global, data: &Data) -> bool {
 }
 
 // Whether a value of this depth is written as its bytes by each call.
-fn is_right(alloc: Global, depth: u32) -> Result<bool, Fail> {
-    let text = nested_text(alloc, depth)?;
-    let data = nested(alloc, depth)?;
-    Ok(is_written(alloc, &data, text.as_str()) && is_made_again(alloc, &data))
+fn is_right(alloc: Global, depth: u32) -> bool {
+    match (&nested_text(alloc, depth), &nested(alloc, depth)) {
+        (Ok(text), Ok(data)) => {
+            is_written(alloc, data, text.as_str()) && is_made_again(alloc, data)
+        }
+        _ => false,
+    }
 }
 
 // The last have 1,016 bytes, 1,024, 1,032 and more.
 #[test]
-fn values_nested_deep(rt: HostRuntime) -> Result<(), Fail> {
+fn values_nested_deep(rt: HostRuntime) {
     for depth in [0, 1, 16, 17, 64, 125, 126, 127, 600] {
-        let is_right = is_right(rt.alloc(), depth)?;
+        let is_right = is_right(rt.alloc(), depth);
         assert!(rt; is_right, "{depth}");
     }
-    Ok(())
 }
 
 // A structure of a byte string of this length, all sevens.
@@ -80,7 +94,7 @@ fn sevens(alloc: Global, len: usize) -> Result<Data, AllocError> {
 }
 
 // Its bytes in hexadecimal: a byte string is filled up with zeros to a multiple of eight.
-fn sevens_text(alloc: Global, len: usize) -> Result<String, Fail> {
+fn sevens_text(alloc: Global, len: usize) -> Result<String, fmt::Error> {
     let filling = (8 - len % 8) % 8;
     let mut text = String::new(alloc);
     write!(
@@ -89,23 +103,28 @@ fn sevens_text(alloc: Global, len: usize) -> Result<String, Fail> {
         len.wrapping_add(filling).wrapping_add(8)
     )?;
     for _ in 0..len {
-        text.push_str("07")?;
+        write!(text, "07")?;
     }
     for _ in 0..filling {
-        text.push_str("00")?;
+        write!(text, "00")?;
     }
     Ok(text)
 }
 
+// Whether a byte string of this length is written as its bytes by each call.
+fn are_sevens(alloc: Global, len: usize) -> bool {
+    match (&sevens_text(alloc, len), &sevens(alloc, len)) {
+        (Ok(text), Ok(data)) => is_written(alloc, data, text.as_str()),
+        _ => false,
+    }
+}
+
 #[test]
-fn byte_strings_of_many_lengths(rt: HostRuntime) -> Result<(), Fail> {
+fn byte_strings_of_many_lengths(rt: HostRuntime) {
     for len in [
         0, 1, 7, 8, 9, 996, 1_000, 1_001, 1_007, 1_008, 1_009, 4_096, 4_097,
     ] {
-        let text = sevens_text(rt.alloc(), len)?;
-        let data = sevens(rt.alloc(), len)?;
-        let is_right = is_written(rt.alloc(), &data, text.as_str());
+        let is_right = are_sevens(rt.alloc(), len);
         assert!(rt; is_right, "{len}");
     }
-    Ok(())
 }
