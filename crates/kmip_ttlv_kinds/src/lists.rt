@@ -1,0 +1,227 @@
+//! Lists of parts: tuples of up to four kinds, or `Four` of them with others behind. What they hold has the same layout.
+
+ghost use Rattle.std.specs.Prelude.{◌≡◌, [], ◌∷◌, IfOk};
+ghost use Rattle.kmip_ttlv_types.specs.Digits.{tag_text};
+ghost use Rattle.kmip_ttlv_base.specs.Forms.{field, no_fields};
+ghost use Rattle.kmip_ttlv_base.specs.Values.{no_values, value};
+ghost use Rattle.kmip_ttlv_base.specs.Visits.{joined};
+ghost use Rattle.kmip_ttlv_reader.specs.Reads.{has_fields, names_tag};
+ghost use Rattle.kmip_ttlv_reader.specs.Outcomes.{fields_outcome};
+ghost use Rattle.kmip_ttlv_reader.specs.Spots.{IsReadTo, IsWithin, at};
+ghost use Rattle.kmip_ttlv_kinds.specs.Parts.{AreFour, AreThree, AreTwo, are_four, are_more, are_three, are_two, block, four_of, in_blocks, is_one, last, more_of, of, then, three_of, two_of};
+
+use crate::counts::{AsField, Part};
+use kmip_ttlv_base::types::TtlvTag;
+use kmip_ttlv_reader::reader::{self, Cursor, FieldList, Scope, Step};
+use std::alloc::Allocator;
+use std::marker::PhantomData;
+
+/// The parts of a structure, in their order.
+pub trait PartList<A: Allocator + Copy> {
+    ghost use Rattle.kmip_ttlv_base.specs.Forms.{Fields};
+    ghost use Rattle.kmip_ttlv_base.specs.Values.{Values};
+    ghost use Rattle.kmip_ttlv_kinds.specs.Parts.{ListRules};
+
+    /// The types of Rust that hold them, as a tuple.
+    type Holds: Drop;
+
+    // The parts' names and forms.
+    ghost fields: { Fields };
+
+    // The values that they are read as.
+    ghost values: { Self.Holds → Values };
+
+    // What is written of them, which are sound, and that these come back.
+    ghost rules: { ListRules Self.Holds fields values };
+
+    /// Whether there is a part.
+    fn has_parts() -> bool
+        ensures { result ≡ has_fields fields };
+
+    /// Whether the tag is that of a part.
+    fn is_part(tag: TtlvTag) -> bool
+        ensures { result ≡ names_tag fields tag };
+
+    /// The parts, from the cursor on.
+    fn read_list<'b>(scope: &Scope<'b, A>, cursor: &mut Cursor<'b, A>) -> Step<Self::Holds, A>
+        requires within { IsWithin scope.now cursor.old }
+        ensures read { IsReadTo values cursor.new (at (fields_outcome fields) scope.now cursor.old) result }
+        ensures within { IfOk result (λ _. IsWithin scope.now cursor.new) };
+}
+
+impl<P: Part<A>, A: Allocator + Copy> PartList<A> for (P,) {
+    type Holds = (P::Holds,);
+
+    ghost fields = { field (tag_text P.rules.tag) P.form no_fields };
+
+    ghost values = { λ x. value (P.value x.0) no_values };
+
+    ghost rules = { in_blocks (λ x. block (P.rules.written x.0 ∷ [])) (λ x. P.rules.IsSound x.0)
+        (of (λ x. x.0) (last P.rules)) (λ x. is_one (P.rules.written x.0)) (λ x sound. sound) };
+
+    fn has_parts() -> bool {
+        true
+    }
+
+    fn is_part(tag: TtlvTag) -> bool {
+        <(AsField<P>,) as FieldList<A>>::is_field(tag)
+    }
+
+    #[inline(always)]
+    fn read_list<'b>(scope: &Scope<'b, A>, cursor: &mut Cursor<'b, A>) -> Step<(P::Holds,), A> {
+        <(AsField<P>,) as FieldList<A>>::read(scope, cursor)
+    }
+}
+
+impl<P: Part<A>, Q: Part<A>, A: Allocator + Copy> PartList<A> for (P, Q) {
+    type Holds = (P::Holds, Q::Holds);
+
+    ghost fields = { field (tag_text P.rules.tag) P.form (field (tag_text Q.rules.tag) Q.form no_fields) };
+
+    ghost values = { λ x. value (P.value x.0) (value (Q.value x.1) no_values) };
+
+    ghost rules = { in_blocks (λ x. block (P.rules.written x.0 ∷ Q.rules.written x.1 ∷ []))
+        (λ x. AreTwo (P.rules.IsSound x.0) (Q.rules.IsSound x.1))
+        (of (λ x. (x.0, x.1)) (then P.rules (last Q.rules))) (λ x. are_two (P.rules.written x.0) (Q.rules.written x.1)) (λ x sound. two_of sound) };
+
+    fn has_parts() -> bool {
+        true
+    }
+
+    fn is_part(tag: TtlvTag) -> bool {
+        <(AsField<P>, AsField<Q>) as FieldList<A>>::is_field(tag)
+    }
+
+    #[inline(always)]
+    fn read_list<'b>(
+        scope: &Scope<'b, A>,
+        cursor: &mut Cursor<'b, A>,
+    ) -> Step<(P::Holds, Q::Holds), A> {
+        <(AsField<P>, AsField<Q>) as FieldList<A>>::read(scope, cursor)
+    }
+}
+
+impl<P: Part<A>, Q: Part<A>, R: Part<A>, A: Allocator + Copy> PartList<A> for (P, Q, R) {
+    type Holds = (P::Holds, Q::Holds, R::Holds);
+
+    ghost fields = { field (tag_text P.rules.tag) P.form (field (tag_text Q.rules.tag) Q.form (field (tag_text R.rules.tag) R.form no_fields)) };
+
+    ghost values = { λ x. value (P.value x.0) (value (Q.value x.1) (value (R.value x.2) no_values)) };
+
+    ghost rules = { in_blocks (λ x. block (P.rules.written x.0 ∷ Q.rules.written x.1 ∷ R.rules.written x.2 ∷ []))
+        (λ x. AreThree (P.rules.IsSound x.0) (Q.rules.IsSound x.1) (R.rules.IsSound x.2))
+        (of (λ x. (x.0, (x.1, x.2))) (then P.rules (then Q.rules (last R.rules)))) (λ x. are_three (P.rules.written x.0) (Q.rules.written x.1) (R.rules.written x.2)) (λ x sound. three_of sound) };
+
+    fn has_parts() -> bool {
+        true
+    }
+
+    fn is_part(tag: TtlvTag) -> bool {
+        <(AsField<P>, AsField<Q>, AsField<R>) as FieldList<A>>::is_field(tag)
+    }
+
+    #[inline(always)]
+    fn read_list<'b>(
+        scope: &Scope<'b, A>,
+        cursor: &mut Cursor<'b, A>,
+    ) -> Step<(P::Holds, Q::Holds, R::Holds), A> {
+        <(AsField<P>, AsField<Q>, AsField<R>) as FieldList<A>>::read(scope, cursor)
+    }
+}
+
+impl<P: Part<A>, Q: Part<A>, R: Part<A>, S: Part<A>, A: Allocator + Copy> PartList<A>
+    for (P, Q, R, S) {
+    type Holds = (P::Holds, Q::Holds, R::Holds, S::Holds);
+
+    ghost fields = { field (tag_text P.rules.tag) P.form (field (tag_text Q.rules.tag) Q.form (field (tag_text R.rules.tag) R.form (field (tag_text S.rules.tag) S.form no_fields))) };
+
+    ghost values = { λ x. value (P.value x.0) (value (Q.value x.1) (value (R.value x.2) (value (S.value x.3) no_values))) };
+
+    ghost rules = { in_blocks (λ x. block (P.rules.written x.0 ∷ Q.rules.written x.1 ∷ R.rules.written x.2 ∷ S.rules.written x.3 ∷ []))
+        (λ x. AreFour (P.rules.IsSound x.0) (Q.rules.IsSound x.1) (R.rules.IsSound x.2) (S.rules.IsSound x.3))
+        (of (λ x. (x.0, (x.1, (x.2, x.3)))) (then P.rules (then Q.rules (then R.rules (last S.rules))))) (λ x. are_four (P.rules.written x.0) (Q.rules.written x.1) (R.rules.written x.2) (S.rules.written x.3)) (λ x sound. four_of sound) };
+
+    fn has_parts() -> bool {
+        true
+    }
+
+    fn is_part(tag: TtlvTag) -> bool {
+        <(AsField<P>, AsField<Q>, AsField<R>, AsField<S>) as FieldList<A>>::is_field(tag)
+    }
+
+    #[inline(always)]
+    fn read_list<'b>(
+        scope: &Scope<'b, A>,
+        cursor: &mut Cursor<'b, A>,
+    ) -> Step<(P::Holds, Q::Holds, R::Holds, S::Holds), A> {
+        <(AsField<P>, AsField<Q>, AsField<R>, AsField<S>) as FieldList<A>>::read(scope, cursor)
+    }
+}
+
+/// Four parts, and others behind them.
+#[derive(Drop)]
+pub struct Four<P, Q, R, S, L> {
+    kind: PhantomData<(P, Q, R, S, L)>,
+}
+
+impl<P: Part<A>, Q: Part<A>, R: Part<A>, S: Part<A>, L: PartList<A>, A: Allocator + Copy> PartList<
+    A,
+> for Four<P, Q, R, S, L> {
+    type Holds = (P::Holds, Q::Holds, R::Holds, S::Holds, L::Holds);
+
+    ghost fields = { field (tag_text P.rules.tag) P.form (field (tag_text Q.rules.tag) Q.form (field (tag_text R.rules.tag) R.form (field (tag_text S.rules.tag) S.form L.fields))) };
+
+    ghost values = { λ x. value (P.value x.0) (value (Q.value x.1) (value (R.value x.2) (value (S.value x.3) (L.values x.4)))) };
+
+    ghost rules = { in_blocks (λ x. joined (block (P.rules.written x.0 ∷ Q.rules.written x.1 ∷ R.rules.written x.2 ∷ S.rules.written x.3 ∷ [])) (L.rules.written x.4))
+        (λ x. AreFour (P.rules.IsSound x.0) (Q.rules.IsSound x.1) (R.rules.IsSound x.2) (S.rules.IsSound x.3) × L.rules.IsSound x.4)
+        (of (λ x. (x.0, (x.1, (x.2, (x.3, x.4))))) (then P.rules (then Q.rules (then R.rules (then S.rules L.rules)))))
+        (λ x. are_more (P.rules.written x.0) (Q.rules.written x.1) (R.rules.written x.2) (S.rules.written x.3) (L.rules.written x.4)) (λ x sound. more_of sound) };
+
+    fn has_parts() -> bool {
+        true
+    }
+
+    fn is_part(tag: TtlvTag) -> bool {
+        <reader::Four<AsField<P>, AsField<Q>, AsField<R>, AsField<S>, AsFields<L>> as FieldList<
+            A,
+        >>::is_field(tag)
+    }
+
+    #[inline(always)]
+    fn read_list<'b>(
+        scope: &Scope<'b, A>,
+        cursor: &mut Cursor<'b, A>,
+    ) -> Step<(P::Holds, Q::Holds, R::Holds, S::Holds, L::Holds), A> {
+        <reader::Four<AsField<P>, AsField<Q>, AsField<R>, AsField<S>, AsFields<L>> as FieldList<
+            A,
+        >>::read(scope, cursor)
+    }
+}
+
+/// A list of parts, as the reader takes it.
+#[derive(Drop)]
+pub struct AsFields<L> {
+    kind: PhantomData<L>,
+}
+
+impl<L: PartList<A>, A: Allocator + Copy> FieldList<A> for AsFields<L> {
+    type Read = L::Holds;
+
+    ghost fields = { L.fields };
+
+    ghost values = { L.values };
+
+    fn has_fields() -> bool {
+        L::has_parts()
+    }
+
+    fn is_field(tag: TtlvTag) -> bool {
+        L::is_part(tag)
+    }
+
+    #[inline(always)]
+    fn read<'b>(scope: &Scope<'b, A>, cursor: &mut Cursor<'b, A>) -> Step<L::Holds, A> {
+        L::read_list(scope, cursor)
+    }
+}

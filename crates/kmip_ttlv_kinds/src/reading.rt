@@ -1,0 +1,205 @@
+//! Reading a structure's parts: its header, the parts, what follows them, and the end.
+
+ghost use Rattle.std.specs.Prelude.{◌≡◌, suc, ◌+◌, ◌≤◌, length, IfOk};
+ghost use Rattle.kmip_ttlv_types.specs.Digits.{tag_text};
+ghost use Rattle.kmip_ttlv_reader.specs.Outcomes.{all_outcome, fields_outcome, first_outcome, ignored, opened, outcome, rest_outcome, root_outcome, struct_outcome};
+ghost use Rattle.kmip_ttlv_reader.specs.ReadResults.{IsReadAs};
+ghost use Rattle.kmip_ttlv_reader.specs.Results.{IsStep};
+ghost use Rattle.kmip_ttlv_reader.specs.Spots.{IsReadTo, IsWithin, at, structure_form, structure_value};
+
+use crate::lists::PartList;
+use kmip_ttlv_base::error::{Error, SerdeError};
+use kmip_ttlv_base::types::TtlvType;
+use kmip_ttlv_reader::cursor::tag_is;
+use kmip_ttlv_reader::errors::error;
+use kmip_ttlv_reader::failure::{at_item, in_struct, within};
+use kmip_ttlv_reader::head::{
+    inside, item_end, length_there, structure_wanted, tag_at, type_there,
+};
+use kmip_ttlv_reader::reader::{Cause, Cursor, Scope, Step};
+use std::alloc::Allocator;
+
+// Where the content of a structure of this tag ends.
+#[tactic(auto, unfolding(kmip_ttlv_reader::specs::Outcomes::opened), using(kmip_ttlv_reader::proofs::Steps::failure_then))]
+#[inline(always)]
+fn opened<A: Allocator + Copy>(alloc: A, number: u32, bytes: &[u8], pos: usize) -> Step<usize, A>
+    requires inside { pos ≤ length bytes.now }
+    ensures step { IsStep (λ q. q) (opened (tag_text number) bytes.now pos) result }
+    ensures there { IfOk result (λ q. (pos + 8 ≤ length bytes.now) × (pos + 8 ≤ q)) }
+{
+    let typ = type_there(alloc, bytes, pos)?;
+    tag_is(alloc, number, bytes, pos, typ)?;
+    structure_wanted(alloc, bytes, pos, typ)?;
+    let n = length_there(bytes, pos)?;
+    Ok(pos + 8 + n as usize)
+}
+
+// An item behind the parts, which is ignored, unless the structure is closed.
+#[tactic(auto, unfolding(kmip_ttlv_reader::specs::Outcomes::ignored), using(kmip_ttlv_reader::proofs::Steps::failing))]
+fn read_ignored<'b, L: PartList<A>, A: Allocator + Copy>(
+    scope: &Scope<'b, A>,
+    closed: bool,
+    pos: usize,
+) -> Step<usize, A>
+    requires inside { pos ≤ length scope.now.bytes.now }
+    ensures step { IsStep (λ q. q) (ignored L.fields closed scope.now.bytes.now scope.now.owner pos scope.now.end) result }
+    ensures further { IfOk result (λ q. (pos + 8 ≤ q) × (q ≤ scope.now.end) × (q ≤ length scope.now.bytes.now)) }
+{
+    let typ = type_there(scope.alloc, scope.bytes, pos)?;
+    if !L::has_parts() {
+        let cause = Cause::Mismatch(SerdeError::MissingIdentifier);
+        return Err(at_item(scope.alloc, scope.bytes, pos, 4, typ, cause));
+    }
+    if L::is_part(tag_at(scope.bytes, pos)) {
+        return Err(in_struct(scope.alloc, pos + 4, scope.owner, "duplicate field"));
+    }
+    if closed {
+        return Err(in_struct(scope.alloc, pos + 4, scope.owner, "unknown field"));
+    }
+    let next = item_end(scope.alloc, scope.bytes, pos, typ)?;
+    inside(scope.alloc, scope.bytes, pos, scope.end, typ, next)?;
+    Ok(next)
+}
+
+// What follows the parts, up to the end: in most messages nothing.
+#[tactic(auto, using(kmip_ttlv_reader::proofs::Steps::failure_then))]
+#[inline(always)]
+fn read_rest<'b, L: PartList<A>, A: Allocator + Copy>(
+    scope: &Scope<'b, A>,
+    closed: bool,
+    pos: usize,
+) -> Step<usize, A>
+    requires inside { pos ≤ length scope.now.bytes.now }
+    requires before { pos ≤ scope.now.end }
+    ensures step { IsStep (λ q. q) (rest_outcome (suc (length scope.now.bytes.now)) L.fields closed
+        scope.now.bytes.now scope.now.owner pos scope.now.end) result }
+    ensures whole { IfOk result (λ q. (q ≡ scope.now.end) × (scope.now.end ≤ length scope.now.bytes.now)) }
+{
+    let mut next = pos;
+    while next < scope.end {
+        next = read_ignored::<L, A>(scope, closed, next)?;
+    }
+    Ok(next)
+}
+
+// All that the structure contains.
+#[tactic(auto, unfolding(kmip_ttlv_reader::specs::Outcomes::all_outcome), using(kmip_ttlv_reader::proofs::Steps::failure_then))]
+#[inline(always)]
+fn read_content<'b, L: PartList<A>, A: Allocator + Copy>(
+    scope: &Scope<'b, A>,
+    closed: bool,
+    cursor: &mut Cursor<'b, A>,
+) -> Step<L::Holds, A>
+    requires within { IsWithin scope.now cursor.old }
+    ensures read { IsReadTo L.values cursor.new
+        (at (all_outcome L.fields closed (fields_outcome L.fields)) scope.now cursor.old) result }
+    ensures whole { IfOk result (λ _. (cursor.new.pos ≡ scope.now.end) × (scope.now.end ≤ length scope.now.bytes.now)) }
+{
+    let held = L::read_list(scope, cursor)?;
+    let next = read_rest::<L, A>(scope, closed, cursor.pos())?;
+    cursor.go_to(next);
+    Ok(held)
+}
+
+// The parts of a structure of this tag within another, header and all.
+#[tactic(auto, unfolding(kmip_ttlv_reader::specs::Outcomes::struct_outcome), using(kmip_ttlv_reader::proofs::Steps::failure_then))]
+#[inline(always)]
+fn read_whole<'b, L: PartList<A>, A: Allocator + Copy>(
+    scope: &Scope<'b, A>,
+    number: u32,
+    closed: bool,
+    cursor: &mut Cursor<'b, A>,
+) -> Step<L::Holds, A>
+    requires within { IsWithin scope.now cursor.old }
+    ensures read { IsReadTo L.values cursor.new
+        (at (struct_outcome (tag_text number) L.fields closed (fields_outcome L.fields)) scope.now cursor.old) result }
+    ensures within { IfOk result (λ _. IsWithin scope.now cursor.new) }
+    ensures further { IfOk result (λ _. cursor.old.pos + 8 ≤ cursor.new.pos) }
+{
+    let pos = cursor.pos();
+    let end = opened(scope.alloc, number, scope.bytes, pos)?;
+    let owner = tag_at(scope.bytes, pos);
+    let content = Scope {
+        alloc: scope.alloc,
+        bytes: scope.bytes,
+        owner,
+        end,
+    };
+    cursor.go_to(pos + 8);
+    match read_content::<L, A>(&content, closed, cursor) {
+        Ok(held) => {
+            inside(
+                scope.alloc,
+                scope.bytes,
+                pos,
+                scope.end,
+                TtlvType::Structure,
+                end,
+            )?;
+            Ok(held)
+        }
+        Err(failure) => Err(within(owner, failure)),
+    }
+}
+
+/// The parts of a structure of this tag, from the cursor on, header and all, for a `read_nested`. If it is closed, an item behind the
+/// parts is an error.
+#[inline(always)]
+pub fn read_parts<'b, L: PartList<A>, A: Allocator + Copy>(
+    scope: &Scope<'b, A>,
+    number: u32,
+    closed: bool,
+    cursor: &mut Cursor<'b, A>,
+) -> Step<L::Holds, A>
+    requires within { IsWithin scope.now cursor.old }
+    ensures read { IsReadTo (structure_value number L.values) cursor.new
+        (at (outcome (structure_form number L.fields closed)) scope.now cursor.old) result }
+    ensures within { IfOk result (λ _. IsWithin scope.now cursor.new) }
+    ensures further { IfOk result (λ _. cursor.old.pos + 8 ≤ cursor.new.pos) }
+{
+    match read_whole::<L, A>(scope, number, closed, cursor) {
+        Ok(held) => Ok(held),
+        Err(failure) => Err(failure),
+    }
+}
+
+// The parts of the structure that a message is.
+#[tactic(auto, unfolding(kmip_ttlv_reader::specs::Outcomes::first_outcome), using(kmip_ttlv_reader::proofs::Steps::failure_then))]
+fn read_first<L: PartList<A>, A: Allocator + Copy>(
+    alloc: A,
+    number: u32,
+    closed: bool,
+    bytes: &[u8],
+) -> Step<L::Holds, A>
+    ensures step { IsStep L.values (first_outcome (tag_text number) L.fields closed (fields_outcome L.fields) bytes.now) result }
+{
+    let end = opened(alloc, number, bytes, 0)?;
+    let owner = tag_at(bytes, 0);
+    let content = Scope {
+        alloc,
+        bytes,
+        owner,
+        end,
+    };
+    let mut cursor = Cursor::new(alloc, 8);
+    match read_content::<L, A>(&content, closed, &mut cursor) {
+        Ok(held) => Ok(held),
+        Err(failure) => Err(within(owner, failure)),
+    }
+}
+
+/// The parts of a structure of this tag with which the bytes begin, for a `decode`. It has the errors of `from_slice`.
+pub fn read_message_parts<L: PartList<A>, A: Allocator + Copy>(
+    alloc: A,
+    number: u32,
+    closed: bool,
+    bytes: &[u8],
+) -> Result<L::Holds, Error<A>>
+    ensures equals { IsReadAs (λ v x. v ≡ structure_value number L.values x)
+        (root_outcome (structure_form number L.fields closed) bytes.now) result }
+{
+    match read_first::<L, A>(alloc, number, closed, bytes) {
+        Ok(held) => Ok(held),
+        Err(failure) => Err(error(failure)),
+    }
+}
