@@ -3,8 +3,8 @@
 //!
 //! `message` has a part of every kind, `leaves` the leaves, `chosen` choices, `query` sequences that may be empty and open
 //! Enumerations, and `parcel` structures on the heap: these are what `codegen/codegen` writes of `types.table`.
-//! `numbers` has the parts that are written by hand, `choice` and `samples` types with a shape, `request` and `get_attributes` types
-//! that are only written, and `data` what data is made of by hand.
+//! `lists` has types that are lists of parts, `numbers` parts that are written by hand otherwise, `choice` and `samples` types with a
+//! shape, `request` and `get_attributes` types that are only written, and `data` what data is made of by hand.
 #![tactic(auto)]
 
 pub mod choice;
@@ -13,6 +13,7 @@ pub mod data;
 pub mod get_attributes;
 pub mod laws;
 pub mod leaves;
+pub mod lists;
 pub mod message;
 pub mod numbers;
 pub mod parcel;

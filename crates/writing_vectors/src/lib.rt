@@ -13,6 +13,8 @@ mod bytes;
 #[cfg(test)]
 mod choosing;
 #[cfg(test)]
+mod lists;
+#[cfg(test)]
 mod low_level;
 #[cfg(test)]
 mod nesting;

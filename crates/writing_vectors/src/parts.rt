@@ -2,9 +2,8 @@
 //! shape chooses.
 
 use crate::bytes::{
-    CONSTANT, CONTENTS, MANY, MOMENTS, NAMED, NUMBERS, OPTIONAL_CONTENTS, OPTIONAL_NUMBERS, PAIR,
-    REASONS, SECOND, SMALL, TEXT, THREE, WHOLE, come_back, comes_back, is_both_ways, is_written,
-    joined,
+    CONSTANT, CONTENTS, MOMENTS, NUMBERS, OPTIONAL_CONTENTS, OPTIONAL_NUMBERS, PAIR, REASONS,
+    SECOND, SMALL, TEXT, THREE, WHOLE, come_back, is_both_ways, is_written, joined,
 };
 use kmip_ttlv::error::{ErrorKind, Result};
 use kmip_ttlv::from_slice;
@@ -13,7 +12,7 @@ use std::alloc::{AllocError, Allocator, Global};
 use ttlv_vectors::choice::Choice;
 use ttlv_vectors::leaves::{Contents, Kind, Moments, Numbers, OptionalContents};
 use ttlv_vectors::message::Every;
-use ttlv_vectors::numbers::{Many, Named, OptionalNumbers, Reasons};
+use ttlv_vectors::numbers::{OptionalNumbers, Reasons};
 
 const FULL_NUMBERS: Numbers = Numbers {
     count: -2,
@@ -48,20 +47,9 @@ const ONE_REASON: Reasons = Reasons {
     second: None,
 };
 
-const LEAVES: Many = Many {
-    count: -2,
-    other: 5,
-    long: i64::MAX,
-    date: 0x4AFB_E7C2,
-    truth: true,
-    seconds: 3600,
-};
-
 // Parts that own no memory.
 fn numbers_come_back(alloc: Global) -> bool {
-    is_both_ways(alloc, &FULL_NUMBERS, &[NUMBERS])
-        && is_both_ways(alloc, &FULL_MOMENTS, &[MOMENTS])
-        && comes_back(alloc, &LEAVES, MANY)
+    is_both_ways(alloc, &FULL_NUMBERS, &[NUMBERS]) && is_both_ways(alloc, &FULL_MOMENTS, &[MOMENTS])
 }
 
 fn optional_numbers_come_back(alloc: Global) -> bool {
@@ -125,14 +113,6 @@ fn optional_contents(alloc: Global) -> std::result::Result<OptionalContents, All
     Ok(all_contents(contents(alloc, &BIG)?))
 }
 
-fn named(alloc: Global) -> std::result::Result<Named, AllocError> {
-    Ok(Named {
-        name: String::from_str(alloc, "Text")?,
-        count: -2,
-        date: 0x4AFB_E7C2,
-    })
-}
-
 // A large number of two bytes is written as eight, which are read.
 fn contents_are_written(alloc: Global, big: &[u8]) -> bool {
     match (&contents(alloc, big), &hex::decode(alloc, CONTENTS)) {
@@ -160,10 +140,6 @@ fn optional_contents_come_back(alloc: Global) -> bool {
     }
 }
 
-fn a_text_comes_back(alloc: Global) -> bool {
-    matches!(&named(alloc), Ok(named) if comes_back(alloc, named, NAMED))
-}
-
 #[test]
 fn parts_come_back(rt: HostRuntime) {
     let alloc = rt.alloc();
@@ -174,7 +150,6 @@ fn parts_come_back(rt: HostRuntime) {
         ("a large number", contents_are_written(alloc, &[1, 1])),
         ("contents", contents_come_back(alloc)),
         ("optional contents", optional_contents_come_back(alloc)),
-        ("a text", a_text_comes_back(alloc)),
     ] {
         assert!(rt; is_right, "{what}");
     }
