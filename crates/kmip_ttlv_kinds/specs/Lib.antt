@@ -1,2 +1,4 @@
+pub mod Choices
+pub mod Laws
 pub mod Leaves
 pub mod Parts

@@ -7,20 +7,25 @@ use Rattle.std.proofs.lemmas.Bool.{and_parts, eqb-true, not-true}
 use Rattle.kmip_ttlv_types.specs.{declared.typ.TtlvType.TtlvType, Digits.tag_text}
 use Rattle.kmip_ttlv_types.specs.declared.typ.TtlvType.TheVariants as types
 use Rattle.kmip_ttlv_base.specs.Forms.{Form, option, seq, Fields, no_fields, field}
-use Rattle.kmip_ttlv_base.specs.Values.{Value, seq_value, Values, no_values, value}
+use Rattle.kmip_ttlv_base.specs.Values.{Value, seq_value, some_value, Values, no_values, value}
 use Rattle.kmip_ttlv_base.specs.Visits.{joined, optional_field}
+use Rattle.kmip_ttlv_reader.specs.TagValues.{TagValue}
 use Rattle.kmip_ttlv_reader.specs.Spots.{optional_value, optional_values, structure_form, structure_value, values_by}
 use Rattle.kmip_ttlv_parts.specs.{Boxes.boxed, Boxes.IsBoxed, declared.boxed.Boxed.Boxed}
 use Rattle.kmip_ttlv_parts.specs.{Agreements.Head, Agreements.MessageAgrees, Agreements.is_run, MessageParts.sequence}
+use Rattle.kmip_ttlv_parts.specs.Agreements.{Agrees, none_pending, absent_agrees, field_agrees, option_agrees}
 use Rattle.kmip_ttlv_parts.proofs.{Equal.any_equal, Equal.in_structure, Equal.last_equal, Equal.options_equal, Equal.part_equal, Equal.several_equal}
-use Rattle.kmip_ttlv_parts.proofs.{Known.Known, Known.left, TagNumbers.IsTag, TagNumbers.is_tagged}
-use Rattle.kmip_ttlv_parts.proofs.MessageParts.{PartAgrees, PartsAgree, any_then, every_agrees, nothing_left, optional_then, part_then, several_then}
+use Rattle.kmip_ttlv_parts.proofs.Known.{Finds, Known, finds_left, finds_less, left}
+use Rattle.kmip_ttlv_parts.proofs.TagNumbers.{IsTag, in_its_field, is_tagged, named_is_tagged}
+use Rattle.kmip_ttlv_parts.proofs.MessageParts.{PartAgrees, PartsAgree, any_then, ends, every_agrees, head_or, if_present, neither_tagged, nothing_left}
+use Rattle.kmip_ttlv_parts.proofs.MessageParts.{optional_then, part_then, several_then}
+use Rattle.kmip_ttlv_parts.proofs.MessageRules.{PartKeeps, optional_stored_then, stored_then}
 use Rattle.kmip_ttlv_parts.proofs.MessageParts as messages
 
 -- ---- items
 
 -- of a type whose values are read as one item: its tag and type, and what is written of it; of a sound one this comes back, and what is read
--- from it is equal
+-- from it is equal; what it says is the text that is kept of it, by which a rule may choose a later part
 pub record ItemRules (H : Type 0) (form : Form) (as_value : H → Value) : Type 1 where
   pub number : ℕ
   pub typ : TtlvType
@@ -29,7 +34,16 @@ pub record ItemRules (H : Type 0) (form : Form) (as_value : H → Value) : Type 
   pub eq : H → H → Boole
   pub single : (x : H) → is_run (as_value x) ≡ false
   pub agrees : IsTag number → (x : H) → IsSound x → PartAgrees form (written x) record { tag = number; typ = typ } (as_value x)
+  pub says : Option (H → List ℕ)
+  pub keeps : IsTag number → IfSome says (λ text. (x : H) → IsSound x
+      → PartKeeps form (written x) record { tag = number; typ = typ } (as_value x) record { tag = number; text = text x })
   pub same : (x y : H) → as_value x ≡ as_value y → eq x y ≡ true
+
+-- all that is known of such a type
+pub record ItemOf (H : Type 0) : Type 1 where
+  pub form : Form
+  pub value : H → Value
+  pub rules : ItemRules H form value
 
 -- ---- parts
 
@@ -39,60 +53,108 @@ pub record PartFollows (t : ℕ) (known : List Known) (fs : Fields) (ws : Values
   pub other : (u : ℕ) → (u == t) ≡ false → is_tagged u y ≡ false → is_tagged u head ≡ false
   pub follows : PartsAgree known fs ws head vs
 
--- a part of this tag that is written so comes back, in front of any parts that do
-abbrev pub PartLaw : ℕ → Form → Values → Value → Type 0
-PartLaw t s ws v =
+-- where what it needs is known, a part of this tag that is written so comes back, in front of any parts that do
+abbrev pub PartLaw : ℕ → Form → Values → Value → (List Known → Type 0) → (List Known → List Known) → Type 0
+PartLaw t s ws v Needs after =
     (known : List Known) (fs : Fields) (us : Values) (y : Option Head) (vs : Values)
     → IsTag t
     → is_tagged t y ≡ false
-    → PartsAgree (left known t s) fs us y vs
+    → Needs known
+    → PartsAgree (after known) fs us y vs
     → PartFollows t known (field (tag_text t) s fs) (joined ws us) y (value v vs)
 
--- of a part: its tag, and what is written of what it holds; `fits` is that its element has this tag
+-- of a part: its tag, and what is written of what it holds; `fits` is that its element has this tag, `free` that it needs nothing to be known
+-- of what stands before it; `after` is what is known after it
 pub record PartRules (H : Type 0) (form : Form) (as_value : H → Value) : Type 1 where
   pub tag : ℕ
   pub fits : Boole
   pub written : H → Values
   pub IsSound : H → Type 0
+  pub Needs : H → List Known → Type 0
+  pub after : H → List Known → List Known
+  pub free : Boole
+  pub enough : free ≡ true → (x : H) (known : List Known) → Needs x known
   pub eq : H → H → Boole
-  pub agrees : fits ≡ true → (x : H) → IsSound x → PartLaw tag form (written x) (as_value x)
+  pub agrees : fits ≡ true → (x : H) → IsSound x → PartLaw tag form (written x) (as_value x) (Needs x) (after x)
   pub same : (x y : H) → as_value x ≡ as_value y → eq x y ≡ true
 
-pub one_law : {H : Type 0} {s : Form} {g : H → Value} (i : ItemRules H s g) (x : H) → i.IsSound x → PartLaw i.number s (value (i.written x) no_values) (g x)
-one_law i x sound known fs us y vs is apart rest = record {
+-- nothing has to be known
+abbrev pub NeedsNothing : {H : Type 0} → H → List Known → Type 0
+NeedsNothing x known = Unit {0}
+
+-- what is known after an item of this tag and form: what it says, if it says anything, and otherwise what it leaves
+abbrev pub after_one : {H : Type 0} → ℕ → Form → Option (H → List ℕ) → H → List Known → List Known
+after_one t s None x known = left known t s
+after_one t s (Some text) x known = record { tag = t; text = Some (text x) } ∷ known
+
+item_then : {H : Type 0} {s : Form} {g : H → Value} {fs : Fields} {us vs : Values} {y : Option Head} (i : ItemRules H s g) (says : Option (H → List ℕ)) (x : H)
+    (known : List Known) → IsTag i.number
+    → IfSome says (λ text. (z : H) → i.IsSound z
+    → PartKeeps s (i.written z) record { tag = i.number; typ = i.typ } (g z) record { tag = i.number; text = text z })
+    → i.IsSound x
+    → PartsAgree (after_one i.number s says x known) fs us y vs
+    → PartsAgree known (field (tag_text i.number) s fs) (value (i.written x) us) (Some record { tag = i.number; typ = i.typ }) (value (g x) vs)
+item_then i None x known is keeps sound rest = part_then i.number is (i.single x) (i.agrees is x sound) rest
+item_then i (Some text) x known is keeps sound rest = stored_then i.number is (i.single x) (keeps x sound) rest
+
+pub one_law : {H : Type 0} {s : Form} {g : H → Value} (i : ItemRules H s g) (x : H) → i.IsSound x
+    → PartLaw i.number s (value (i.written x) no_values) (g x) (NeedsNothing x) (after_one i.number s i.says x)
+one_law i x sound known fs us y vs is apart needs rest = record {
   head = Some record { tag = i.number; typ = i.typ };
   other = λ u differs next. differs;
-  follows = part_then i.number is (i.single x) (i.agrees is x sound) rest;
+  follows = item_then i i.says x known is (i.keeps is) sound rest;
 }
 
 -- exactly one item
 abbrev pub one : {H : Type 0} {s : Form} {g : H → Value} → ItemRules H s g → PartRules H s g
-one i = record {
+one {s = s} i = record {
   tag = i.number;
   fits = true;
   written = λ x. value (i.written x) no_values;
   IsSound = i.IsSound;
+  Needs = NeedsNothing;
+  after = after_one i.number s i.says;
+  free = true;
+  enough = λ free x known. tt;
   eq = i.eq;
   agrees = λ fits. one_law i;
   same = i.same;
 }
 
+-- the same after one that may be absent
+abbrev pub after_maybe : {H : Type 0} → ℕ → Form → Option (H → List ℕ) → Option H → List Known → List Known
+after_maybe t s None o known = left known t (option s)
+after_maybe t s (Some text) o known = record { tag = t; text = option_map text o } ∷ known
+
+maybe_then : {H : Type 0} {s : Form} {g : H → Value} {fs : Fields} {us vs : Values} {y : Option Head} (i : ItemRules H s g) (says : Option (H → List ℕ))
+    (o : Option H) (known : List Known) → IsTag i.number
+    → is_tagged i.number y ≡ false
+    → IfSome says (λ text. (x : H) → i.IsSound x
+    → PartKeeps s (i.written x) record { tag = i.number; typ = i.typ } (g x) record { tag = i.number; text = text x })
+    → IfSome o i.IsSound
+    → PartsAgree (after_maybe i.number s says o known) fs us y vs
+    → PartsAgree known (field (tag_text i.number) (option s) fs) (joined (optional_field (option_map i.written o)) us)
+    (head_or o record { tag = i.number; typ = i.typ } y) (value (optional_value g o) vs)
+maybe_then {g = g} i None o known is apart keeps sound rest =
+    optional_then i.written g record { tag = i.number; typ = i.typ } o is apart (if_present (i.agrees is) i.single o sound) rest
+maybe_then {g = g} i (Some text) o known is apart keeps sound rest =
+    optional_stored_then i.written g record { tag = i.number; typ = i.typ } text o is apart keeps i.single sound rest
+
 pub maybe_law : {H : Type 0} {s : Form} {g : H → Value} (i : ItemRules H s g) (o : Option H) → IfSome o i.IsSound
-    → PartLaw i.number (option s) (optional_field (option_map i.written o)) (optional_value g o)
-maybe_law {g = g} i None sound known fs us y vs is apart rest = record {
-  head = y;
-  other = λ u differs next. next;
-  follows = optional_then i.written g record { tag = i.number; typ = i.typ } None is apart tt rest;
-}
-maybe_law {g = g} i (Some x) sound known fs us y vs is apart rest = record {
-  head = Some record { tag = i.number; typ = i.typ };
-  other = λ u differs next. differs;
-  follows = optional_then i.written g record { tag = i.number; typ = i.typ } (Some x) is apart (i.agrees is x sound, i.single x) rest;
-}
+    → PartLaw i.number (option s) (optional_field (option_map i.written o)) (optional_value g o) (NeedsNothing o) (after_maybe i.number s i.says o)
+maybe_law {g = g} i o sound known fs us y vs is apart needs rest =
+    let x : Head = record { tag = i.number; typ = i.typ } in
+    record {
+      head = head_or o x y;
+      other = λ u differs next. neither_tagged u o x y differs next;
+      follows = maybe_then i i.says o known is apart (i.keeps is) sound rest;
+    }
 
 -- what is true of a part of one tag is true of one of the same tag
-pub at_tag : (s : Form) (ws : Values) (v : Value) (n t : ℕ) → (n == t) ≡ true → PartLaw n s ws v → PartLaw t s ws v
-at_tag s ws v n t same law = subst (λ u. PartLaw u s ws v) (eqb-true n t same) law
+pub at_tag : (s : Form) (ws : Values) (v : Value) (Needs : List Known → Type 0) (after : ℕ → List Known → List Known) (n t : ℕ) → (n == t) ≡ true
+    → PartLaw n s ws v Needs (after n)
+    → PartLaw t s ws v Needs (after t)
+at_tag s ws v Needs after n t same law = subst (λ u. PartLaw u s ws v Needs (after u)) (eqb-true n t same) law
 
 pub maybe_same : {H : Type 0} {s : Form} {g : H → Value} (i : ItemRules H s g) (x y : Option H) → optional_value g x ≡ optional_value g y
     → option_eq i.eq x y ≡ true
@@ -103,19 +165,33 @@ maybe_same {g = g} i (Some x) (Some y) e = options_equal g i.eq i.same (Some x) 
 
 -- an item of this tag, or none
 abbrev pub maybe : {H : Type 0} {s : Form} {g : H → Value} (t : ℕ) → ItemRules H s g → PartRules (Option H) (option s) (optional_value g)
-maybe t i = record {
+maybe {s = s} t i = record {
   tag = t;
   fits = i.number == t;
   written = λ o. optional_field (option_map i.written o);
   IsSound = λ o. IfSome o i.IsSound;
+  Needs = NeedsNothing;
+  after = after_maybe t s i.says;
+  free = true;
+  enough = λ free o known. tt;
   eq = option_eq i.eq;
-  agrees = λ fits o sound. at_tag _ (optional_field (option_map i.written o)) _ i.number t fits (maybe_law i o sound);
+  agrees = λ fits o sound.
+      at_tag _ (optional_field (option_map i.written o)) _ (NeedsNothing o) (λ u. after_maybe u s i.says o) i.number t fits
+      (maybe_law i o sound);
   same = maybe_same i;
 }
 
+-- each of these is sound
+unfoldable pub AreAll : {H : Type 0} → (H → Type 0) → List H → Type 0
+AreAll P xs = All P xs
+
+pub all_of : {H : Type 0} (P : H → Type 0) (xs : List H) → AreAll P xs → All P xs
+unfolding AreAll
+all_of P xs all = all
+
 pub several_law : {H : Type 0} {s : Form} {g : H → Value} (i : ItemRules H s g) (xs : List H) → 0 < length xs → All i.IsSound xs
-    → PartLaw i.number (seq s) (value (sequence i.written xs) no_values) (seq_value (values_by g xs))
-several_law {g = g} i xs some sound known fs us y vs is apart rest = record {
+    → PartLaw i.number (seq s) (value (sequence i.written xs) no_values) (seq_value (values_by g xs)) (NeedsNothing xs) (λ known. left known i.number (seq s))
+several_law {g = g} i xs some sound known fs us y vs is apart needs rest = record {
   head = Some record { tag = i.number; typ = i.typ };
   other = λ u differs next. differs;
   follows = several_then i.written g record { tag = i.number; typ = i.typ } xs is apart some (every_agrees (i.agrees is) i.single xs sound) rest;
@@ -124,24 +200,31 @@ several_law {g = g} i xs some sound known fs us y vs is apart rest = record {
 -- items of this tag, at least one
 abbrev pub several : {L H : Type 0} {s : Form} {g : H → Value} (t : ℕ) (items : L → List H) → ItemRules H s g
     → PartRules L (seq s) (λ l. seq_value (values_by g (items l)))
-several {g = g} t items i = record {
+several {s = s} {g = g} t items i = record {
   tag = t;
   fits = i.number == t;
   written = λ l. value (sequence i.written (items l)) no_values;
-  IsSound = λ l. (0 < length (items l)) × All i.IsSound (items l);
+  IsSound = λ l. (0 < length (items l)) × AreAll i.IsSound (items l);
+  Needs = NeedsNothing;
+  after = λ l known. left known t (seq s);
+  free = true;
+  enough = λ free l known. tt;
   eq = λ l m. pointwise i.eq (items l) (items m);
-  agrees = λ fits l sound. at_tag _ (value (sequence i.written (items l)) no_values) _ i.number t fits (several_law i (items l) sound.0 sound.1);
+  agrees = λ fits l sound.
+      at_tag _ (value (sequence i.written (items l)) no_values) _ (NeedsNothing l) (λ u known. left known u (seq s)) i.number t fits
+      (several_law i (items l) sound.0 (all_of i.IsSound (items l) sound.1));
   same = λ l m e. several_equal g i.eq i.same (items l) (items m) e;
 }
 
 pub any_law : {H : Type 0} {s : Form} {g : H → Value} (i : ItemRules H s g) (xs : List H) → All i.IsSound xs
-    → PartLaw i.number (option (seq s)) (value (sequence i.written xs) no_values) (optional_values g xs)
-any_law {g = g} i [] sound known fs us y vs is apart rest = record {
+    → PartLaw i.number (option (seq s)) (value (sequence i.written xs) no_values) (optional_values g xs) (NeedsNothing xs)
+    (λ known. left known i.number (option (seq s)))
+any_law {g = g} i [] sound known fs us y vs is apart needs rest = record {
   head = y;
   other = λ u differs next. next;
   follows = any_then i.written g record { tag = i.number; typ = i.typ } [] is apart tt rest;
 }
-any_law {g = g} i (x ∷ xs) sound known fs us y vs is apart rest = record {
+any_law {g = g} i (x ∷ xs) sound known fs us y vs is apart needs rest = record {
   head = Some record { tag = i.number; typ = i.typ };
   other = λ u differs next. differs;
   follows = any_then i.written g record { tag = i.number; typ = i.typ } (x ∷ xs) is apart (every_agrees (i.agrees is) i.single (x ∷ xs) sound) rest;
@@ -157,13 +240,19 @@ any_same {g = g} i (x ∷ xs) (y ∷ ys) e = any_equal g i.eq i.same (x ∷ xs) 
 -- items of this tag, any number
 abbrev pub any : {L H : Type 0} {s : Form} {g : H → Value} (t : ℕ) (items : L → List H) → ItemRules H s g
     → PartRules L (option (seq s)) (λ l. optional_values g (items l))
-any t items i = record {
+any {s = s} t items i = record {
   tag = t;
   fits = i.number == t;
   written = λ l. value (sequence i.written (items l)) no_values;
-  IsSound = λ l. All i.IsSound (items l);
+  IsSound = λ l. AreAll i.IsSound (items l);
+  Needs = NeedsNothing;
+  after = λ l known. left known t (option (seq s));
+  free = true;
+  enough = λ free l known. tt;
   eq = λ l m. pointwise i.eq (items l) (items m);
-  agrees = λ fits l sound. at_tag _ (value (sequence i.written (items l)) no_values) _ i.number t fits (any_law i (items l) sound);
+  agrees = λ fits l sound.
+      at_tag _ (value (sequence i.written (items l)) no_values) _ (NeedsNothing l) (λ u known. left known u (option (seq s))) i.number t fits
+      (any_law i (items l) (all_of i.IsSound (items l) sound));
   same = λ l m e. any_same i (items l) (items m) e;
 }
 
@@ -185,29 +274,35 @@ pub record ListFollows (ts : List ℕ) (known : List Known) (fs : Fields) (ws vs
   pub other : (u : ℕ) → is_none_of u ts ≡ true → is_tagged u head ≡ false
   pub follows : PartsAgree known fs ws head vs
 
--- of a list of parts: their tags, and what is written of what they hold; `fit` is that each part has the tag of its element
+-- of a list of parts: their tags, and what is written of what they hold; `fit` is that each part has the tag of its element, `free` that none
+-- needs anything to be known
 pub record ListRules (H : Type 0) (fields : Fields) (values : H → Values) : Type 1 where
   pub tags : List ℕ
   pub fit : Boole
   pub written : H → Values
   pub IsSound : H → Type 0
+  pub Needs : H → List Known → Type 0
+  pub free : Boole
+  pub enough : free ≡ true → (x : H) (known : List Known) → Needs x known
   pub eq : H → H → Boole
-  pub agree : fit ≡ true → are_distinct tags ≡ true → (x : H) → IsSound x → (known : List Known) → ListFollows tags known fields (written x) (values x)
+  pub agree : fit ≡ true → are_distinct tags ≡ true → (x : H) → IsSound x → (known : List Known) → Needs x known
+      → ListFollows tags known fields (written x) (values x)
   pub same : (x y : H) → values x ≡ values y → eq x y ≡ true
 
 not_same : (a b : Boole) → not a && b ≡ true → (a ≡ false) × (b ≡ true)
 not_same a b e = let each = and_parts (not a) b e in (not-true a each.0, each.1)
 
-pub then_law : {t : ℕ} {ts : List ℕ} {s : Form} {us vs : Values} {v : Value} {fs : Fields} (ws : Values) → are_distinct (t ∷ ts) ≡ true
-    → PartLaw t s ws v
-    → (are_distinct ts ≡ true → (known : List Known) → ListFollows ts known fs us vs)
-    → (known : List Known)
+pub then_law : {t : ℕ} {ts : List ℕ} {s : Form} {us vs : Values} {v : Value} {fs : Fields} {Needs : List Known → Type 0} {after : List Known → List Known}
+    (ws : Values) (known : List Known) → are_distinct (t ∷ ts) ≡ true
+    → PartLaw t s ws v Needs after
+    → Needs known
+    → (are_distinct ts ≡ true → ListFollows ts (after known) fs us vs)
     → ListFollows (t ∷ ts) known (field (tag_text t) s fs) (joined ws us) (value v vs)
-then_law {t} {ts} {s} ws distinct part rest known =
+then_law {t} {ts} ws known distinct part needs rest =
     let tags = and_parts (t % 2 ^ 24 == t) (is_none_of t ts && are_distinct ts) distinct in
     let others = and_parts (is_none_of t ts) (are_distinct ts) tags.1 in
-    let r = rest others.1 (left known t s) in
-    let p = part known _ _ r.head _ (eqb-true (t % 2 ^ 24) t tags.0) (r.other t others.0) r.follows in
+    let r = rest others.1 in
+    let p = part known _ _ r.head _ (eqb-true (t % 2 ^ 24) t tags.0) (r.other t others.0) needs r.follows in
     record {
       head = p.head;
       other = λ u e. let each = not_same (u == t) (is_none_of u ts) e in p.other u each.0 (r.other u each.1);
@@ -224,8 +319,12 @@ last p = record {
   fit = p.fits;
   written = λ x. joined (p.written x) no_values;
   IsSound = p.IsSound;
+  Needs = p.Needs;
+  free = p.free;
+  enough = p.enough;
   eq = p.eq;
-  agree = λ fit distinct x sound known. then_law (p.written x) distinct (p.agrees fit x sound) (λ d. nothing_follows) known;
+  agree = λ fit distinct x sound known needs.
+      then_law (p.written x) known distinct (p.agrees fit x sound) needs (λ d. nothing_follows (p.after x known));
   same = λ x y e. last_equal (p.same x y) e;
 }
 
@@ -237,10 +336,14 @@ then p r = record {
   fit = p.fits && r.fit;
   written = λ x. joined (p.written x.0) (r.written x.1);
   IsSound = λ x. p.IsSound x.0 × r.IsSound x.1;
+  Needs = λ x known. p.Needs x.0 known × r.Needs x.1 (p.after x.0 known);
+  free = p.free && r.free;
+  enough = λ free x known. let each = and_parts p.free r.free free in (p.enough each.0 x.0 known, r.enough each.1 x.1 (p.after x.0 known));
   eq = λ x y. p.eq x.0 y.0 && r.eq x.1 y.1;
-  agree = λ fit distinct x sound known.
+  agree = λ fit distinct x sound known needs.
       let fits = and_parts p.fits r.fit fit in
-      then_law (p.written x.0) distinct (p.agrees fits.0 x.0 sound.0) (λ d. r.agree fits.1 d x.1 sound.1) known;
+      then_law (p.written x.0) known distinct (p.agrees fits.0 x.0 sound.0) needs.0
+      (λ d. r.agree fits.1 d x.1 sound.1 (p.after x.0 known) needs.1);
   same = λ x y e. part_equal (p.same x.0 y.0) (r.same x.1 y.1) e;
 }
 
@@ -251,6 +354,9 @@ of f r = record {
   fit = r.fit;
   written = λ x. r.written (f x);
   IsSound = λ x. r.IsSound (f x);
+  Needs = λ x. r.Needs (f x);
+  free = r.free;
+  enough = λ free x. r.enough free (f x);
   eq = λ x y. r.eq (f x) (f y);
   agree = λ fit distinct x. r.agree fit distinct (f x);
   same = λ x y. r.same (f x) (f y);
@@ -260,6 +366,10 @@ of f r = record {
 unfoldable pub block : List Values → Values
 block [] = no_values
 block (ws ∷ others) = joined ws (block others)
+
+-- what is written of four parts, and of those behind them
+unfoldable pub blocks : Values → Values → Values
+blocks ws others = joined ws others
 
 -- two, three and four parts are sound
 unfoldable pub AreTwo : Type 0 → Type 0 → Type 0
@@ -296,9 +406,12 @@ in_blocks {fs = fs} {vs = vs} f P r equal sound_of = record {
   fit = r.fit;
   written = f;
   IsSound = P;
+  Needs = r.Needs;
+  free = r.free;
+  enough = r.enough;
   eq = r.eq;
-  agree = λ fit distinct x sound known.
-      subst (λ ws. ListFollows r.tags known fs ws (vs x)) (equal x) (r.agree fit distinct x (sound_of x sound) known);
+  agree = λ fit distinct x sound known needs.
+      subst (λ ws. ListFollows r.tags known fs ws (vs x)) (equal x) (r.agree fit distinct x (sound_of x sound) known needs);
   same = r.same;
 }
 
@@ -323,8 +436,8 @@ joined_first no_values b c = refl
 joined_first (value v vs) b c = ap (value v) (joined_first vs b c)
 
 -- four, and those behind them
-pub are_more : (a b c d behind : Values) → joined a (joined b (joined c (joined d behind))) ≡ joined (block (a ∷ b ∷ c ∷ d ∷ [])) behind
-unfolding block
+pub are_more : (a b c d behind : Values) → joined a (joined b (joined c (joined d behind))) ≡ blocks (block (a ∷ b ∷ c ∷ d ∷ [])) behind
+unfolding block blocks
 are_more a b c d behind =
     ap (λ ws. joined a (joined b (joined c ws))) (joined_first d no_values behind)
     ∙ ap (λ ws. joined a (joined b ws)) (joined_first c (joined d no_values) behind)
@@ -334,46 +447,204 @@ are_more a b c d behind =
 -- ---- structures
 
 -- no two of these parts have one tag, and each has that of its element
-abbrev pub is_good : {H : Type 0} {fs : Fields} {vs : H → Values} → ListRules H fs vs → Boole
-is_good r = r.fit && are_distinct r.tags
+abbrev pub is_fit : {H : Type 0} {fs : Fields} {vs : H → Values} → ListRules H fs vs → Boole
+is_fit r = r.fit && are_distinct r.tags
 
-pub structure_agrees : {H : Type 0} {fs : Fields} {vs : H → Values} (n : ℕ) (closed : Boole) (r : ListRules H fs vs) → is_good r ≡ true → IsTag n
+-- and none needs anything to be known
+abbrev pub is_good : {H : Type 0} {fs : Fields} {vs : H → Values} → ListRules H fs vs → Boole
+is_good r = is_fit r && r.free
+
+pub structure_agrees : {H : Type 0} {fs : Fields} {vs : H → Values} (n : ℕ) (closed : Boole) (r : ListRules H fs vs) → is_fit r ≡ true → IsTag n
+    → (x : H) → r.IsSound x
+    → r.Needs x []
+    → PartAgrees (structure_form n fs closed) (structure_value n r.written x) record { tag = n; typ = types.Structure } (structure_value n vs x)
+structure_agrees n closed r fit is x sound needs =
+    let each = and_parts r.fit (are_distinct r.tags) fit in
+    messages.structure n is (r.agree each.0 each.1 x sound [] needs).follows
+
+pub good_agrees : {H : Type 0} {fs : Fields} {vs : H → Values} (n : ℕ) (closed : Boole) (r : ListRules H fs vs) → is_good r ≡ true → IsTag n
     → (x : H) → r.IsSound x
     → PartAgrees (structure_form n fs closed) (structure_value n r.written x) record { tag = n; typ = types.Structure } (structure_value n vs x)
-structure_agrees n closed r good is x sound =
-    let each = and_parts r.fit (are_distinct r.tags) good in
-    messages.structure n is (r.agree each.0 each.1 x sound []).follows
+good_agrees n closed r good is x sound =
+    let each = and_parts (is_fit r) r.free good in
+    structure_agrees n closed r each.0 is x sound (r.enough each.1 x [])
 
 -- a structure of this tag and these parts, by the `==` of its type
 abbrev pub structure : {H : Type 0} {fs : Fields} {vs : H → Values} (n : ℕ) (closed : Boole) (r : ListRules H fs vs) → is_good r ≡ true
     → (eq : H → H → Boole)
     → ((x y : H) → r.eq x y ≡ true → eq x y ≡ true)
-    → ItemRules H (structure_form n fs closed) (structure_value n vs)
-structure n closed r good eq equal = record {
-  number = n;
-  typ = types.Structure;
-  written = structure_value n r.written;
-  IsSound = r.IsSound;
-  eq = eq;
-  single = λ x. refl;
-  agrees = structure_agrees n closed r good;
-  same = λ x y e. equal x y (r.same x y (in_structure e));
+    → ItemOf H
+structure {fs = fs} {vs = vs} n closed r good eq equal = record {
+  form = structure_form n fs closed;
+  value = structure_value n vs;
+  rules = record {
+    number = n;
+    typ = types.Structure;
+    written = structure_value n r.written;
+    IsSound = r.IsSound;
+    eq = eq;
+    single = λ x. refl;
+    agrees = good_agrees n closed r good;
+    says = None;
+    keeps = λ is. tt;
+    same = λ x y e. equal x y (r.same x y (in_structure e));
+  };
+}
+
+-- one with parts that need something to be known: it is sound if its parts are, and what these need follows from this
+abbrev pub structure_where : {H : Type 0} {fs : Fields} {vs : H → Values} (n : ℕ) (closed : Boole) (r : ListRules H fs vs) → is_fit r ≡ true
+    → (Decides : H → Type 0)
+    → ((x : H) → Decides x → r.Needs x [])
+    → (eq : H → H → Boole)
+    → ((x y : H) → r.eq x y ≡ true → eq x y ≡ true)
+    → ItemOf H
+structure_where {fs = fs} {vs = vs} n closed r fit Decides needed eq equal = record {
+  form = structure_form n fs closed;
+  value = structure_value n vs;
+  rules = record {
+    number = n;
+    typ = types.Structure;
+    written = structure_value n r.written;
+    IsSound = λ x. r.IsSound x × Decides x;
+    eq = eq;
+    single = λ x. refl;
+    agrees = λ is x sound. structure_agrees n closed r fit is x sound.0 (needed x sound.1);
+    says = None;
+    keeps = λ is. tt;
+    same = λ x y e. equal x y (r.same x y (in_structure e));
+  };
 }
 
 -- a structure on the heap: what is in the box
-abbrev pub in_a_box : {H A : Type 0} {s : Form} {g : H → Value} → ItemRules H s g → ItemRules (Boxed H A) s (boxed g)
+abbrev pub in_a_box : {H A : Type 0} → ItemOf H → ItemOf (Boxed H A)
 in_a_box i = record {
-  number = i.number;
-  typ = i.typ;
-  written = boxed i.written;
-  IsSound = IsBoxed i.IsSound;
-  eq = λ x y. i.eq x.inner.value y.inner.value;
-  single = λ x. i.single x.inner.value;
-  agrees = λ is x sound. i.agrees is x.inner.value sound;
-  same = λ x y e. i.same x.inner.value y.inner.value e;
+  form = i.form;
+  value = boxed i.value;
+  rules = record {
+    number = i.rules.number;
+    typ = i.rules.typ;
+    written = boxed i.rules.written;
+    IsSound = IsBoxed i.rules.IsSound;
+    eq = λ x y. i.rules.eq x.inner.value y.inner.value;
+    single = λ x. i.rules.single x.inner.value;
+    agrees = λ is x sound. i.rules.agrees is x.inner.value sound;
+    says = None;
+    keeps = λ is. tt;
+    same = λ x y e. i.rules.same x.inner.value y.inner.value e;
+  };
 }
 
 -- a whole message
 pub message_agrees : {H : Type 0} {s : Form} {g : H → Value} (i : ItemRules H s g) → IsTag i.number → (x : H) → i.IsSound x
     → MessageAgrees s (i.written x) (g x)
 message_agrees i is x sound = messages.message (i.agrees is x sound)
+
+-- ---- choices
+
+-- where this is known, the value agrees with the form as the other, as an item of this head
+pub record KnownAgrees (known : List Known) (s : Form) (w : Value) (x : Head) (v : Value) : Type 0 where
+  pub stored : List TagValue → List TagValue
+  pub agrees : (k : List TagValue) → Finds known k → Agrees s k none_pending w x v (stored k)
+
+-- of a type whose values are read as one item of one tag, by a rule: `Needs` is what has to be known so that the rule chooses what it holds;
+-- `free` is that this is nothing
+pub record ChoiceRules (H : Type 0) (form : Form) (as_value : H → Value) : Type 1 where
+  pub number : ℕ
+  pub typ : H → TtlvType
+  pub written : H → Value
+  pub IsSound : H → Type 0
+  pub Needs : H → List Known → Type 0
+  pub free : Boole
+  pub enough : free ≡ true → (x : H) (known : List Known) → Needs x known
+  pub eq : H → H → Boole
+  pub single : (x : H) → is_run (as_value x) ≡ false
+  pub agrees : IsTag number → (x : H) → IsSound x → (known : List Known) → Needs x known
+      → KnownAgrees known form (written x) record { tag = number; typ = typ x } (as_value x)
+  pub same : (x y : H) → as_value x ≡ as_value y → eq x y ≡ true
+
+-- a part that a rule chooses
+choice_then : {known : List Known} {typ : TtlvType} {s : Form} {fs : Fields} {w v : Value} {us vs : Values} {y : Option Head} (t : ℕ) → IsTag t
+    → is_run v ≡ false
+    → KnownAgrees known s w record { tag = t; typ = typ } v
+    → PartsAgree (left known t s) fs us y vs
+    → PartsAgree known (field (tag_text t) s fs) (value w us) (Some record { tag = t; typ = typ }) (value v vs)
+choice_then {known = known} {typ = typ} {s = s} {v = v} {y = y} t is single p rest =
+    let x : Head = record { tag = t; typ = typ } in
+    record {
+      stored = λ k. rest.stored (p.stored k);
+      agrees = λ k found. let a = p.agrees k found in
+          field_agrees (in_its_field s x is) (ends v x y single) a (rest.agrees (p.stored k) (finds_left known a found));
+    }
+
+pub choice_law : {H : Type 0} {s : Form} {g : H → Value} (c : ChoiceRules H s g) (x : H) → c.IsSound x
+    → PartLaw c.number s (value (c.written x) no_values) (g x) (c.Needs x) (λ known. left known c.number s)
+choice_law c x sound known fs us y vs is apart needs rest = record {
+  head = Some record { tag = c.number; typ = c.typ x };
+  other = λ u differs next. differs;
+  follows = choice_then c.number is (c.single x) (c.agrees is x sound known needs) rest;
+}
+
+-- exactly one item of this tag, which a rule chooses
+abbrev pub one_of : {H : Type 0} {s : Form} {g : H → Value} (t : ℕ) → ChoiceRules H s g → PartRules H s g
+one_of {s = s} t c = record {
+  tag = t;
+  fits = c.number == t;
+  written = λ x. value (c.written x) no_values;
+  IsSound = c.IsSound;
+  Needs = c.Needs;
+  after = λ x known. left known t s;
+  free = c.free;
+  enough = c.enough;
+  eq = c.eq;
+  agrees = λ fits x sound.
+      at_tag _ (value (c.written x) no_values) _ (c.Needs x) (λ u known. left known u s) c.number t fits (choice_law c x sound);
+  same = c.same;
+}
+
+pub maybe_choice_law : {H : Type 0} {s : Form} {g : H → Value} (c : ChoiceRules H s g) (o : Option H) → IfSome o c.IsSound
+    → PartLaw c.number (option s) (optional_field (option_map c.written o)) (optional_value g o) (λ known. IfSome o (λ x. c.Needs x known))
+    (λ known. left known c.number (option s))
+maybe_choice_law {s = s} c None sound known fs us y vs is apart needs rest = record {
+  head = y;
+  other = λ u differs next. next;
+  follows = record {
+    stored = rest.stored;
+    agrees = λ k found. absent_agrees (named_is_tagged c.number y is ∙ apart) (rest.agrees k (finds_less known k c.number (option s) found));
+  };
+}
+maybe_choice_law c (Some x) sound known fs us y vs is apart needs rest =
+    let p = c.agrees is x sound known needs in
+    record {
+      head = Some record { tag = c.number; typ = c.typ x };
+      other = λ u differs next. differs;
+      follows = choice_then c.number is (c.single x) record { stored = p.stored; agrees = λ k found. option_agrees (p.agrees k found) } rest;
+    }
+
+pub all_enough : {H : Type 0} {P : H → Type 0} (o : Option H) → ((x : H) → P x) → IfSome o P
+all_enough None p = tt
+all_enough (Some x) p = p x
+
+pub maybe_choice_same : {H : Type 0} {s : Form} {g : H → Value} (c : ChoiceRules H s g) (x y : Option H) → optional_value g x ≡ optional_value g y
+    → option_eq c.eq x y ≡ true
+maybe_choice_same {g = g} c None None e = options_equal g c.eq c.same None None e
+maybe_choice_same {g = g} c None (Some y) e = options_equal g c.eq c.same None (Some y) e
+maybe_choice_same {g = g} c (Some x) None e = options_equal g c.eq c.same (Some x) None e
+maybe_choice_same {g = g} c (Some x) (Some y) e = options_equal g c.eq c.same (Some x) (Some y) e
+
+-- an item of this tag, which a rule chooses, or none
+abbrev pub maybe_one_of : {H : Type 0} {s : Form} {g : H → Value} (t : ℕ) → ChoiceRules H s g → PartRules (Option H) (option s) (optional_value g)
+maybe_one_of {s = s} t c = record {
+  tag = t;
+  fits = c.number == t;
+  written = λ o. optional_field (option_map c.written o);
+  IsSound = λ o. IfSome o c.IsSound;
+  Needs = λ o known. IfSome o (λ x. c.Needs x known);
+  after = λ o known. left known t (option s);
+  free = c.free;
+  enough = λ free o known. all_enough o (λ x. c.enough free x known);
+  eq = option_eq c.eq;
+  agrees = λ fits o sound.
+      at_tag _ (optional_field (option_map c.written o)) _ (λ known. IfSome o (λ x. c.Needs x known)) (λ u known. left known u (option s)) c.number t fits
+      (maybe_choice_law c o sound);
+  same = maybe_choice_same c;
+}

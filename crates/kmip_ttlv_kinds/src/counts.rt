@@ -194,6 +194,7 @@ impl<E: Element<A>, const TAG: u32, A: Allocator + Copy> Part<A> for Several<E, 
         visit_elements::<V, E, A>(held.as_slice(), visitor)
     }
 
+    #[tactic(auto, unfolding(crate::specs::Parts::AreAll))]
     #[inline(always)]
     fn is_whole(held: &Vec<E::Holds, A>) -> bool {
         !held.is_empty() && held.iter().all(|element| E::is_whole(element))
@@ -229,6 +230,7 @@ impl<E: Element<A>, const TAG: u32, A: Allocator + Copy> Part<A> for Any<E, TAG>
         visit_elements::<V, E, A>(held.as_slice(), visitor)
     }
 
+    #[tactic(auto, unfolding(crate::specs::Parts::AreAll))]
     #[inline(always)]
     fn is_whole(held: &Vec<E::Holds, A>) -> bool {
         held.iter().all(|element| E::is_whole(element))

@@ -4,20 +4,20 @@ ghost use Rattle.std.specs.Prelude.{◌≡◌, ◌↔◌, ◌+◌, ◌≤◌, If
 ghost use Rattle.kmip_ttlv_types.specs.Digits.{tag_text};
 ghost use Rattle.kmip_ttlv_base.specs.Forms.{any_number};
 ghost use Rattle.kmip_ttlv_base.specs.Tags.{wrapper_name};
-ghost use Rattle.kmip_ttlv_base.specs.Values.{newtype_value};
+ghost use Rattle.kmip_ttlv_base.specs.Values.{newtype_value, u32_value};
 ghost use Rattle.kmip_ttlv_base.specs.Visits.{Receives};
 ghost use Rattle.kmip_ttlv_reader.specs.LeafForms.{form_of_leaf};
 ghost use Rattle.kmip_ttlv_reader.specs.Outcomes.{field_outcome, outcome};
 ghost use Rattle.kmip_ttlv_reader.specs.Spots.{IsReadTo, IsWithin, at, wrapped_leaf};
 ghost use Rattle.kmip_ttlv_parts.specs.Enumerations.{enumeration_value};
-ghost use Rattle.kmip_ttlv_kinds.specs.Leaves.{enumeration_item, leaf_item};
+ghost use Rattle.kmip_ttlv_kinds.specs.Leaves.{enumeration_item, enumeration_under, leaf_item};
 
 use crate::counts::{Maybe, One};
 use crate::leaves::{Held, LeafKind};
 use crate::structure::Structure;
 use kmip_ttlv_base::parts;
 use kmip_ttlv_base::shape::Serialize;
-use kmip_ttlv_base::visit::Visitor;
+use kmip_ttlv_base::visit::{self, Visitor};
 use kmip_ttlv_parts::Enumeration;
 use kmip_ttlv_parts::laws::Sound;
 use kmip_ttlv_reader::cursor::missing_field;
@@ -79,11 +79,11 @@ pub struct Of<T> {
 impl<T: Structure<A>, A: Allocator + Copy> Element<A> for Of<T> {
     type Holds = T;
 
-    ghost form = { T.form };
+    ghost form = { T.item.form };
 
-    ghost value = { T.value };
+    ghost value = { T.item.value };
 
-    ghost rules = { T.rules };
+    ghost rules = { T.item.rules };
 
     #[inline(always)]
     fn number() -> u32 {
@@ -152,6 +152,53 @@ impl<const TAG: u32, A: Allocator + Copy> Element<A> for Enumeration<TAG> {
 
     #[inline(always)]
     fn is_whole(held: &Enumeration<TAG>) -> bool {
+        held.is_sound()
+    }
+}
+
+/// An Enumeration of any number under another tag than its own, as an attribute's value is.
+#[derive(Drop)]
+pub struct Under<E, const TAG: u32> {
+    kind: PhantomData<E>,
+}
+
+impl<const OWN: u32, const TAG: u32, A: Allocator + Copy> Element<A>
+    for Under<Enumeration<OWN>, TAG> {
+    type Holds = Enumeration<OWN>;
+
+    ghost form = { wrapped_leaf TAG any_number };
+
+    ghost value = { λ x. newtype_value (wrapper_name TAG) (u32_value x.number) };
+
+    ghost rules = { enumeration_under TAG };
+
+    #[inline(always)]
+    fn number() -> u32 {
+        TAG
+    }
+
+    #[inline(always)]
+    fn read_one<'b>(scope: &Scope<'b, A>, cursor: &mut Cursor<'b, A>) -> Step<Enumeration<OWN>, A> {
+        let number: u32 = cursor.wrapped_leaf(scope, TAG)?;
+        Ok(Enumeration { number })
+    }
+
+    #[inline(always)]
+    fn read_field<'b>(
+        scope: &Scope<'b, A>,
+        cursor: &mut Cursor<'b, A>,
+    ) -> Step<Enumeration<OWN>, A> {
+        let number: u32 = cursor.leaf(scope, TAG)?;
+        Ok(Enumeration { number })
+    }
+
+    #[inline(always)]
+    fn visit_one<V: Visitor>(held: &Enumeration<OWN>, visitor: &mut V) -> Result<(), AllocError> {
+        parts::tagged(visitor, TAG, visit::Leaf::U32(held.number))
+    }
+
+    #[inline(always)]
+    fn is_whole(held: &Enumeration<OWN>) -> bool {
         held.is_sound()
     }
 }

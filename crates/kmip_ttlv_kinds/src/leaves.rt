@@ -1,6 +1,6 @@
 //! The types of Rust whose values leaves are, both ways.
 
-ghost use Rattle.std.specs.Prelude.{◌≡◌, ◌↔◌, ◌<◌, ◌^◌, ◌%◌, true, refl, length, FitsSigned, IfOk, IsTrue, string_bytes};
+ghost use Rattle.std.specs.Prelude.{◌≡◌, ◌↔◌, ◌<◌, ◌^◌, ◌%◌, true, refl, None, Some, length, FitsSigned, IfOk, IsTrue, string_bytes};
 ghost use Rattle.std.specs.Int.{w32, w64};
 ghost use Rattle.kmip_ttlv_types.specs.declared.typ.TtlvType.TheVariants as types;
 ghost use Rattle.kmip_ttlv_types.specs.Leaves.{is_valid};
@@ -11,8 +11,9 @@ ghost use Rattle.kmip_ttlv_reader.specs.declared.leaf.Leaf.TheVariants as leaves
 ghost use Rattle.kmip_ttlv_reader.specs.LeafForms.{form_of_leaf};
 ghost use Rattle.kmip_ttlv_reader.specs.Reads.{takes, decoded_leaf};
 ghost use Rattle.kmip_ttlv_reader.specs.Spots.{by_bits};
-ghost use Rattle.kmip_ttlv_parts.specs.Returns.{as_boolean, as_interval, as_number, as_octets, as_text};
+ghost use Rattle.kmip_ttlv_parts.specs.Returns.{as_boolean, as_interval, as_number, as_octets, as_text, text_of_number};
 ghost use Rattle.kmip_ttlv_parts.proofs.MessageParts.{as_date_time_by_bits, as_int32_by_bits, as_int64_by_bits, as_whole, text_is_utf8};
+ghost use Rattle.kmip_ttlv_parts.proofs.MessageRules.{number_stored, text_stored};
 ghost use Rattle.kmip_ttlv_parts.proofs.Equal.{big_integers_equal, booleans_equal, bytes_equal, date_times_equal, integers_equal, intervals_equal, long_integers_equal, numbers_equal, texts_equal};
 ghost use Rattle.kmip_ttlv_kinds.specs.Leaves.{LeafRules};
 
@@ -68,6 +69,8 @@ impl<A: Allocator> LeafKind<A> for i32 {
       single = λ x. refl;
       typed = λ x. refl;
       comes_back = as_int32_by_bits;
+      says = None;
+      keeps = λ n is. tt;
       same = integers_equal;
     } };
 
@@ -106,6 +109,8 @@ impl<A: Allocator> LeafKind<A> for i64 {
       single = λ x. refl;
       typed = λ x. refl;
       comes_back = as_int64_by_bits;
+      says = None;
+      keeps = λ n is. tt;
       same = long_integers_equal;
     } };
 
@@ -144,6 +149,8 @@ impl<A: Allocator> LeafKind<A> for bool {
       single = λ x. refl;
       typed = λ x. refl;
       comes_back = λ x sound. as_boolean;
+      says = None;
+      keeps = λ n is. tt;
       same = booleans_equal;
     } };
 
@@ -182,6 +189,8 @@ impl<A: Allocator> LeafKind<A> for u32 {
       single = λ x. refl;
       typed = λ x. refl;
       comes_back = λ x fits. as_number fits;
+      says = Some text_of_number;
+      keeps = λ n is x fits. number_stored n is fits;
       same = numbers_equal;
     } };
 
@@ -220,6 +229,8 @@ impl<A: Allocator> LeafKind<A> for String<A> {
       single = λ x. refl;
       typed = λ x. refl;
       comes_back = λ x sound. as_text (text_is_utf8 x);
+      says = Some string_bytes;
+      keeps = λ n is x sound. text_stored n is (text_is_utf8 x);
       same = texts_equal;
     } };
 
@@ -258,6 +269,8 @@ impl<A: Allocator> LeafKind<A> for Vec<u8, A> {
       single = λ x. refl;
       typed = λ x. refl;
       comes_back = λ x sound. as_octets;
+      says = None;
+      keeps = λ n is. tt;
       same = λ x y e. bytes_equal x.items y.items e;
     } };
 
@@ -296,6 +309,8 @@ impl<A: Allocator> LeafKind<A> for DateTime {
       single = λ x. refl;
       typed = λ x. refl;
       comes_back = λ x fits. as_date_time_by_bits x.0 fits;
+      says = None;
+      keeps = λ n is. tt;
       same = λ x y e. date_times_equal x.0 y.0 e;
     } };
 
@@ -334,6 +349,8 @@ impl<A: Allocator> LeafKind<A> for Interval {
       single = λ x. refl;
       typed = λ x. refl;
       comes_back = λ x fits. as_interval fits;
+      says = None;
+      keeps = λ n is. tt;
       same = λ x y e. intervals_equal x.0 y.0 e;
     } };
 
@@ -380,6 +397,8 @@ impl<A: Allocator> LeafKind<A> for BigNumber<A> {
       single = λ x. refl;
       typed = λ x. refl;
       comes_back = λ x whole. as_whole x.bytes.items whole;
+      says = None;
+      keeps = λ n is. tt;
       same = λ x y e. big_integers_equal x.bytes.items y.bytes.items e;
     } };
 

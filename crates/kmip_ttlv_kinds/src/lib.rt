@@ -19,17 +19,21 @@
 //! What a structure has to prove of itself is computed: that no two parts have one tag is `refl`.
 #![tactic(auto)]
 
+mod choices;
 mod counts;
 mod elements;
+mod laws;
 mod leaves;
 mod lists;
 mod reading;
 mod structure;
 
+pub use crate::choices::{AsItem, Choice, ChoiceElement, MaybeOneOf, OneOf};
 pub use crate::counts::{Any, AsField, Maybe, One, Part, Several};
-pub use crate::elements::{AsElement, Element, Leaf, LeafItem, MaybeLeaf, Of};
+pub use crate::elements::{AsElement, Element, Leaf, LeafItem, MaybeLeaf, Of, Under};
+pub use crate::laws::{equal_structures, structures_are_read_back};
 pub use crate::leaves::{BigNumber, Held, LeafKind};
-pub use crate::lists::{AsFields, Four, PartList};
+pub use crate::lists::{Alone, AsFields, Four, PartList};
 pub use crate::reading::{read_message_parts, read_parts};
 pub use crate::structure::{
     Structure, are_whole_four, are_whole_one, are_whole_three, are_whole_two, both,

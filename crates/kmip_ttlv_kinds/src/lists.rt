@@ -1,14 +1,13 @@
-//! Lists of parts: tuples of up to four kinds, or `Four` of them with others behind. What they hold has the same layout.
+//! Lists of parts: one alone, tuples of up to four kinds, or `Four` of them with others behind. What they hold has the same layout.
 
 ghost use Rattle.std.specs.Prelude.{◌≡◌, [], ◌∷◌, IfOk};
 ghost use Rattle.kmip_ttlv_types.specs.Digits.{tag_text};
 ghost use Rattle.kmip_ttlv_base.specs.Forms.{field, no_fields};
 ghost use Rattle.kmip_ttlv_base.specs.Values.{no_values, value};
-ghost use Rattle.kmip_ttlv_base.specs.Visits.{joined};
 ghost use Rattle.kmip_ttlv_reader.specs.Reads.{has_fields, names_tag};
 ghost use Rattle.kmip_ttlv_reader.specs.Outcomes.{fields_outcome};
 ghost use Rattle.kmip_ttlv_reader.specs.Spots.{IsReadTo, IsWithin, at};
-ghost use Rattle.kmip_ttlv_kinds.specs.Parts.{AreFour, AreThree, AreTwo, are_four, are_more, are_three, are_two, block, four_of, in_blocks, is_one, last, more_of, of, then, three_of, two_of};
+ghost use Rattle.kmip_ttlv_kinds.specs.Parts.{AreFour, AreThree, AreTwo, are_four, are_more, are_three, are_two, block, blocks, four_of, in_blocks, is_one, last, more_of, of, then, three_of, two_of};
 
 use crate::counts::{AsField, Part};
 use kmip_ttlv_base::types::TtlvTag;
@@ -49,15 +48,20 @@ pub trait PartList<A: Allocator + Copy> {
         ensures within { IfOk result (λ _. IsWithin scope.now cursor.new) };
 }
 
-impl<P: Part<A>, A: Allocator + Copy> PartList<A> for (P,) {
-    type Holds = (P::Holds,);
+/// One part alone.
+#[derive(Drop)]
+pub struct Alone<P> {
+    kind: PhantomData<P>,
+}
+
+impl<P: Part<A>, A: Allocator + Copy> PartList<A> for Alone<P> {
+    type Holds = P::Holds;
 
     ghost fields = { field (tag_text P.rules.tag) P.form no_fields };
 
-    ghost values = { λ x. value (P.value x.0) no_values };
+    ghost values = { λ x. value (P.value x) no_values };
 
-    ghost rules = { in_blocks (λ x. block (P.rules.written x.0 ∷ [])) (λ x. P.rules.IsSound x.0)
-        (of (λ x. x.0) (last P.rules)) (λ x. is_one (P.rules.written x.0)) (λ x sound. sound) };
+    ghost rules = { in_blocks (λ x. block (P.rules.written x ∷ [])) P.rules.IsSound (last P.rules) (λ x. is_one (P.rules.written x)) (λ x sound. sound) };
 
     fn has_parts() -> bool {
         true
@@ -68,8 +72,11 @@ impl<P: Part<A>, A: Allocator + Copy> PartList<A> for (P,) {
     }
 
     #[inline(always)]
-    fn read_list<'b>(scope: &Scope<'b, A>, cursor: &mut Cursor<'b, A>) -> Step<(P::Holds,), A> {
-        <(AsField<P>,) as FieldList<A>>::read(scope, cursor)
+    fn read_list<'b>(scope: &Scope<'b, A>, cursor: &mut Cursor<'b, A>) -> Step<P::Holds, A> {
+        match <(AsField<P>,) as FieldList<A>>::read(scope, cursor) {
+            Ok(read) => Ok(read.0),
+            Err(failure) => Err(failure),
+        }
     }
 }
 
@@ -173,7 +180,7 @@ impl<P: Part<A>, Q: Part<A>, R: Part<A>, S: Part<A>, L: PartList<A>, A: Allocato
 
     ghost values = { λ x. value (P.value x.0) (value (Q.value x.1) (value (R.value x.2) (value (S.value x.3) (L.values x.4)))) };
 
-    ghost rules = { in_blocks (λ x. joined (block (P.rules.written x.0 ∷ Q.rules.written x.1 ∷ R.rules.written x.2 ∷ S.rules.written x.3 ∷ [])) (L.rules.written x.4))
+    ghost rules = { in_blocks (λ x. blocks (block (P.rules.written x.0 ∷ Q.rules.written x.1 ∷ R.rules.written x.2 ∷ S.rules.written x.3 ∷ [])) (L.rules.written x.4))
         (λ x. AreFour (P.rules.IsSound x.0) (Q.rules.IsSound x.1) (R.rules.IsSound x.2) (S.rules.IsSound x.3) × L.rules.IsSound x.4)
         (of (λ x. (x.0, (x.1, (x.2, (x.3, x.4))))) (then P.rules (then Q.rules (then R.rules (then S.rules L.rules)))))
         (λ x. are_more (P.rules.written x.0) (Q.rules.written x.1) (R.rules.written x.2) (S.rules.written x.3) (L.rules.written x.4)) (λ x sound. more_of sound) };

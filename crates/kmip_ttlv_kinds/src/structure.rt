@@ -7,7 +7,6 @@ ghost use Rattle.kmip_ttlv_base.specs.Visits.{Receives, ReceivesEach};
 ghost use Rattle.kmip_ttlv_reader.specs.Outcomes.{outcome};
 ghost use Rattle.kmip_ttlv_reader.specs.Reads.{is_option, is_struct};
 ghost use Rattle.kmip_ttlv_reader.specs.Spots.{IsReadTo, IsWithin, at};
-ghost use Rattle.kmip_ttlv_parts.specs.Boxes.{boxed};
 ghost use Rattle.kmip_ttlv_parts.specs.Rereads.{Rereads};
 ghost use Rattle.kmip_ttlv_kinds.specs.Parts.{AreFour, AreThree, AreTwo, block, in_a_box};
 
@@ -20,50 +19,38 @@ use std::alloc::{AllocError, Allocator};
 
 /// A type that is a structure: a list of parts under a tag.
 pub trait Structure<A: Allocator + Copy>: Sized + Drop {
-    ghost use Rattle.kmip_ttlv_base.specs.Forms.{Form};
-    ghost use Rattle.kmip_ttlv_base.specs.Values.{Value};
-    ghost use Rattle.kmip_ttlv_kinds.specs.Parts.{ItemRules};
+    ghost use Rattle.kmip_ttlv_kinds.specs.Parts.{ItemOf};
 
-    // Its form.
-    ghost form: { Form };
-
-    // The value that it is read as.
-    ghost value: { Self → Value };
-
-    // What is written of it, which are sound, and that these come back.
-    ghost rules: { ItemRules Self form value };
+    // Its form, the value that it is read as, what is written of it, which are sound, and that these come back.
+    ghost item: { ItemOf Self };
 
     /// The number of its tag.
     fn number() -> u32
-        ensures { result ≡ rules.number };
+        ensures { result ≡ item.rules.number };
 
     /// The structure, from the cursor on, header and all: by `read_parts`.
     fn read_nested<'b>(scope: &Scope<'b, A>, cursor: &mut Cursor<'b, A>) -> Step<Self, A>
         requires within { IsWithin scope.now cursor.old }
-        ensures read { IsReadTo value cursor.new (at (outcome form) scope.now cursor.old) result }
+        ensures read { IsReadTo item.value cursor.new (at (outcome item.form) scope.now cursor.old) result }
         ensures within { IfOk result (λ _. IsWithin scope.now cursor.new) }
         ensures further { IfOk result (λ _. cursor.old.pos + 8 ≤ cursor.new.pos) };
 
     /// Calls a visitor with its parts: by `visit_structure_two` and its like.
     fn visit_parts<V: Visitor>(&self, visitor: &mut V) -> Result<(), AllocError>
-        ensures received { OnOk result (Receives V.knows V.step (rules.written self.now) visitor.old visitor.new) }
+        ensures received { OnOk result (Receives V.knows V.step (item.rules.written self.now) visitor.old visitor.new) }
         ensures stopped { OnErr result (V.stopped visitor.new) };
 
     /// Whether it is sound, so that what is encoded of it is decoded as an equal one: by `are_whole_two` and its like.
     fn is_whole(&self) -> bool
-        ensures { IsTrue result ↔ rules.IsSound self.now };
+        ensures { IsTrue result ↔ item.rules.IsSound self.now };
 
     // It goes by its own name, and may not be absent.
-    ghost structured: { (is_struct form ≡ true) × (is_option form ≡ false) };
+    ghost structured: { (is_struct item.form ≡ true) × (is_option item.form ≡ false) };
 }
 
 /// A structure on the heap.
 impl<T: Structure<A>, A: Allocator + Copy> Structure<A> for Boxed<T, A> {
-    ghost form = { T.form };
-
-    ghost value = { boxed T.value };
-
-    ghost rules = { in_a_box T.rules };
+    ghost item = { in_a_box T.item };
 
     fn number() -> u32 {
         T::number()
@@ -91,8 +78,8 @@ impl<T: Structure<A>, A: Allocator + Copy> Structure<A> for Boxed<T, A> {
 /// a type, for every structure.
 pub fn structures_come_back<T: Structure<A>, A: Allocator + Copy>()
     // The tag must have three bytes: of a number above them the last three are written, and read.
-    requires { T.rules.number % 2 ^ 24 ≡ T.rules.number }
-    ensures { Rereads T.rules.written T.form (λ v x. v ≡ T.value x) T.rules.eq T.rules.IsSound }
+    requires { T.item.rules.number % 2 ^ 24 ≡ T.item.rules.number }
+    ensures { Rereads T.item.rules.written T.item.form (λ v x. v ≡ T.item.value x) T.item.rules.eq T.item.rules.IsSound }
 {}
 
 /// Whether the first four parts of a structure are sound, and those behind them, for an `is_whole` of more than four.

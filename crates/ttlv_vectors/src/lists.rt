@@ -2,7 +2,6 @@
 //! every count and element.
 
 ghost use Rattle.std.specs.Prelude.{◌≡◌, false, true, refl};
-ghost use Rattle.kmip_ttlv.specs.Spots.{structure_form, structure_value};
 ghost use Rattle.kmip_ttlv_kinds.specs.Parts.{of, structure};
 
 use kmip_ttlv::error::Error;
@@ -41,11 +40,7 @@ type Date = Leaf<DateTime, 0x540004>;
 type NamedParts<A> = (Name<A>, Count, Date);
 
 impl<A: Allocator + Copy> Structure<A> for Named<A> {
-    ghost form = { structure_form 0x540070 ⟦<NamedParts<A> as PartList<A>>⟧.fields false };
-
-    ghost value = { λ x. structure_value 0x540070 ⟦<NamedParts<A> as PartList<A>>⟧.values (x.name, x.count, x.date) };
-
-    ghost rules = { structure 0x540070 false (of (λ x. (x.name, x.count, x.date)) ⟦<NamedParts<A> as PartList<A>>⟧.rules) refl
+    ghost item = { structure 0x540070 false (of (λ x. (x.name, x.count, x.date)) ⟦<NamedParts<A> as PartList<A>>⟧.rules) refl
         ⟦<Named<A> as PartialEq>⟧.eq (λ x y e. e) };
 
     fn number() -> u32 {
@@ -80,7 +75,7 @@ impl<A: Allocator + Copy> Structure<A> for Named<A> {
 }
 
 impl<A: Allocator + Copy> Serialize for Named<A> {
-    ghost stated = { ⟦<Named<A> as Structure<A>>⟧.rules.written };
+    ghost stated = { ⟦<Named<A> as Structure<A>>⟧.item.rules.written };
 
     fn visit<V: Visitor>(&self, visitor: &mut V) -> Result<(), AllocError> {
         <Named<A> as Structure<A>>::visit_parts(self, visitor)
@@ -88,9 +83,9 @@ impl<A: Allocator + Copy> Serialize for Named<A> {
 }
 
 impl<A: Allocator + Copy> Decode<A> for Named<A> {
-    ghost form = { ⟦<Named<A> as Structure<A>>⟧.form };
+    ghost form = { ⟦<Named<A> as Structure<A>>⟧.item.form };
 
-    ghost is_value = { λ v x. v ≡ ⟦<Named<A> as Structure<A>>⟧.value x };
+    ghost is_value = { λ v x. v ≡ ⟦<Named<A> as Structure<A>>⟧.item.value x };
 
     fn decode(alloc: A, bytes: &[u8]) -> Result<Self, Error<A>> {
         match read_message_parts::<NamedParts<A>, A>(alloc, 0x540070, false, bytes) {
@@ -104,7 +99,7 @@ impl<A: Allocator + Copy> Decode<A> for Named<A> {
 }
 
 impl<A: Allocator + Copy> Sound for Named<A> {
-    ghost IsSound = { ⟦<Named<A> as Structure<A>>⟧.rules.IsSound };
+    ghost IsSound = { ⟦<Named<A> as Structure<A>>⟧.item.rules.IsSound };
 
     fn is_sound(&self) -> bool {
         <Named<A> as Structure<A>>::is_whole(self)
@@ -145,12 +140,7 @@ type Seconds = Leaf<Interval, 0x540006>;
 type ManyParts = Four<Count, Other, Long, Date, (Truth, Seconds)>;
 
 impl<A: Allocator + Copy> Structure<A> for Many {
-    ghost form = { structure_form 0x540080 ⟦<ManyParts as PartList<A>>⟧.fields false };
-
-    ghost value = { λ x. structure_value 0x540080 ⟦<ManyParts as PartList<A>>⟧.values
-        (x.count, x.other, x.long, x.date, (x.truth, x.seconds)) };
-
-    ghost rules = { structure 0x540080 false
+    ghost item = { structure 0x540080 false
         (of (λ x. (x.count, x.other, x.long, x.date, (x.truth, x.seconds))) ⟦<ManyParts as PartList<A>>⟧.rules) refl
         ⟦<Many as PartialEq>⟧.eq (λ x y e. e) };
 
@@ -176,7 +166,7 @@ impl<A: Allocator + Copy> Structure<A> for Many {
         }
     }
 
-    #[tactic(auto, using(kmip_ttlv_base::proofs::Visiting::visited_joined))]
+    #[tactic(auto, using(kmip_ttlv_kinds::proofs::Whole::visited_blocks))]
     fn visit_parts<V: Visitor>(&self, visitor: &mut V) -> Result<(), AllocError> {
         writing::begin_structure(visitor, 0x540080)?;
         visit_four::<Count, Other, Long, Date, V, A>(
@@ -205,7 +195,7 @@ impl<A: Allocator + Copy> Structure<A> for Many {
 }
 
 impl Serialize for Many {
-    ghost stated = { ⟦<Many as Structure<Global>>⟧.rules.written };
+    ghost stated = { ⟦<Many as Structure<Global>>⟧.item.rules.written };
 
     fn visit<V: Visitor>(&self, visitor: &mut V) -> Result<(), AllocError> {
         <Many as Structure<Global>>::visit_parts(self, visitor)
@@ -213,9 +203,9 @@ impl Serialize for Many {
 }
 
 impl<A: Allocator + Copy> Decode<A> for Many {
-    ghost form = { ⟦<Many as Structure<A>>⟧.form };
+    ghost form = { ⟦<Many as Structure<A>>⟧.item.form };
 
-    ghost is_value = { λ v x. v ≡ ⟦<Many as Structure<A>>⟧.value x };
+    ghost is_value = { λ v x. v ≡ ⟦<Many as Structure<A>>⟧.item.value x };
 
     fn decode(alloc: A, bytes: &[u8]) -> Result<Self, Error<A>> {
         match read_message_parts::<ManyParts, A>(alloc, 0x540080, false, bytes) {
@@ -254,11 +244,7 @@ type Text<A> = Leaf<String<A>, 0x540082>;
 type RemarkParts<A> = (Text<A>, One<Reason>);
 
 impl<A: Allocator + Copy> Structure<A> for Remark<A> {
-    ghost form = { structure_form 0x540081 ⟦<RemarkParts<A> as PartList<A>>⟧.fields true };
-
-    ghost value = { λ x. structure_value 0x540081 ⟦<RemarkParts<A> as PartList<A>>⟧.values (x.text, x.reason) };
-
-    ghost rules = { structure 0x540081 true (of (λ x. (x.text, x.reason)) ⟦<RemarkParts<A> as PartList<A>>⟧.rules) refl
+    ghost item = { structure 0x540081 true (of (λ x. (x.text, x.reason)) ⟦<RemarkParts<A> as PartList<A>>⟧.rules) refl
         ⟦<Remark<A> as PartialEq>⟧.eq (λ x y e. e) };
 
     fn number() -> u32 {
@@ -334,12 +320,7 @@ type BinderParts<A> = Four<
 >;
 
 impl<A: Allocator + Copy> Structure<A> for Binder<A> {
-    ghost form = { structure_form 0x540090 ⟦<BinderParts<A> as PartList<A>>⟧.fields false };
-
-    ghost value = { λ x. structure_value 0x540090 ⟦<BinderParts<A> as PartList<A>>⟧.values
-        (x.label, x.first, x.named, x.numbers, (x.contents, x.big, x.many)) };
-
-    ghost rules = { structure 0x540090 false
+    ghost item = { structure 0x540090 false
         (of (λ x. (x.label, x.first, x.named, x.numbers, (x.contents, x.big, x.many))) ⟦<BinderParts<A> as PartList<A>>⟧.rules) refl
         ⟦<Binder<A> as PartialEq>⟧.eq (λ x y e. e) };
 
@@ -366,7 +347,7 @@ impl<A: Allocator + Copy> Structure<A> for Binder<A> {
         }
     }
 
-    #[tactic(auto, using(kmip_ttlv_base::proofs::Visiting::visited_joined))]
+    #[tactic(auto, using(kmip_ttlv_kinds::proofs::Whole::visited_blocks))]
     fn visit_parts<V: Visitor>(&self, visitor: &mut V) -> Result<(), AllocError> {
         writing::begin_structure(visitor, 0x540090)?;
         visit_four::<Label<A>, First<A>, NamedPart<A>, Numbers, V, A>(
@@ -404,7 +385,7 @@ impl<A: Allocator + Copy> Structure<A> for Binder<A> {
 }
 
 impl<A: Allocator + Copy> Serialize for Binder<A> {
-    ghost stated = { ⟦<Binder<A> as Structure<A>>⟧.rules.written };
+    ghost stated = { ⟦<Binder<A> as Structure<A>>⟧.item.rules.written };
 
     fn visit<V: Visitor>(&self, visitor: &mut V) -> Result<(), AllocError> {
         <Binder<A> as Structure<A>>::visit_parts(self, visitor)
@@ -412,9 +393,9 @@ impl<A: Allocator + Copy> Serialize for Binder<A> {
 }
 
 impl<A: Allocator + Copy> Decode<A> for Binder<A> {
-    ghost form = { ⟦<Binder<A> as Structure<A>>⟧.form };
+    ghost form = { ⟦<Binder<A> as Structure<A>>⟧.item.form };
 
-    ghost is_value = { λ v x. v ≡ ⟦<Binder<A> as Structure<A>>⟧.value x };
+    ghost is_value = { λ v x. v ≡ ⟦<Binder<A> as Structure<A>>⟧.item.value x };
 
     fn decode(alloc: A, bytes: &[u8]) -> Result<Self, Error<A>> {
         match read_message_parts::<BinderParts<A>, A>(alloc, 0x540090, false, bytes) {
@@ -437,7 +418,7 @@ impl<A: Allocator + Copy> Decode<A> for Binder<A> {
 }
 
 impl<A: Allocator + Copy> Sound for Binder<A> {
-    ghost IsSound = { ⟦<Binder<A> as Structure<A>>⟧.rules.IsSound };
+    ghost IsSound = { ⟦<Binder<A> as Structure<A>>⟧.item.rules.IsSound };
 
     fn is_sound(&self) -> bool {
         <Binder<A> as Structure<A>>::is_whole(self)
