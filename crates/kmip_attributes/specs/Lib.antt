@@ -1,4 +1,1 @@
-pub mod Values
-pub mod Structures
-pub mod Attributes
-pub mod Soundness
+pub mod Choices

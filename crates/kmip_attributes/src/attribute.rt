@@ -1,10 +1,11 @@
 // Written by codegen from types.table: change that, and run codegen/codegen.
 //! An attribute: its name, its index and what it says (KMIP 1.0, section 2.1.1).
 
-ghost use Rattle.std.specs.Prelude.{◌↔◌, refl, IsTrue, OnErr, OnOk, codes, true};
+ghost use Rattle.std.specs.Prelude.{◌↔◌, ◌+◌, IsTrue, Some, codes, refl, string_bytes, true};
 ghost use Rattle.kmip_ttlv_parts.specs.Returns.{IsNoneOf};
-ghost use Rattle.kmip_ttlv_parts.specs.Visits.{Receives};
-ghost use Rattle.kmip_attributes.specs.Attributes.{attribute_name_form, attribute_name_value, attribute_index_form, attribute_index_value, integer_value_form, integer_value_value, long_integer_value_form, long_integer_value_value, big_integer_value_form, big_integer_value_value, enumeration_value_form, enumeration_value_value, boolean_value_form, boolean_value_value, text_string_value_form, text_string_value_value, byte_string_value_form, byte_string_value_value, date_time_value_form, date_time_value_value, interval_value_form, interval_value_value, attribute_structure_form, written_attribute_structure, read_attribute_structure, attribute_structure_content, ChoosesAttributeStructure, attribute_structure_variants_4, attribute_structure_variants_8, attribute_value_form, written_attribute_value, read_attribute_value, attribute_value_content, ChoosesAttributeValue, attribute_value_names, attribute_value_variants_4, attribute_value_variants_8, attribute_value_variants_12, attribute_form, written_attribute, read_attribute};
+ghost use Rattle.kmip_ttlv_kinds.specs.Parts.{of, structure, structure_where};
+ghost use Rattle.kmip_ttlv_kinds.specs.Choices.{held, held_choice};
+ghost use Rattle.kmip_attributes.specs.Choices.{attribute_structure_choice, ChoosesAttributeStructure, attribute_value_choice, ChoosesAttributeValue, attribute_value_names};
 
 use crate::structures::{
     ApplicationSpecificInformation, CertificateIdentifier, CertificateIssuer, CertificateSubject,
@@ -12,362 +13,19 @@ use crate::structures::{
     UsageLimits,
 };
 use crate::values::{CertificateType, CryptographicAlgorithm, ObjectType, State};
+use kmip_ttlv_kinds::{
+    AsElement, BigNumber, Choice, ChoiceElement, Element, Leaf, LeafItem, MaybeLeaf, Of, OneOf,
+    PartList, Structure, Under, are_whole_three, both, read_parts, visit_structure_three,
+};
 use kmip_ttlv_parts::laws::is_none_of;
-use kmip_ttlv_parts::messages::writing;
-use kmip_ttlv_parts::reader;
-use kmip_ttlv_parts::shape::Serialize;
+use kmip_ttlv_parts::reader::{
+    ChoiceValue, Cursor, DateTime, Interval, Rule, RuleParts, Scope, Step, Variant, VariantList,
+    VariantOf,
+};
 use kmip_ttlv_parts::types::TtlvType;
-use kmip_ttlv_parts::visit::{Leaf, Visitor};
+use kmip_ttlv_parts::visit::Visitor;
+use kmip_ttlv_parts::{Enumeration, reader};
 use std::alloc::{AllocError, Allocator, Global};
-
-/// What names an attribute.
-#[derive(Drop)]
-#[derive_where(PartialEq)]
-pub struct AttributeName<A: Allocator = Global> {
-    /// What it holds.
-    pub text: String<A>,
-}
-
-impl<B: Allocator> Serialize for AttributeName<B> {
-    ghost stated = { attribute_name_value };
-
-    fn visit<V: Visitor>(&self, visitor: &mut V) -> Result<(), AllocError> {
-        writing::string(visitor, 0x42000A, &self.text)
-    }
-}
-
-impl<A: Allocator + Copy> reader::ReadItem<A> for AttributeName<A> {
-    ghost form = { attribute_name_form };
-
-    ghost value = { attribute_name_value };
-
-    ghost plain = { (refl, refl) };
-
-    fn read_item<'b>(
-        scope: &reader::Scope<'b, A>,
-        cursor: &mut reader::Cursor<'b, A>,
-    ) -> reader::Step<Self, A> {
-        let text = cursor.wrapped_leaf(scope, 0x42000A)?;
-        Ok(AttributeName { text })
-    }
-}
-
-/// Which of the attributes of this name, from 0 on.
-#[derive(Clone, Copy, PartialEq, Eq)]
-pub struct AttributeIndex {
-    /// What it holds.
-    pub index: i32,
-}
-
-impl Serialize for AttributeIndex {
-    ghost stated = { attribute_index_value };
-
-    fn visit<V: Visitor>(&self, visitor: &mut V) -> Result<(), AllocError> {
-        writing::tagged(visitor, 0x420009, Leaf::I32(self.index))?;
-        Ok(())
-    }
-}
-
-impl<A: Allocator + Copy> reader::ReadItem<A> for AttributeIndex {
-    ghost form = { attribute_index_form };
-
-    ghost value = { attribute_index_value };
-
-    ghost plain = { (refl, refl) };
-
-    fn read_item<'b>(
-        scope: &reader::Scope<'b, A>,
-        cursor: &mut reader::Cursor<'b, A>,
-    ) -> reader::Step<Self, A> {
-        let index = cursor.wrapped_leaf(scope, 0x420009)?;
-        Ok(AttributeIndex { index })
-    }
-}
-
-/// A number: Cryptographic Length, Cryptographic Usage Mask, or a vendor's attribute.
-#[derive(Clone, Copy, PartialEq, Eq)]
-pub struct IntegerValue {
-    /// What it holds.
-    pub value: i32,
-}
-
-impl Serialize for IntegerValue {
-    ghost stated = { integer_value_value };
-
-    fn visit<V: Visitor>(&self, visitor: &mut V) -> Result<(), AllocError> {
-        writing::tagged(visitor, 0x42000B, Leaf::I32(self.value))?;
-        Ok(())
-    }
-}
-
-impl<A: Allocator + Copy> reader::ReadItem<A> for IntegerValue {
-    ghost form = { integer_value_form };
-
-    ghost value = { integer_value_value };
-
-    ghost plain = { (refl, refl) };
-
-    fn read_item<'b>(
-        scope: &reader::Scope<'b, A>,
-        cursor: &mut reader::Cursor<'b, A>,
-    ) -> reader::Step<Self, A> {
-        let value = cursor.wrapped_leaf(scope, 0x42000B)?;
-        Ok(IntegerValue { value })
-    }
-}
-
-/// A long number: a vendor's attribute.
-#[derive(Clone, Copy, PartialEq, Eq)]
-pub struct LongIntegerValue {
-    /// What it holds.
-    pub value: i64,
-}
-
-impl Serialize for LongIntegerValue {
-    ghost stated = { long_integer_value_value };
-
-    fn visit<V: Visitor>(&self, visitor: &mut V) -> Result<(), AllocError> {
-        writing::tagged(visitor, 0x42000B, Leaf::I64(self.value))?;
-        Ok(())
-    }
-}
-
-impl<A: Allocator + Copy> reader::ReadItem<A> for LongIntegerValue {
-    ghost form = { long_integer_value_form };
-
-    ghost value = { long_integer_value_value };
-
-    ghost plain = { (refl, refl) };
-
-    fn read_item<'b>(
-        scope: &reader::Scope<'b, A>,
-        cursor: &mut reader::Cursor<'b, A>,
-    ) -> reader::Step<Self, A> {
-        let value = cursor.wrapped_leaf(scope, 0x42000B)?;
-        Ok(LongIntegerValue { value })
-    }
-}
-
-/// A number of any length, the highest byte first: a vendor's attribute.
-#[derive(Drop)]
-#[derive_where(PartialEq)]
-pub struct BigIntegerValue<A: Allocator = Global> {
-    /// What it holds.
-    pub bytes: Vec<u8, A>,
-}
-
-impl<B: Allocator> Serialize for BigIntegerValue<B> {
-    ghost stated = { big_integer_value_value };
-
-    fn visit<V: Visitor>(&self, visitor: &mut V) -> Result<(), AllocError> {
-        writing::big_integer_bytes(visitor, 0x42000B, &self.bytes)
-    }
-}
-
-impl<A: Allocator + Copy> reader::ReadItem<A> for BigIntegerValue<A> {
-    ghost form = { big_integer_value_form };
-
-    ghost value = { big_integer_value_value };
-
-    ghost plain = { (refl, refl) };
-
-    fn read_item<'b>(
-        scope: &reader::Scope<'b, A>,
-        cursor: &mut reader::Cursor<'b, A>,
-    ) -> reader::Step<Self, A> {
-        let bytes: reader::BigInteger<A> = cursor.wrapped_leaf(scope, 0x42000B)?;
-        Ok(BigIntegerValue { bytes: bytes.0 })
-    }
-}
-
-/// A vendor's Enumeration.
-#[derive(Clone, Copy, PartialEq, Eq)]
-pub struct EnumerationValue {
-    /// What it holds.
-    pub number: u32,
-}
-
-impl Serialize for EnumerationValue {
-    ghost stated = { enumeration_value_value };
-
-    fn visit<V: Visitor>(&self, visitor: &mut V) -> Result<(), AllocError> {
-        writing::tagged(visitor, 0x42000B, Leaf::U32(self.number))
-    }
-}
-
-impl<A: Allocator + Copy> reader::ReadItem<A> for EnumerationValue {
-    ghost form = { enumeration_value_form };
-
-    ghost value = { enumeration_value_value };
-
-    ghost plain = { (refl, refl) };
-
-    fn read_item<'b>(
-        scope: &reader::Scope<'b, A>,
-        cursor: &mut reader::Cursor<'b, A>,
-    ) -> reader::Step<Self, A> {
-        let number = cursor.wrapped_leaf(scope, 0x42000B)?;
-        Ok(EnumerationValue { number })
-    }
-}
-
-/// A truth value: a vendor's attribute.
-#[derive(Clone, Copy, PartialEq, Eq)]
-pub struct BooleanValue {
-    /// What it holds.
-    pub value: bool,
-}
-
-impl Serialize for BooleanValue {
-    ghost stated = { boolean_value_value };
-
-    fn visit<V: Visitor>(&self, visitor: &mut V) -> Result<(), AllocError> {
-        writing::tagged(visitor, 0x42000B, Leaf::Bool(self.value))
-    }
-}
-
-impl<A: Allocator + Copy> reader::ReadItem<A> for BooleanValue {
-    ghost form = { boolean_value_form };
-
-    ghost value = { boolean_value_value };
-
-    ghost plain = { (refl, refl) };
-
-    fn read_item<'b>(
-        scope: &reader::Scope<'b, A>,
-        cursor: &mut reader::Cursor<'b, A>,
-    ) -> reader::Step<Self, A> {
-        let value = cursor.wrapped_leaf(scope, 0x42000B)?;
-        Ok(BooleanValue { value })
-    }
-}
-
-/// A text: Unique Identifier, Operation Policy Name, Object Group, Contact Information, or a vendor's attribute.
-#[derive(Drop)]
-#[derive_where(PartialEq)]
-pub struct TextStringValue<A: Allocator = Global> {
-    /// What it holds.
-    pub text: String<A>,
-}
-
-impl<B: Allocator> Serialize for TextStringValue<B> {
-    ghost stated = { text_string_value_value };
-
-    fn visit<V: Visitor>(&self, visitor: &mut V) -> Result<(), AllocError> {
-        writing::string(visitor, 0x42000B, &self.text)
-    }
-}
-
-impl<A: Allocator + Copy> reader::ReadItem<A> for TextStringValue<A> {
-    ghost form = { text_string_value_form };
-
-    ghost value = { text_string_value_value };
-
-    ghost plain = { (refl, refl) };
-
-    fn read_item<'b>(
-        scope: &reader::Scope<'b, A>,
-        cursor: &mut reader::Cursor<'b, A>,
-    ) -> reader::Step<Self, A> {
-        let text = cursor.wrapped_leaf(scope, 0x42000B)?;
-        Ok(TextStringValue { text })
-    }
-}
-
-/// Bytes: a vendor's attribute.
-#[derive(Drop)]
-#[derive_where(PartialEq)]
-pub struct ByteStringValue<A: Allocator = Global> {
-    /// What it holds.
-    pub bytes: Vec<u8, A>,
-}
-
-impl<B: Allocator> Serialize for ByteStringValue<B> {
-    ghost stated = { byte_string_value_value };
-
-    fn visit<V: Visitor>(&self, visitor: &mut V) -> Result<(), AllocError> {
-        writing::bytes(visitor, 0x42000B, &self.bytes)
-    }
-}
-
-impl<A: Allocator + Copy> reader::ReadItem<A> for ByteStringValue<A> {
-    ghost form = { byte_string_value_form };
-
-    ghost value = { byte_string_value_value };
-
-    ghost plain = { (refl, refl) };
-
-    fn read_item<'b>(
-        scope: &reader::Scope<'b, A>,
-        cursor: &mut reader::Cursor<'b, A>,
-    ) -> reader::Step<Self, A> {
-        let bytes = cursor.wrapped_leaf(scope, 0x42000B)?;
-        Ok(ByteStringValue { bytes })
-    }
-}
-
-/// A date, in seconds since 1970: each of the attributes that are dates, or a vendor's.
-#[derive(Clone, Copy, PartialEq, Eq)]
-pub struct DateTimeValue {
-    /// What it holds.
-    pub seconds: i64,
-}
-
-impl Serialize for DateTimeValue {
-    ghost stated = { date_time_value_value };
-
-    fn visit<V: Visitor>(&self, visitor: &mut V) -> Result<(), AllocError> {
-        writing::tagged(visitor, 0x42000B, Leaf::DateTime(self.seconds))?;
-        Ok(())
-    }
-}
-
-impl<A: Allocator + Copy> reader::ReadItem<A> for DateTimeValue {
-    ghost form = { date_time_value_form };
-
-    ghost value = { date_time_value_value };
-
-    ghost plain = { (refl, refl) };
-
-    fn read_item<'b>(
-        scope: &reader::Scope<'b, A>,
-        cursor: &mut reader::Cursor<'b, A>,
-    ) -> reader::Step<Self, A> {
-        let seconds: reader::DateTime = cursor.wrapped_leaf(scope, 0x42000B)?;
-        Ok(DateTimeValue { seconds: seconds.0 })
-    }
-}
-
-/// A time in seconds: Lease Time, or a vendor's attribute.
-#[derive(Clone, Copy, PartialEq, Eq)]
-pub struct IntervalValue {
-    /// What it holds.
-    pub seconds: u32,
-}
-
-impl Serialize for IntervalValue {
-    ghost stated = { interval_value_value };
-
-    fn visit<V: Visitor>(&self, visitor: &mut V) -> Result<(), AllocError> {
-        writing::tagged(visitor, 0x42000B, Leaf::Interval(self.seconds))
-    }
-}
-
-impl<A: Allocator + Copy> reader::ReadItem<A> for IntervalValue {
-    ghost form = { interval_value_form };
-
-    ghost value = { interval_value_value };
-
-    ghost plain = { (refl, refl) };
-
-    fn read_item<'b>(
-        scope: &reader::Scope<'b, A>,
-        cursor: &mut reader::Cursor<'b, A>,
-    ) -> reader::Step<Self, A> {
-        let seconds: reader::Interval = cursor.wrapped_leaf(scope, 0x42000B)?;
-        Ok(IntervalValue { seconds: seconds.0 })
-    }
-}
 
 /// What an attribute that is a structure says, by its name.
 #[derive(Drop)]
@@ -398,29 +56,6 @@ pub enum AttributeStructure<A: Allocator = Global> {
 }
 
 impl<A: Allocator> AttributeStructure<A> {
-    // Sends what it holds.
-    #[tactic(auto, unfolding(crate::specs::Attributes::attribute_structure_content))]
-    pub(crate) fn send<V: Visitor>(&self, visitor: &mut V) -> Result<(), AllocError>
-        ensures received { OnOk result (Receives V.knows V.step (attribute_structure_content self.now) visitor.old visitor.new) }
-        ensures stopped { OnErr result (V.stopped visitor.new) }
-    {
-        match self {
-            AttributeStructure::Name(inner) => inner.visit(visitor),
-            AttributeStructure::CryptographicParameters(inner) => inner.visit(visitor),
-            AttributeStructure::CryptographicDomainParameters(inner) => inner.visit(visitor),
-            AttributeStructure::CertificateIdentifier(inner) => inner.visit(visitor),
-            AttributeStructure::CertificateSubject(inner) => inner.visit(visitor),
-            AttributeStructure::CertificateIssuer(inner) => inner.visit(visitor),
-            AttributeStructure::Digest(inner) => inner.visit(visitor),
-            AttributeStructure::UsageLimits(inner) => inner.visit(visitor),
-            AttributeStructure::RevocationReason(inner) => inner.visit(visitor),
-            AttributeStructure::Link(inner) => inner.visit(visitor),
-            AttributeStructure::ApplicationSpecificInformation(inner) => inner.visit(visitor),
-        }
-    }
-}
-
-impl<A: Allocator> AttributeStructure<A> {
     /// Whether this text, if it is that of 0x42000A, chooses it.
     pub fn is_chosen_by(&self, text: &str) -> bool
         ensures { IsTrue result ↔ ChoosesAttributeStructure text.now self.now }
@@ -443,21 +78,102 @@ impl<A: Allocator> AttributeStructure<A> {
     }
 }
 
-impl<B: Allocator> Serialize for AttributeStructure<B> {
-    ghost stated = { written_attribute_structure };
+impl<A: Allocator + Copy> Choice<A> for AttributeStructure<A> {
+    ghost chosen = { attribute_structure_choice ⟦<AttributeStructure<A> as PartialEq>⟧.eq record {
+      name = held ⟦<Of<Name<A>> as Element<A>>⟧.rules refl refl (λ x y e. e);
+      cryptographic_parameters = held ⟦<Of<CryptographicParameters> as Element<A>>⟧.rules refl refl (λ x y e. e);
+      cryptographic_domain_parameters = held ⟦<Of<CryptographicDomainParameters> as Element<A>>⟧.rules refl refl (λ x y e. e);
+      certificate_identifier = held ⟦<Of<CertificateIdentifier<A>> as Element<A>>⟧.rules refl refl (λ x y e. e);
+      certificate_subject = held ⟦<Of<CertificateSubject<A>> as Element<A>>⟧.rules refl refl (λ x y e. e);
+      certificate_issuer = held ⟦<Of<CertificateIssuer<A>> as Element<A>>⟧.rules refl refl (λ x y e. e);
+      digest = held ⟦<Of<Digest<A>> as Element<A>>⟧.rules refl refl (λ x y e. e);
+      usage_limits = held ⟦<Of<UsageLimits> as Element<A>>⟧.rules refl refl (λ x y e. e);
+      revocation_reason = held ⟦<Of<RevocationReason<A>> as Element<A>>⟧.rules refl refl (λ x y e. e);
+      link = held ⟦<Of<Link<A>> as Element<A>>⟧.rules refl refl (λ x y e. e);
+      application_specific_information = held ⟦<Of<ApplicationSpecificInformation<A>> as Element<A>>⟧.rules refl refl (λ x y e. e);
+    } };
 
-    #[tactic(auto, unfolding(crate::specs::Attributes::written_attribute_structure))]
-    fn visit<V: Visitor>(&self, visitor: &mut V) -> Result<(), AllocError> {
-        writing::begin_newtype_variant(visitor, "Override:0x42000B", "Transparent")?;
-        self.send(visitor)?;
-        writing::end_newtype_variant(visitor, "Override:0x42000B", "Transparent")
+    fn read_chosen<'b>(scope: &Scope<'b, A>, cursor: &mut Cursor<'b, A>) -> Step<Self, A> {
+        reader::read_choice(scope, cursor)
     }
+
+    fn visit_chosen<V: Visitor>(&self, visitor: &mut V) -> Result<(), AllocError> {
+        match self {
+            AttributeStructure::Name(inner) => <Of<Name<A>> as Element<A>>::visit_one(
+                inner, visitor,
+            ),
+            AttributeStructure::CryptographicParameters(inner) => <Of<
+                CryptographicParameters,
+            > as Element<A>>::visit_one(inner, visitor),
+            AttributeStructure::CryptographicDomainParameters(inner) => <Of<
+                CryptographicDomainParameters,
+            > as Element<A>>::visit_one(inner, visitor),
+            AttributeStructure::CertificateIdentifier(inner) => <Of<
+                CertificateIdentifier<A>,
+            > as Element<A>>::visit_one(inner, visitor),
+            AttributeStructure::CertificateSubject(inner) => <Of<CertificateSubject<A>> as Element<
+                A,
+            >>::visit_one(inner, visitor),
+            AttributeStructure::CertificateIssuer(inner) => <Of<CertificateIssuer<A>> as Element<
+                A,
+            >>::visit_one(inner, visitor),
+            AttributeStructure::Digest(inner) => <Of<Digest<A>> as Element<A>>::visit_one(
+                inner, visitor,
+            ),
+            AttributeStructure::UsageLimits(inner) => <Of<UsageLimits> as Element<A>>::visit_one(
+                inner, visitor,
+            ),
+            AttributeStructure::RevocationReason(inner) => <Of<RevocationReason<A>> as Element<
+                A,
+            >>::visit_one(inner, visitor),
+            AttributeStructure::Link(inner) => <Of<Link<A>> as Element<A>>::visit_one(
+                inner, visitor,
+            ),
+            AttributeStructure::ApplicationSpecificInformation(inner) => <Of<
+                ApplicationSpecificInformation<A>,
+            > as Element<A>>::visit_one(inner, visitor),
+        }
+    }
+
+    fn is_whole(&self) -> bool {
+        match self {
+            AttributeStructure::Name(inner) => <Of<Name<A>> as Element<A>>::is_whole(inner),
+            AttributeStructure::CryptographicParameters(inner) => <Of<
+                CryptographicParameters,
+            > as Element<A>>::is_whole(inner),
+            AttributeStructure::CryptographicDomainParameters(inner) => <Of<
+                CryptographicDomainParameters,
+            > as Element<A>>::is_whole(inner),
+            AttributeStructure::CertificateIdentifier(inner) => <Of<
+                CertificateIdentifier<A>,
+            > as Element<A>>::is_whole(inner),
+            AttributeStructure::CertificateSubject(inner) => <Of<CertificateSubject<A>> as Element<
+                A,
+            >>::is_whole(inner),
+            AttributeStructure::CertificateIssuer(inner) => <Of<CertificateIssuer<A>> as Element<
+                A,
+            >>::is_whole(inner),
+            AttributeStructure::Digest(inner) => <Of<Digest<A>> as Element<A>>::is_whole(inner),
+            AttributeStructure::UsageLimits(inner) => <Of<UsageLimits> as Element<A>>::is_whole(
+                inner,
+            ),
+            AttributeStructure::RevocationReason(inner) => <Of<RevocationReason<A>> as Element<
+                A,
+            >>::is_whole(inner),
+            AttributeStructure::Link(inner) => <Of<Link<A>> as Element<A>>::is_whole(inner),
+            AttributeStructure::ApplicationSpecificInformation(inner) => <Of<
+                ApplicationSpecificInformation<A>,
+            > as Element<A>>::is_whole(inner),
+        }
+    }
+
+    ghost plain = { (refl, refl) };
 }
 
 /// The rule that chooses `AttributeStructure::Name`.
 pub struct AttributeStructureNameRule;
 
-impl reader::Rule for AttributeStructureNameRule {
+impl Rule for AttributeStructureNameRule {
     ghost condition = { codes "0x42000A==Name" };
 
     fn name() -> &'static str {
@@ -465,20 +181,17 @@ impl reader::Rule for AttributeStructureNameRule {
     }
 
     #[tactic(auto, unfolding(kmip_ttlv_reader::specs::RuleParts::parts_of))]
-    fn parts() -> Option<reader::RuleParts> {
-        Some(reader::RuleParts::Texts {
+    fn parts() -> Option<RuleParts> {
+        Some(RuleParts::Texts {
             tag: 0x42000A,
             texts: &["Name"],
         })
     }
 }
 
-impl<A: Allocator + Copy> reader::VariantOf<
-    reader::StructureElement<Name<A>>,
-    AttributeStructure<A>,
-    A,
-> for AttributeStructureNameRule {
-    #[tactic(auto, unfolding(crate::specs::Attributes::read_attribute_structure))]
+impl<A: Allocator + Copy> VariantOf<AsElement<Of<Name<A>>>, AttributeStructure<A>, A>
+    for AttributeStructureNameRule {
+    #[tactic(auto, unfolding(crate::specs::Choices::attribute_structure_by))]
     fn from_content(inner: Name<A>) -> AttributeStructure<A> {
         AttributeStructure::Name(inner)
     }
@@ -487,7 +200,7 @@ impl<A: Allocator + Copy> reader::VariantOf<
 /// The rule that chooses `AttributeStructure::CryptographicParameters`.
 pub struct AttributeStructureCryptographicParametersRule;
 
-impl reader::Rule for AttributeStructureCryptographicParametersRule {
+impl Rule for AttributeStructureCryptographicParametersRule {
     ghost condition = { codes "0x42000A==Cryptographic Parameters" };
 
     fn name() -> &'static str {
@@ -495,20 +208,20 @@ impl reader::Rule for AttributeStructureCryptographicParametersRule {
     }
 
     #[tactic(auto, unfolding(kmip_ttlv_reader::specs::RuleParts::parts_of))]
-    fn parts() -> Option<reader::RuleParts> {
-        Some(reader::RuleParts::Texts {
+    fn parts() -> Option<RuleParts> {
+        Some(RuleParts::Texts {
             tag: 0x42000A,
             texts: &["Cryptographic Parameters"],
         })
     }
 }
 
-impl<A: Allocator + Copy> reader::VariantOf<
-    reader::StructureElement<CryptographicParameters>,
+impl<A: Allocator + Copy> VariantOf<
+    AsElement<Of<CryptographicParameters>>,
     AttributeStructure<A>,
     A,
 > for AttributeStructureCryptographicParametersRule {
-    #[tactic(auto, unfolding(crate::specs::Attributes::read_attribute_structure))]
+    #[tactic(auto, unfolding(crate::specs::Choices::attribute_structure_by))]
     fn from_content(inner: CryptographicParameters) -> AttributeStructure<A> {
         AttributeStructure::CryptographicParameters(inner)
     }
@@ -517,7 +230,7 @@ impl<A: Allocator + Copy> reader::VariantOf<
 /// The rule that chooses `AttributeStructure::CryptographicDomainParameters`.
 pub struct AttributeStructureCryptographicDomainParametersRule;
 
-impl reader::Rule for AttributeStructureCryptographicDomainParametersRule {
+impl Rule for AttributeStructureCryptographicDomainParametersRule {
     ghost condition = { codes "0x42000A==Cryptographic Domain Parameters" };
 
     fn name() -> &'static str {
@@ -525,20 +238,20 @@ impl reader::Rule for AttributeStructureCryptographicDomainParametersRule {
     }
 
     #[tactic(auto, unfolding(kmip_ttlv_reader::specs::RuleParts::parts_of))]
-    fn parts() -> Option<reader::RuleParts> {
-        Some(reader::RuleParts::Texts {
+    fn parts() -> Option<RuleParts> {
+        Some(RuleParts::Texts {
             tag: 0x42000A,
             texts: &["Cryptographic Domain Parameters"],
         })
     }
 }
 
-impl<A: Allocator + Copy> reader::VariantOf<
-    reader::StructureElement<CryptographicDomainParameters>,
+impl<A: Allocator + Copy> VariantOf<
+    AsElement<Of<CryptographicDomainParameters>>,
     AttributeStructure<A>,
     A,
 > for AttributeStructureCryptographicDomainParametersRule {
-    #[tactic(auto, unfolding(crate::specs::Attributes::read_attribute_structure))]
+    #[tactic(auto, unfolding(crate::specs::Choices::attribute_structure_by))]
     fn from_content(inner: CryptographicDomainParameters) -> AttributeStructure<A> {
         AttributeStructure::CryptographicDomainParameters(inner)
     }
@@ -547,7 +260,7 @@ impl<A: Allocator + Copy> reader::VariantOf<
 /// The rule that chooses `AttributeStructure::CertificateIdentifier`.
 pub struct AttributeStructureCertificateIdentifierRule;
 
-impl reader::Rule for AttributeStructureCertificateIdentifierRule {
+impl Rule for AttributeStructureCertificateIdentifierRule {
     ghost condition = { codes "0x42000A==Certificate Identifier" };
 
     fn name() -> &'static str {
@@ -555,20 +268,20 @@ impl reader::Rule for AttributeStructureCertificateIdentifierRule {
     }
 
     #[tactic(auto, unfolding(kmip_ttlv_reader::specs::RuleParts::parts_of))]
-    fn parts() -> Option<reader::RuleParts> {
-        Some(reader::RuleParts::Texts {
+    fn parts() -> Option<RuleParts> {
+        Some(RuleParts::Texts {
             tag: 0x42000A,
             texts: &["Certificate Identifier"],
         })
     }
 }
 
-impl<A: Allocator + Copy> reader::VariantOf<
-    reader::StructureElement<CertificateIdentifier<A>>,
+impl<A: Allocator + Copy> VariantOf<
+    AsElement<Of<CertificateIdentifier<A>>>,
     AttributeStructure<A>,
     A,
 > for AttributeStructureCertificateIdentifierRule {
-    #[tactic(auto, unfolding(crate::specs::Attributes::read_attribute_structure))]
+    #[tactic(auto, unfolding(crate::specs::Choices::attribute_structure_by))]
     fn from_content(inner: CertificateIdentifier<A>) -> AttributeStructure<A> {
         AttributeStructure::CertificateIdentifier(inner)
     }
@@ -577,7 +290,7 @@ impl<A: Allocator + Copy> reader::VariantOf<
 /// The rule that chooses `AttributeStructure::CertificateSubject`.
 pub struct AttributeStructureCertificateSubjectRule;
 
-impl reader::Rule for AttributeStructureCertificateSubjectRule {
+impl Rule for AttributeStructureCertificateSubjectRule {
     ghost condition = { codes "0x42000A==Certificate Subject" };
 
     fn name() -> &'static str {
@@ -585,20 +298,17 @@ impl reader::Rule for AttributeStructureCertificateSubjectRule {
     }
 
     #[tactic(auto, unfolding(kmip_ttlv_reader::specs::RuleParts::parts_of))]
-    fn parts() -> Option<reader::RuleParts> {
-        Some(reader::RuleParts::Texts {
+    fn parts() -> Option<RuleParts> {
+        Some(RuleParts::Texts {
             tag: 0x42000A,
             texts: &["Certificate Subject"],
         })
     }
 }
 
-impl<A: Allocator + Copy> reader::VariantOf<
-    reader::StructureElement<CertificateSubject<A>>,
-    AttributeStructure<A>,
-    A,
-> for AttributeStructureCertificateSubjectRule {
-    #[tactic(auto, unfolding(crate::specs::Attributes::read_attribute_structure))]
+impl<A: Allocator + Copy> VariantOf<AsElement<Of<CertificateSubject<A>>>, AttributeStructure<A>, A>
+    for AttributeStructureCertificateSubjectRule {
+    #[tactic(auto, unfolding(crate::specs::Choices::attribute_structure_by))]
     fn from_content(inner: CertificateSubject<A>) -> AttributeStructure<A> {
         AttributeStructure::CertificateSubject(inner)
     }
@@ -607,7 +317,7 @@ impl<A: Allocator + Copy> reader::VariantOf<
 /// The rule that chooses `AttributeStructure::CertificateIssuer`.
 pub struct AttributeStructureCertificateIssuerRule;
 
-impl reader::Rule for AttributeStructureCertificateIssuerRule {
+impl Rule for AttributeStructureCertificateIssuerRule {
     ghost condition = { codes "0x42000A==Certificate Issuer" };
 
     fn name() -> &'static str {
@@ -615,20 +325,17 @@ impl reader::Rule for AttributeStructureCertificateIssuerRule {
     }
 
     #[tactic(auto, unfolding(kmip_ttlv_reader::specs::RuleParts::parts_of))]
-    fn parts() -> Option<reader::RuleParts> {
-        Some(reader::RuleParts::Texts {
+    fn parts() -> Option<RuleParts> {
+        Some(RuleParts::Texts {
             tag: 0x42000A,
             texts: &["Certificate Issuer"],
         })
     }
 }
 
-impl<A: Allocator + Copy> reader::VariantOf<
-    reader::StructureElement<CertificateIssuer<A>>,
-    AttributeStructure<A>,
-    A,
-> for AttributeStructureCertificateIssuerRule {
-    #[tactic(auto, unfolding(crate::specs::Attributes::read_attribute_structure))]
+impl<A: Allocator + Copy> VariantOf<AsElement<Of<CertificateIssuer<A>>>, AttributeStructure<A>, A>
+    for AttributeStructureCertificateIssuerRule {
+    #[tactic(auto, unfolding(crate::specs::Choices::attribute_structure_by))]
     fn from_content(inner: CertificateIssuer<A>) -> AttributeStructure<A> {
         AttributeStructure::CertificateIssuer(inner)
     }
@@ -637,7 +344,7 @@ impl<A: Allocator + Copy> reader::VariantOf<
 /// The rule that chooses `AttributeStructure::Digest`.
 pub struct AttributeStructureDigestRule;
 
-impl reader::Rule for AttributeStructureDigestRule {
+impl Rule for AttributeStructureDigestRule {
     ghost condition = { codes "0x42000A==Digest" };
 
     fn name() -> &'static str {
@@ -645,20 +352,17 @@ impl reader::Rule for AttributeStructureDigestRule {
     }
 
     #[tactic(auto, unfolding(kmip_ttlv_reader::specs::RuleParts::parts_of))]
-    fn parts() -> Option<reader::RuleParts> {
-        Some(reader::RuleParts::Texts {
+    fn parts() -> Option<RuleParts> {
+        Some(RuleParts::Texts {
             tag: 0x42000A,
             texts: &["Digest"],
         })
     }
 }
 
-impl<A: Allocator + Copy> reader::VariantOf<
-    reader::StructureElement<Digest<A>>,
-    AttributeStructure<A>,
-    A,
-> for AttributeStructureDigestRule {
-    #[tactic(auto, unfolding(crate::specs::Attributes::read_attribute_structure))]
+impl<A: Allocator + Copy> VariantOf<AsElement<Of<Digest<A>>>, AttributeStructure<A>, A>
+    for AttributeStructureDigestRule {
+    #[tactic(auto, unfolding(crate::specs::Choices::attribute_structure_by))]
     fn from_content(inner: Digest<A>) -> AttributeStructure<A> {
         AttributeStructure::Digest(inner)
     }
@@ -667,7 +371,7 @@ impl<A: Allocator + Copy> reader::VariantOf<
 /// The rule that chooses `AttributeStructure::UsageLimits`.
 pub struct AttributeStructureUsageLimitsRule;
 
-impl reader::Rule for AttributeStructureUsageLimitsRule {
+impl Rule for AttributeStructureUsageLimitsRule {
     ghost condition = { codes "0x42000A==Usage Limits" };
 
     fn name() -> &'static str {
@@ -675,20 +379,17 @@ impl reader::Rule for AttributeStructureUsageLimitsRule {
     }
 
     #[tactic(auto, unfolding(kmip_ttlv_reader::specs::RuleParts::parts_of))]
-    fn parts() -> Option<reader::RuleParts> {
-        Some(reader::RuleParts::Texts {
+    fn parts() -> Option<RuleParts> {
+        Some(RuleParts::Texts {
             tag: 0x42000A,
             texts: &["Usage Limits"],
         })
     }
 }
 
-impl<A: Allocator + Copy> reader::VariantOf<
-    reader::StructureElement<UsageLimits>,
-    AttributeStructure<A>,
-    A,
-> for AttributeStructureUsageLimitsRule {
-    #[tactic(auto, unfolding(crate::specs::Attributes::read_attribute_structure))]
+impl<A: Allocator + Copy> VariantOf<AsElement<Of<UsageLimits>>, AttributeStructure<A>, A>
+    for AttributeStructureUsageLimitsRule {
+    #[tactic(auto, unfolding(crate::specs::Choices::attribute_structure_by))]
     fn from_content(inner: UsageLimits) -> AttributeStructure<A> {
         AttributeStructure::UsageLimits(inner)
     }
@@ -697,7 +398,7 @@ impl<A: Allocator + Copy> reader::VariantOf<
 /// The rule that chooses `AttributeStructure::RevocationReason`.
 pub struct AttributeStructureRevocationReasonRule;
 
-impl reader::Rule for AttributeStructureRevocationReasonRule {
+impl Rule for AttributeStructureRevocationReasonRule {
     ghost condition = { codes "0x42000A==Revocation Reason" };
 
     fn name() -> &'static str {
@@ -705,20 +406,17 @@ impl reader::Rule for AttributeStructureRevocationReasonRule {
     }
 
     #[tactic(auto, unfolding(kmip_ttlv_reader::specs::RuleParts::parts_of))]
-    fn parts() -> Option<reader::RuleParts> {
-        Some(reader::RuleParts::Texts {
+    fn parts() -> Option<RuleParts> {
+        Some(RuleParts::Texts {
             tag: 0x42000A,
             texts: &["Revocation Reason"],
         })
     }
 }
 
-impl<A: Allocator + Copy> reader::VariantOf<
-    reader::StructureElement<RevocationReason<A>>,
-    AttributeStructure<A>,
-    A,
-> for AttributeStructureRevocationReasonRule {
-    #[tactic(auto, unfolding(crate::specs::Attributes::read_attribute_structure))]
+impl<A: Allocator + Copy> VariantOf<AsElement<Of<RevocationReason<A>>>, AttributeStructure<A>, A>
+    for AttributeStructureRevocationReasonRule {
+    #[tactic(auto, unfolding(crate::specs::Choices::attribute_structure_by))]
     fn from_content(inner: RevocationReason<A>) -> AttributeStructure<A> {
         AttributeStructure::RevocationReason(inner)
     }
@@ -727,7 +425,7 @@ impl<A: Allocator + Copy> reader::VariantOf<
 /// The rule that chooses `AttributeStructure::Link`.
 pub struct AttributeStructureLinkRule;
 
-impl reader::Rule for AttributeStructureLinkRule {
+impl Rule for AttributeStructureLinkRule {
     ghost condition = { codes "0x42000A==Link" };
 
     fn name() -> &'static str {
@@ -735,20 +433,17 @@ impl reader::Rule for AttributeStructureLinkRule {
     }
 
     #[tactic(auto, unfolding(kmip_ttlv_reader::specs::RuleParts::parts_of))]
-    fn parts() -> Option<reader::RuleParts> {
-        Some(reader::RuleParts::Texts {
+    fn parts() -> Option<RuleParts> {
+        Some(RuleParts::Texts {
             tag: 0x42000A,
             texts: &["Link"],
         })
     }
 }
 
-impl<A: Allocator + Copy> reader::VariantOf<
-    reader::StructureElement<Link<A>>,
-    AttributeStructure<A>,
-    A,
-> for AttributeStructureLinkRule {
-    #[tactic(auto, unfolding(crate::specs::Attributes::read_attribute_structure))]
+impl<A: Allocator + Copy> VariantOf<AsElement<Of<Link<A>>>, AttributeStructure<A>, A>
+    for AttributeStructureLinkRule {
+    #[tactic(auto, unfolding(crate::specs::Choices::attribute_structure_by))]
     fn from_content(inner: Link<A>) -> AttributeStructure<A> {
         AttributeStructure::Link(inner)
     }
@@ -757,7 +452,7 @@ impl<A: Allocator + Copy> reader::VariantOf<
 /// The rule that chooses `AttributeStructure::ApplicationSpecificInformation`.
 pub struct AttributeStructureApplicationSpecificInformationRule;
 
-impl reader::Rule for AttributeStructureApplicationSpecificInformationRule {
+impl Rule for AttributeStructureApplicationSpecificInformationRule {
     ghost condition = { codes "0x42000A==Application Specific Information" };
 
     fn name() -> &'static str {
@@ -765,20 +460,20 @@ impl reader::Rule for AttributeStructureApplicationSpecificInformationRule {
     }
 
     #[tactic(auto, unfolding(kmip_ttlv_reader::specs::RuleParts::parts_of))]
-    fn parts() -> Option<reader::RuleParts> {
-        Some(reader::RuleParts::Texts {
+    fn parts() -> Option<RuleParts> {
+        Some(RuleParts::Texts {
             tag: 0x42000A,
             texts: &["Application Specific Information"],
         })
     }
 }
 
-impl<A: Allocator + Copy> reader::VariantOf<
-    reader::StructureElement<ApplicationSpecificInformation<A>>,
+impl<A: Allocator + Copy> VariantOf<
+    AsElement<Of<ApplicationSpecificInformation<A>>>,
     AttributeStructure<A>,
     A,
 > for AttributeStructureApplicationSpecificInformationRule {
-    #[tactic(auto, unfolding(crate::specs::Attributes::read_attribute_structure))]
+    #[tactic(auto, unfolding(crate::specs::Choices::attribute_structure_by))]
     fn from_content(inner: ApplicationSpecificInformation<A>) -> AttributeStructure<A> {
         AttributeStructure::ApplicationSpecificInformation(inner)
     }
@@ -787,40 +482,30 @@ impl<A: Allocator + Copy> reader::VariantOf<
 /// The variants of `AttributeStructure` from `CertificateSubject` on.
 pub struct AttributeStructureLater4;
 
-impl<A: Allocator + Copy> reader::VariantList<AttributeStructure<A>, A>
-    for AttributeStructureLater4 {
-    ghost variants = { attribute_structure_variants_4 };
+impl<A: Allocator + Copy> VariantList<AttributeStructure<A>, A> for AttributeStructureLater4 {
+    ghost variants = { ⟦<(Variant<AttributeStructureCertificateSubjectRule, AsElement<Of<CertificateSubject<A>>>>, (Variant<AttributeStructureCertificateIssuerRule, AsElement<Of<CertificateIssuer<A>>>>, (Variant<AttributeStructureDigestRule, AsElement<Of<Digest<A>>>>, (Variant<AttributeStructureUsageLimitsRule, AsElement<Of<UsageLimits>>>, AttributeStructureLater8)))) as VariantList<AttributeStructure<A>, A>>⟧.variants };
 
     fn read_chosen<'b>(
-        scope: &reader::Scope<'b, A>,
-        cursor: &mut reader::Cursor<'b, A>,
+        scope: &Scope<'b, A>,
+        cursor: &mut Cursor<'b, A>,
         typ: TtlvType,
-    ) -> reader::Step<Option<AttributeStructure<A>>, A> {
+    ) -> Step<Option<AttributeStructure<A>>, A> {
         <(
-            reader::Variant<
-                AttributeStructureCertificateSubjectRule,
-                reader::StructureElement<CertificateSubject<A>>,
-            >,
+            Variant<AttributeStructureCertificateSubjectRule, AsElement<Of<CertificateSubject<A>>>>,
             (
-                reader::Variant<
+                Variant<
                     AttributeStructureCertificateIssuerRule,
-                    reader::StructureElement<CertificateIssuer<A>>,
+                    AsElement<Of<CertificateIssuer<A>>>,
                 >,
                 (
-                    reader::Variant<
-                        AttributeStructureDigestRule,
-                        reader::StructureElement<Digest<A>>,
-                    >,
+                    Variant<AttributeStructureDigestRule, AsElement<Of<Digest<A>>>>,
                     (
-                        reader::Variant<
-                            AttributeStructureUsageLimitsRule,
-                            reader::StructureElement<UsageLimits>,
-                        >,
+                        Variant<AttributeStructureUsageLimitsRule, AsElement<Of<UsageLimits>>>,
                         AttributeStructureLater8,
                     ),
                 ),
             ),
-        ) as reader::VariantList<AttributeStructure<A>, A>>::read_chosen(scope, cursor, typ)
+        ) as VariantList<AttributeStructure<A>, A>>::read_chosen(scope, cursor, typ)
     }
 
     ghost ruled = { λ content. refl };
@@ -829,61 +514,57 @@ impl<A: Allocator + Copy> reader::VariantList<AttributeStructure<A>, A>
 /// The variants of `AttributeStructure` from `RevocationReason` on.
 pub struct AttributeStructureLater8;
 
-impl<A: Allocator + Copy> reader::VariantList<AttributeStructure<A>, A>
-    for AttributeStructureLater8 {
-    ghost variants = { attribute_structure_variants_8 };
+impl<A: Allocator + Copy> VariantList<AttributeStructure<A>, A> for AttributeStructureLater8 {
+    ghost variants = { ⟦<(Variant<AttributeStructureRevocationReasonRule, AsElement<Of<RevocationReason<A>>>>, (Variant<AttributeStructureLinkRule, AsElement<Of<Link<A>>>>, (Variant<AttributeStructureApplicationSpecificInformationRule, AsElement<Of<ApplicationSpecificInformation<A>>>>, ()))) as VariantList<AttributeStructure<A>, A>>⟧.variants };
 
     fn read_chosen<'b>(
-        scope: &reader::Scope<'b, A>,
-        cursor: &mut reader::Cursor<'b, A>,
+        scope: &Scope<'b, A>,
+        cursor: &mut Cursor<'b, A>,
         typ: TtlvType,
-    ) -> reader::Step<Option<AttributeStructure<A>>, A> {
+    ) -> Step<Option<AttributeStructure<A>>, A> {
         <(
-            reader::Variant<
-                AttributeStructureRevocationReasonRule,
-                reader::StructureElement<RevocationReason<A>>,
-            >,
+            Variant<AttributeStructureRevocationReasonRule, AsElement<Of<RevocationReason<A>>>>,
             (
-                reader::Variant<AttributeStructureLinkRule, reader::StructureElement<Link<A>>>,
+                Variant<AttributeStructureLinkRule, AsElement<Of<Link<A>>>>,
                 (
-                    reader::Variant<
+                    Variant<
                         AttributeStructureApplicationSpecificInformationRule,
-                        reader::StructureElement<ApplicationSpecificInformation<A>>,
+                        AsElement<Of<ApplicationSpecificInformation<A>>>,
                     >,
                     (),
                 ),
             ),
-        ) as reader::VariantList<AttributeStructure<A>, A>>::read_chosen(scope, cursor, typ)
+        ) as VariantList<AttributeStructure<A>, A>>::read_chosen(scope, cursor, typ)
     }
 
     ghost ruled = { λ content. refl };
 }
 
-impl<A: Allocator> reader::ChoiceValue for AttributeStructure<A> {
+impl<A: Allocator + Copy> ChoiceValue for AttributeStructure<A> {
     ghost own = { codes "structure" };
 
-    ghost value = { read_attribute_structure };
+    ghost value = { ⟦<AttributeStructure<A> as Choice<A>>⟧.chosen.value };
 }
 
 impl<A: Allocator + Copy> reader::Choice<A> for AttributeStructure<A> {
-    ghost form = { attribute_structure_form };
+    ghost form = { ⟦<AttributeStructure<A> as Choice<A>>⟧.chosen.form };
 
     type Variants = (
-        reader::Variant<AttributeStructureNameRule, reader::StructureElement<Name<A>>>,
+        Variant<AttributeStructureNameRule, AsElement<Of<Name<A>>>>,
         (
-            reader::Variant<
+            Variant<
                 AttributeStructureCryptographicParametersRule,
-                reader::StructureElement<CryptographicParameters>,
+                AsElement<Of<CryptographicParameters>>,
             >,
             (
-                reader::Variant<
+                Variant<
                     AttributeStructureCryptographicDomainParametersRule,
-                    reader::StructureElement<CryptographicDomainParameters>,
+                    AsElement<Of<CryptographicDomainParameters>>,
                 >,
                 (
-                    reader::Variant<
+                    Variant<
                         AttributeStructureCertificateIdentifierRule,
-                        reader::StructureElement<CertificateIdentifier<A>>,
+                        AsElement<Of<CertificateIdentifier<A>>>,
                     >,
                     AttributeStructureLater4,
                 ),
@@ -892,21 +573,6 @@ impl<A: Allocator + Copy> reader::Choice<A> for AttributeStructure<A> {
     );
 
     fn has_form() {}
-}
-
-impl<A: Allocator + Copy> reader::ReadItem<A> for AttributeStructure<A> {
-    ghost form = { attribute_structure_form };
-
-    ghost value = { read_attribute_structure };
-
-    ghost plain = { (refl, refl) };
-
-    fn read_item<'b>(
-        scope: &reader::Scope<'b, A>,
-        cursor: &mut reader::Cursor<'b, A>,
-    ) -> reader::Step<Self, A> {
-        reader::read_choice(scope, cursor)
-    }
 }
 
 /// What an attribute says: by its name, or else by the type of its item.
@@ -922,51 +588,25 @@ pub enum AttributeValue<A: Allocator = Global> {
     /// Where an object is in its life.
     State(State),
     /// A number.
-    Integer(IntegerValue),
+    Integer(i32),
     /// A long number.
-    LongInteger(LongIntegerValue),
+    LongInteger(i64),
     /// A number of any length.
-    BigInteger(BigIntegerValue<A>),
+    BigInteger(BigNumber<A>),
     /// A vendor's Enumeration.
-    Enumeration(EnumerationValue),
+    Enumeration(u32),
     /// A truth value.
-    Boolean(BooleanValue),
+    Boolean(bool),
     /// A text.
-    TextString(TextStringValue<A>),
+    TextString(String<A>),
     /// Bytes.
-    ByteString(ByteStringValue<A>),
+    ByteString(Vec<u8, A>),
     /// A date.
-    DateTime(DateTimeValue),
+    DateTime(DateTime),
     /// A time in seconds.
-    Interval(IntervalValue),
+    Interval(Interval),
     /// A structure.
     Structure(AttributeStructure<A>),
-}
-
-impl<A: Allocator> AttributeValue<A> {
-    // Sends what it holds.
-    #[tactic(auto, unfolding(crate::specs::Attributes::attribute_value_content))]
-    pub(crate) fn send<V: Visitor>(&self, visitor: &mut V) -> Result<(), AllocError>
-        ensures received { OnOk result (Receives V.knows V.step (attribute_value_content self.now) visitor.old visitor.new) }
-        ensures stopped { OnErr result (V.stopped visitor.new) }
-    {
-        match self {
-            AttributeValue::ObjectType(inner) => inner.visit(visitor),
-            AttributeValue::CryptographicAlgorithm(inner) => inner.visit(visitor),
-            AttributeValue::CertificateType(inner) => inner.visit(visitor),
-            AttributeValue::State(inner) => inner.visit(visitor),
-            AttributeValue::Integer(inner) => inner.visit(visitor),
-            AttributeValue::LongInteger(inner) => inner.visit(visitor),
-            AttributeValue::BigInteger(inner) => inner.visit(visitor),
-            AttributeValue::Enumeration(inner) => inner.visit(visitor),
-            AttributeValue::Boolean(inner) => inner.visit(visitor),
-            AttributeValue::TextString(inner) => inner.visit(visitor),
-            AttributeValue::ByteString(inner) => inner.visit(visitor),
-            AttributeValue::DateTime(inner) => inner.visit(visitor),
-            AttributeValue::Interval(inner) => inner.visit(visitor),
-            AttributeValue::Structure(inner) => inner.send(visitor),
-        }
-    }
 }
 
 // The texts that choose a variant, whatever the type of its item is.
@@ -1009,21 +649,129 @@ impl<A: Allocator> AttributeValue<A> {
     }
 }
 
-impl<B: Allocator> Serialize for AttributeValue<B> {
-    ghost stated = { written_attribute_value };
+impl<A: Allocator + Copy> Choice<A> for AttributeValue<A> {
+    ghost chosen = { attribute_value_choice ⟦<AttributeValue<A> as PartialEq>⟧.eq record {
+      object_type = held ⟦<Under<ObjectType, 0x42000B> as Element<A>>⟧.rules refl refl (λ x y e. e);
+      cryptographic_algorithm = held ⟦<Under<CryptographicAlgorithm, 0x42000B> as Element<A>>⟧.rules refl refl (λ x y e. e);
+      certificate_type = held ⟦<Under<CertificateType, 0x42000B> as Element<A>>⟧.rules refl refl (λ x y e. e);
+      state = held ⟦<Under<State, 0x42000B> as Element<A>>⟧.rules refl refl (λ x y e. e);
+      integer = held ⟦<LeafItem<i32, 0x42000B> as Element<A>>⟧.rules refl refl (λ x y e. e);
+      long_integer = held ⟦<LeafItem<i64, 0x42000B> as Element<A>>⟧.rules refl refl (λ x y e. e);
+      big_integer = held ⟦<LeafItem<BigNumber<A>, 0x42000B> as Element<A>>⟧.rules refl refl (λ x y e. e);
+      enumeration = held ⟦<LeafItem<u32, 0x42000B> as Element<A>>⟧.rules refl refl (λ x y e. e);
+      boolean = held ⟦<LeafItem<bool, 0x42000B> as Element<A>>⟧.rules refl refl (λ x y e. e);
+      text_string = held ⟦<LeafItem<String<A>, 0x42000B> as Element<A>>⟧.rules refl refl (λ x y e. e);
+      byte_string = held ⟦<LeafItem<Vec<u8, A>, 0x42000B> as Element<A>>⟧.rules refl refl (λ x y e. e);
+      date_time = held ⟦<LeafItem<DateTime, 0x42000B> as Element<A>>⟧.rules refl refl (λ x y e. e);
+      interval = held ⟦<LeafItem<Interval, 0x42000B> as Element<A>>⟧.rules refl refl (λ x y e. e);
+      structure = held_choice ⟦<AttributeStructure<A> as Choice<A>>⟧.chosen refl (λ x. refl) (λ x said c. c) (λ x y e. e);
+    } };
 
-    #[tactic(auto, unfolding(crate::specs::Attributes::written_attribute_value))]
-    fn visit<V: Visitor>(&self, visitor: &mut V) -> Result<(), AllocError> {
-        writing::begin_newtype_variant(visitor, "Override:0x42000B", "Transparent")?;
-        self.send(visitor)?;
-        writing::end_newtype_variant(visitor, "Override:0x42000B", "Transparent")
+    fn read_chosen<'b>(scope: &Scope<'b, A>, cursor: &mut Cursor<'b, A>) -> Step<Self, A> {
+        reader::read_choice(scope, cursor)
     }
+
+    fn visit_chosen<V: Visitor>(&self, visitor: &mut V) -> Result<(), AllocError> {
+        match self {
+            AttributeValue::ObjectType(inner) => <Under<ObjectType, 0x42000B> as Element<
+                A,
+            >>::visit_one(inner, visitor),
+            AttributeValue::CryptographicAlgorithm(inner) => <Under<
+                CryptographicAlgorithm,
+                0x42000B,
+            > as Element<A>>::visit_one(inner, visitor),
+            AttributeValue::CertificateType(inner) => <Under<CertificateType, 0x42000B> as Element<
+                A,
+            >>::visit_one(inner, visitor),
+            AttributeValue::State(inner) => <Under<State, 0x42000B> as Element<A>>::visit_one(
+                inner, visitor,
+            ),
+            AttributeValue::Integer(inner) => <LeafItem<i32, 0x42000B> as Element<A>>::visit_one(
+                inner, visitor,
+            ),
+            AttributeValue::LongInteger(inner) => <LeafItem<i64, 0x42000B> as Element<
+                A,
+            >>::visit_one(inner, visitor),
+            AttributeValue::BigInteger(inner) => <LeafItem<BigNumber<A>, 0x42000B> as Element<
+                A,
+            >>::visit_one(inner, visitor),
+            AttributeValue::Enumeration(inner) => <LeafItem<u32, 0x42000B> as Element<
+                A,
+            >>::visit_one(inner, visitor),
+            AttributeValue::Boolean(inner) => <LeafItem<bool, 0x42000B> as Element<A>>::visit_one(
+                inner, visitor,
+            ),
+            AttributeValue::TextString(inner) => <LeafItem<String<A>, 0x42000B> as Element<
+                A,
+            >>::visit_one(inner, visitor),
+            AttributeValue::ByteString(inner) => <LeafItem<Vec<u8, A>, 0x42000B> as Element<
+                A,
+            >>::visit_one(inner, visitor),
+            AttributeValue::DateTime(inner) => <LeafItem<DateTime, 0x42000B> as Element<
+                A,
+            >>::visit_one(inner, visitor),
+            AttributeValue::Interval(inner) => <LeafItem<Interval, 0x42000B> as Element<
+                A,
+            >>::visit_one(inner, visitor),
+            AttributeValue::Structure(inner) => <AttributeStructure<A> as Choice<A>>::visit_chosen(
+                inner, visitor,
+            ),
+        }
+    }
+
+    fn is_whole(&self) -> bool {
+        match self {
+            AttributeValue::ObjectType(inner) => <Under<ObjectType, 0x42000B> as Element<
+                A,
+            >>::is_whole(inner),
+            AttributeValue::CryptographicAlgorithm(inner) => <Under<
+                CryptographicAlgorithm,
+                0x42000B,
+            > as Element<A>>::is_whole(inner),
+            AttributeValue::CertificateType(inner) => <Under<CertificateType, 0x42000B> as Element<
+                A,
+            >>::is_whole(inner),
+            AttributeValue::State(inner) => <Under<State, 0x42000B> as Element<A>>::is_whole(inner),
+            AttributeValue::Integer(inner) => <LeafItem<i32, 0x42000B> as Element<A>>::is_whole(
+                inner,
+            ),
+            AttributeValue::LongInteger(inner) => <LeafItem<i64, 0x42000B> as Element<A>>::is_whole(
+                inner,
+            ),
+            AttributeValue::BigInteger(inner) => <LeafItem<BigNumber<A>, 0x42000B> as Element<
+                A,
+            >>::is_whole(inner),
+            AttributeValue::Enumeration(inner) => <LeafItem<u32, 0x42000B> as Element<A>>::is_whole(
+                inner,
+            ),
+            AttributeValue::Boolean(inner) => <LeafItem<bool, 0x42000B> as Element<A>>::is_whole(
+                inner,
+            ),
+            AttributeValue::TextString(inner) => <LeafItem<String<A>, 0x42000B> as Element<
+                A,
+            >>::is_whole(inner),
+            AttributeValue::ByteString(inner) => <LeafItem<Vec<u8, A>, 0x42000B> as Element<
+                A,
+            >>::is_whole(inner),
+            AttributeValue::DateTime(inner) => <LeafItem<DateTime, 0x42000B> as Element<
+                A,
+            >>::is_whole(inner),
+            AttributeValue::Interval(inner) => <LeafItem<Interval, 0x42000B> as Element<
+                A,
+            >>::is_whole(inner),
+            AttributeValue::Structure(inner) => <AttributeStructure<A> as Choice<A>>::is_whole(
+                inner,
+            ),
+        }
+    }
+
+    ghost plain = { (refl, refl) };
 }
 
 /// The rule that chooses `AttributeValue::ObjectType`.
 pub struct AttributeValueObjectTypeRule;
 
-impl reader::Rule for AttributeValueObjectTypeRule {
+impl Rule for AttributeValueObjectTypeRule {
     ghost condition = { codes "0x42000A==Object Type" };
 
     fn name() -> &'static str {
@@ -1031,17 +779,17 @@ impl reader::Rule for AttributeValueObjectTypeRule {
     }
 
     #[tactic(auto, unfolding(kmip_ttlv_reader::specs::RuleParts::parts_of))]
-    fn parts() -> Option<reader::RuleParts> {
-        Some(reader::RuleParts::Texts {
+    fn parts() -> Option<RuleParts> {
+        Some(RuleParts::Texts {
             tag: 0x42000A,
             texts: &["Object Type"],
         })
     }
 }
 
-impl<A: Allocator + Copy> reader::VariantOf<reader::ItemElement<ObjectType>, AttributeValue<A>, A>
+impl<A: Allocator + Copy> VariantOf<AsElement<Under<ObjectType, 0x42000B>>, AttributeValue<A>, A>
     for AttributeValueObjectTypeRule {
-    #[tactic(auto, unfolding(crate::specs::Attributes::read_attribute_value))]
+    #[tactic(auto, unfolding(crate::specs::Choices::attribute_value_by))]
     fn from_content(inner: ObjectType) -> AttributeValue<A> {
         AttributeValue::ObjectType(inner)
     }
@@ -1050,7 +798,7 @@ impl<A: Allocator + Copy> reader::VariantOf<reader::ItemElement<ObjectType>, Att
 /// The rule that chooses `AttributeValue::CryptographicAlgorithm`.
 pub struct AttributeValueCryptographicAlgorithmRule;
 
-impl reader::Rule for AttributeValueCryptographicAlgorithmRule {
+impl Rule for AttributeValueCryptographicAlgorithmRule {
     ghost condition = { codes "0x42000A==Cryptographic Algorithm" };
 
     fn name() -> &'static str {
@@ -1058,20 +806,20 @@ impl reader::Rule for AttributeValueCryptographicAlgorithmRule {
     }
 
     #[tactic(auto, unfolding(kmip_ttlv_reader::specs::RuleParts::parts_of))]
-    fn parts() -> Option<reader::RuleParts> {
-        Some(reader::RuleParts::Texts {
+    fn parts() -> Option<RuleParts> {
+        Some(RuleParts::Texts {
             tag: 0x42000A,
             texts: &["Cryptographic Algorithm"],
         })
     }
 }
 
-impl<A: Allocator + Copy> reader::VariantOf<
-    reader::ItemElement<CryptographicAlgorithm>,
+impl<A: Allocator + Copy> VariantOf<
+    AsElement<Under<CryptographicAlgorithm, 0x42000B>>,
     AttributeValue<A>,
     A,
 > for AttributeValueCryptographicAlgorithmRule {
-    #[tactic(auto, unfolding(crate::specs::Attributes::read_attribute_value))]
+    #[tactic(auto, unfolding(crate::specs::Choices::attribute_value_by))]
     fn from_content(inner: CryptographicAlgorithm) -> AttributeValue<A> {
         AttributeValue::CryptographicAlgorithm(inner)
     }
@@ -1080,7 +828,7 @@ impl<A: Allocator + Copy> reader::VariantOf<
 /// The rule that chooses `AttributeValue::CertificateType`.
 pub struct AttributeValueCertificateTypeRule;
 
-impl reader::Rule for AttributeValueCertificateTypeRule {
+impl Rule for AttributeValueCertificateTypeRule {
     ghost condition = { codes "0x42000A==Certificate Type" };
 
     fn name() -> &'static str {
@@ -1088,20 +836,20 @@ impl reader::Rule for AttributeValueCertificateTypeRule {
     }
 
     #[tactic(auto, unfolding(kmip_ttlv_reader::specs::RuleParts::parts_of))]
-    fn parts() -> Option<reader::RuleParts> {
-        Some(reader::RuleParts::Texts {
+    fn parts() -> Option<RuleParts> {
+        Some(RuleParts::Texts {
             tag: 0x42000A,
             texts: &["Certificate Type"],
         })
     }
 }
 
-impl<A: Allocator + Copy> reader::VariantOf<
-    reader::ItemElement<CertificateType>,
+impl<A: Allocator + Copy> VariantOf<
+    AsElement<Under<CertificateType, 0x42000B>>,
     AttributeValue<A>,
     A,
 > for AttributeValueCertificateTypeRule {
-    #[tactic(auto, unfolding(crate::specs::Attributes::read_attribute_value))]
+    #[tactic(auto, unfolding(crate::specs::Choices::attribute_value_by))]
     fn from_content(inner: CertificateType) -> AttributeValue<A> {
         AttributeValue::CertificateType(inner)
     }
@@ -1110,7 +858,7 @@ impl<A: Allocator + Copy> reader::VariantOf<
 /// The rule that chooses `AttributeValue::State`.
 pub struct AttributeValueStateRule;
 
-impl reader::Rule for AttributeValueStateRule {
+impl Rule for AttributeValueStateRule {
     ghost condition = { codes "0x42000A==State" };
 
     fn name() -> &'static str {
@@ -1118,17 +866,17 @@ impl reader::Rule for AttributeValueStateRule {
     }
 
     #[tactic(auto, unfolding(kmip_ttlv_reader::specs::RuleParts::parts_of))]
-    fn parts() -> Option<reader::RuleParts> {
-        Some(reader::RuleParts::Texts {
+    fn parts() -> Option<RuleParts> {
+        Some(RuleParts::Texts {
             tag: 0x42000A,
             texts: &["State"],
         })
     }
 }
 
-impl<A: Allocator + Copy> reader::VariantOf<reader::ItemElement<State>, AttributeValue<A>, A>
+impl<A: Allocator + Copy> VariantOf<AsElement<Under<State, 0x42000B>>, AttributeValue<A>, A>
     for AttributeValueStateRule {
-    #[tactic(auto, unfolding(crate::specs::Attributes::read_attribute_value))]
+    #[tactic(auto, unfolding(crate::specs::Choices::attribute_value_by))]
     fn from_content(inner: State) -> AttributeValue<A> {
         AttributeValue::State(inner)
     }
@@ -1137,7 +885,7 @@ impl<A: Allocator + Copy> reader::VariantOf<reader::ItemElement<State>, Attribut
 /// The rule that chooses `AttributeValue::Integer`.
 pub struct AttributeValueIntegerRule;
 
-impl reader::Rule for AttributeValueIntegerRule {
+impl Rule for AttributeValueIntegerRule {
     ghost condition = { codes "type==Integer" };
 
     fn name() -> &'static str {
@@ -1145,15 +893,15 @@ impl reader::Rule for AttributeValueIntegerRule {
     }
 
     #[tactic(auto, unfolding(kmip_ttlv_reader::specs::RuleParts::equal_sides))]
-    fn parts() -> Option<reader::RuleParts> {
-        Some(reader::RuleParts::Type(TtlvType::Integer))
+    fn parts() -> Option<RuleParts> {
+        Some(RuleParts::Type(TtlvType::Integer))
     }
 }
 
-impl<A: Allocator + Copy> reader::VariantOf<reader::ItemElement<IntegerValue>, AttributeValue<A>, A>
+impl<A: Allocator + Copy> VariantOf<AsElement<LeafItem<i32, 0x42000B>>, AttributeValue<A>, A>
     for AttributeValueIntegerRule {
-    #[tactic(auto, unfolding(crate::specs::Attributes::read_attribute_value))]
-    fn from_content(inner: IntegerValue) -> AttributeValue<A> {
+    #[tactic(auto, unfolding(crate::specs::Choices::attribute_value_by))]
+    fn from_content(inner: i32) -> AttributeValue<A> {
         AttributeValue::Integer(inner)
     }
 }
@@ -1161,7 +909,7 @@ impl<A: Allocator + Copy> reader::VariantOf<reader::ItemElement<IntegerValue>, A
 /// The rule that chooses `AttributeValue::LongInteger`.
 pub struct AttributeValueLongIntegerRule;
 
-impl reader::Rule for AttributeValueLongIntegerRule {
+impl Rule for AttributeValueLongIntegerRule {
     ghost condition = { codes "type==LongInteger" };
 
     fn name() -> &'static str {
@@ -1169,18 +917,15 @@ impl reader::Rule for AttributeValueLongIntegerRule {
     }
 
     #[tactic(auto, unfolding(kmip_ttlv_reader::specs::RuleParts::equal_sides))]
-    fn parts() -> Option<reader::RuleParts> {
-        Some(reader::RuleParts::Type(TtlvType::LongInteger))
+    fn parts() -> Option<RuleParts> {
+        Some(RuleParts::Type(TtlvType::LongInteger))
     }
 }
 
-impl<A: Allocator + Copy> reader::VariantOf<
-    reader::ItemElement<LongIntegerValue>,
-    AttributeValue<A>,
-    A,
-> for AttributeValueLongIntegerRule {
-    #[tactic(auto, unfolding(crate::specs::Attributes::read_attribute_value))]
-    fn from_content(inner: LongIntegerValue) -> AttributeValue<A> {
+impl<A: Allocator + Copy> VariantOf<AsElement<LeafItem<i64, 0x42000B>>, AttributeValue<A>, A>
+    for AttributeValueLongIntegerRule {
+    #[tactic(auto, unfolding(crate::specs::Choices::attribute_value_by))]
+    fn from_content(inner: i64) -> AttributeValue<A> {
         AttributeValue::LongInteger(inner)
     }
 }
@@ -1188,7 +933,7 @@ impl<A: Allocator + Copy> reader::VariantOf<
 /// The rule that chooses `AttributeValue::BigInteger`.
 pub struct AttributeValueBigIntegerRule;
 
-impl reader::Rule for AttributeValueBigIntegerRule {
+impl Rule for AttributeValueBigIntegerRule {
     ghost condition = { codes "type==BigInteger" };
 
     fn name() -> &'static str {
@@ -1196,18 +941,18 @@ impl reader::Rule for AttributeValueBigIntegerRule {
     }
 
     #[tactic(auto, unfolding(kmip_ttlv_reader::specs::RuleParts::equal_sides))]
-    fn parts() -> Option<reader::RuleParts> {
-        Some(reader::RuleParts::Type(TtlvType::BigInteger))
+    fn parts() -> Option<RuleParts> {
+        Some(RuleParts::Type(TtlvType::BigInteger))
     }
 }
 
-impl<A: Allocator + Copy> reader::VariantOf<
-    reader::ItemElement<BigIntegerValue<A>>,
+impl<A: Allocator + Copy> VariantOf<
+    AsElement<LeafItem<BigNumber<A>, 0x42000B>>,
     AttributeValue<A>,
     A,
 > for AttributeValueBigIntegerRule {
-    #[tactic(auto, unfolding(crate::specs::Attributes::read_attribute_value))]
-    fn from_content(inner: BigIntegerValue<A>) -> AttributeValue<A> {
+    #[tactic(auto, unfolding(crate::specs::Choices::attribute_value_by))]
+    fn from_content(inner: BigNumber<A>) -> AttributeValue<A> {
         AttributeValue::BigInteger(inner)
     }
 }
@@ -1215,7 +960,7 @@ impl<A: Allocator + Copy> reader::VariantOf<
 /// The rule that chooses `AttributeValue::Enumeration`.
 pub struct AttributeValueEnumerationRule;
 
-impl reader::Rule for AttributeValueEnumerationRule {
+impl Rule for AttributeValueEnumerationRule {
     ghost condition = { codes "type==Enumeration" };
 
     fn name() -> &'static str {
@@ -1223,18 +968,15 @@ impl reader::Rule for AttributeValueEnumerationRule {
     }
 
     #[tactic(auto, unfolding(kmip_ttlv_reader::specs::RuleParts::equal_sides))]
-    fn parts() -> Option<reader::RuleParts> {
-        Some(reader::RuleParts::Type(TtlvType::Enumeration))
+    fn parts() -> Option<RuleParts> {
+        Some(RuleParts::Type(TtlvType::Enumeration))
     }
 }
 
-impl<A: Allocator + Copy> reader::VariantOf<
-    reader::ItemElement<EnumerationValue>,
-    AttributeValue<A>,
-    A,
-> for AttributeValueEnumerationRule {
-    #[tactic(auto, unfolding(crate::specs::Attributes::read_attribute_value))]
-    fn from_content(inner: EnumerationValue) -> AttributeValue<A> {
+impl<A: Allocator + Copy> VariantOf<AsElement<LeafItem<u32, 0x42000B>>, AttributeValue<A>, A>
+    for AttributeValueEnumerationRule {
+    #[tactic(auto, unfolding(crate::specs::Choices::attribute_value_by))]
+    fn from_content(inner: u32) -> AttributeValue<A> {
         AttributeValue::Enumeration(inner)
     }
 }
@@ -1242,7 +984,7 @@ impl<A: Allocator + Copy> reader::VariantOf<
 /// The rule that chooses `AttributeValue::Boolean`.
 pub struct AttributeValueBooleanRule;
 
-impl reader::Rule for AttributeValueBooleanRule {
+impl Rule for AttributeValueBooleanRule {
     ghost condition = { codes "type==Boolean" };
 
     fn name() -> &'static str {
@@ -1250,15 +992,15 @@ impl reader::Rule for AttributeValueBooleanRule {
     }
 
     #[tactic(auto, unfolding(kmip_ttlv_reader::specs::RuleParts::equal_sides))]
-    fn parts() -> Option<reader::RuleParts> {
-        Some(reader::RuleParts::Type(TtlvType::Boolean))
+    fn parts() -> Option<RuleParts> {
+        Some(RuleParts::Type(TtlvType::Boolean))
     }
 }
 
-impl<A: Allocator + Copy> reader::VariantOf<reader::ItemElement<BooleanValue>, AttributeValue<A>, A>
+impl<A: Allocator + Copy> VariantOf<AsElement<LeafItem<bool, 0x42000B>>, AttributeValue<A>, A>
     for AttributeValueBooleanRule {
-    #[tactic(auto, unfolding(crate::specs::Attributes::read_attribute_value))]
-    fn from_content(inner: BooleanValue) -> AttributeValue<A> {
+    #[tactic(auto, unfolding(crate::specs::Choices::attribute_value_by))]
+    fn from_content(inner: bool) -> AttributeValue<A> {
         AttributeValue::Boolean(inner)
     }
 }
@@ -1266,7 +1008,7 @@ impl<A: Allocator + Copy> reader::VariantOf<reader::ItemElement<BooleanValue>, A
 /// The rule that chooses `AttributeValue::TextString`.
 pub struct AttributeValueTextStringRule;
 
-impl reader::Rule for AttributeValueTextStringRule {
+impl Rule for AttributeValueTextStringRule {
     ghost condition = { codes "type==TextString" };
 
     fn name() -> &'static str {
@@ -1274,18 +1016,15 @@ impl reader::Rule for AttributeValueTextStringRule {
     }
 
     #[tactic(auto, unfolding(kmip_ttlv_reader::specs::RuleParts::equal_sides))]
-    fn parts() -> Option<reader::RuleParts> {
-        Some(reader::RuleParts::Type(TtlvType::TextString))
+    fn parts() -> Option<RuleParts> {
+        Some(RuleParts::Type(TtlvType::TextString))
     }
 }
 
-impl<A: Allocator + Copy> reader::VariantOf<
-    reader::ItemElement<TextStringValue<A>>,
-    AttributeValue<A>,
-    A,
-> for AttributeValueTextStringRule {
-    #[tactic(auto, unfolding(crate::specs::Attributes::read_attribute_value))]
-    fn from_content(inner: TextStringValue<A>) -> AttributeValue<A> {
+impl<A: Allocator + Copy> VariantOf<AsElement<LeafItem<String<A>, 0x42000B>>, AttributeValue<A>, A>
+    for AttributeValueTextStringRule {
+    #[tactic(auto, unfolding(crate::specs::Choices::attribute_value_by))]
+    fn from_content(inner: String<A>) -> AttributeValue<A> {
         AttributeValue::TextString(inner)
     }
 }
@@ -1293,7 +1032,7 @@ impl<A: Allocator + Copy> reader::VariantOf<
 /// The rule that chooses `AttributeValue::ByteString`.
 pub struct AttributeValueByteStringRule;
 
-impl reader::Rule for AttributeValueByteStringRule {
+impl Rule for AttributeValueByteStringRule {
     ghost condition = { codes "type==ByteString" };
 
     fn name() -> &'static str {
@@ -1301,18 +1040,15 @@ impl reader::Rule for AttributeValueByteStringRule {
     }
 
     #[tactic(auto, unfolding(kmip_ttlv_reader::specs::RuleParts::equal_sides))]
-    fn parts() -> Option<reader::RuleParts> {
-        Some(reader::RuleParts::Type(TtlvType::ByteString))
+    fn parts() -> Option<RuleParts> {
+        Some(RuleParts::Type(TtlvType::ByteString))
     }
 }
 
-impl<A: Allocator + Copy> reader::VariantOf<
-    reader::ItemElement<ByteStringValue<A>>,
-    AttributeValue<A>,
-    A,
-> for AttributeValueByteStringRule {
-    #[tactic(auto, unfolding(crate::specs::Attributes::read_attribute_value))]
-    fn from_content(inner: ByteStringValue<A>) -> AttributeValue<A> {
+impl<A: Allocator + Copy> VariantOf<AsElement<LeafItem<Vec<u8, A>, 0x42000B>>, AttributeValue<A>, A>
+    for AttributeValueByteStringRule {
+    #[tactic(auto, unfolding(crate::specs::Choices::attribute_value_by))]
+    fn from_content(inner: Vec<u8, A>) -> AttributeValue<A> {
         AttributeValue::ByteString(inner)
     }
 }
@@ -1320,7 +1056,7 @@ impl<A: Allocator + Copy> reader::VariantOf<
 /// The rule that chooses `AttributeValue::DateTime`.
 pub struct AttributeValueDateTimeRule;
 
-impl reader::Rule for AttributeValueDateTimeRule {
+impl Rule for AttributeValueDateTimeRule {
     ghost condition = { codes "type==DateTime" };
 
     fn name() -> &'static str {
@@ -1328,18 +1064,15 @@ impl reader::Rule for AttributeValueDateTimeRule {
     }
 
     #[tactic(auto, unfolding(kmip_ttlv_reader::specs::RuleParts::equal_sides))]
-    fn parts() -> Option<reader::RuleParts> {
-        Some(reader::RuleParts::Type(TtlvType::DateTime))
+    fn parts() -> Option<RuleParts> {
+        Some(RuleParts::Type(TtlvType::DateTime))
     }
 }
 
-impl<A: Allocator + Copy> reader::VariantOf<
-    reader::ItemElement<DateTimeValue>,
-    AttributeValue<A>,
-    A,
-> for AttributeValueDateTimeRule {
-    #[tactic(auto, unfolding(crate::specs::Attributes::read_attribute_value))]
-    fn from_content(inner: DateTimeValue) -> AttributeValue<A> {
+impl<A: Allocator + Copy> VariantOf<AsElement<LeafItem<DateTime, 0x42000B>>, AttributeValue<A>, A>
+    for AttributeValueDateTimeRule {
+    #[tactic(auto, unfolding(crate::specs::Choices::attribute_value_by))]
+    fn from_content(inner: DateTime) -> AttributeValue<A> {
         AttributeValue::DateTime(inner)
     }
 }
@@ -1347,7 +1080,7 @@ impl<A: Allocator + Copy> reader::VariantOf<
 /// The rule that chooses `AttributeValue::Interval`.
 pub struct AttributeValueIntervalRule;
 
-impl reader::Rule for AttributeValueIntervalRule {
+impl Rule for AttributeValueIntervalRule {
     ghost condition = { codes "type==Interval" };
 
     fn name() -> &'static str {
@@ -1355,18 +1088,15 @@ impl reader::Rule for AttributeValueIntervalRule {
     }
 
     #[tactic(auto, unfolding(kmip_ttlv_reader::specs::RuleParts::equal_sides))]
-    fn parts() -> Option<reader::RuleParts> {
-        Some(reader::RuleParts::Type(TtlvType::Interval))
+    fn parts() -> Option<RuleParts> {
+        Some(RuleParts::Type(TtlvType::Interval))
     }
 }
 
-impl<A: Allocator + Copy> reader::VariantOf<
-    reader::ItemElement<IntervalValue>,
-    AttributeValue<A>,
-    A,
-> for AttributeValueIntervalRule {
-    #[tactic(auto, unfolding(crate::specs::Attributes::read_attribute_value))]
-    fn from_content(inner: IntervalValue) -> AttributeValue<A> {
+impl<A: Allocator + Copy> VariantOf<AsElement<LeafItem<Interval, 0x42000B>>, AttributeValue<A>, A>
+    for AttributeValueIntervalRule {
+    #[tactic(auto, unfolding(crate::specs::Choices::attribute_value_by))]
+    fn from_content(inner: Interval) -> AttributeValue<A> {
         AttributeValue::Interval(inner)
     }
 }
@@ -1374,7 +1104,7 @@ impl<A: Allocator + Copy> reader::VariantOf<
 /// The rule that chooses `AttributeValue::Structure`.
 pub struct AttributeValueStructureRule;
 
-impl reader::Rule for AttributeValueStructureRule {
+impl Rule for AttributeValueStructureRule {
     ghost condition = { codes "type==Structure" };
 
     fn name() -> &'static str {
@@ -1382,17 +1112,14 @@ impl reader::Rule for AttributeValueStructureRule {
     }
 
     #[tactic(auto, unfolding(kmip_ttlv_reader::specs::RuleParts::equal_sides))]
-    fn parts() -> Option<reader::RuleParts> {
-        Some(reader::RuleParts::Type(TtlvType::Structure))
+    fn parts() -> Option<RuleParts> {
+        Some(RuleParts::Type(TtlvType::Structure))
     }
 }
 
-impl<A: Allocator + Copy> reader::VariantOf<
-    reader::ItemElement<AttributeStructure<A>>,
-    AttributeValue<A>,
-    A,
-> for AttributeValueStructureRule {
-    #[tactic(auto, unfolding(crate::specs::Attributes::read_attribute_value))]
+impl<A: Allocator + Copy> VariantOf<ChoiceElement<AttributeStructure<A>>, AttributeValue<A>, A>
+    for AttributeValueStructureRule {
+    #[tactic(auto, unfolding(crate::specs::Choices::attribute_value_by))]
     fn from_content(inner: AttributeStructure<A>) -> AttributeValue<A> {
         AttributeValue::Structure(inner)
     }
@@ -1401,36 +1128,30 @@ impl<A: Allocator + Copy> reader::VariantOf<
 /// The variants of `AttributeValue` from `Integer` on.
 pub struct AttributeValueLater4;
 
-impl<A: Allocator + Copy> reader::VariantList<AttributeValue<A>, A> for AttributeValueLater4 {
-    ghost variants = { attribute_value_variants_4 };
+impl<A: Allocator + Copy> VariantList<AttributeValue<A>, A> for AttributeValueLater4 {
+    ghost variants = { ⟦<(Variant<AttributeValueIntegerRule, AsElement<LeafItem<i32, 0x42000B>>>, (Variant<AttributeValueLongIntegerRule, AsElement<LeafItem<i64, 0x42000B>>>, (Variant<AttributeValueBigIntegerRule, AsElement<LeafItem<BigNumber<A>, 0x42000B>>>, (Variant<AttributeValueEnumerationRule, AsElement<LeafItem<u32, 0x42000B>>>, AttributeValueLater8)))) as VariantList<AttributeValue<A>, A>>⟧.variants };
 
     fn read_chosen<'b>(
-        scope: &reader::Scope<'b, A>,
-        cursor: &mut reader::Cursor<'b, A>,
+        scope: &Scope<'b, A>,
+        cursor: &mut Cursor<'b, A>,
         typ: TtlvType,
-    ) -> reader::Step<Option<AttributeValue<A>>, A> {
+    ) -> Step<Option<AttributeValue<A>>, A> {
         <(
-            reader::Variant<AttributeValueIntegerRule, reader::ItemElement<IntegerValue>>,
+            Variant<AttributeValueIntegerRule, AsElement<LeafItem<i32, 0x42000B>>>,
             (
-                reader::Variant<
-                    AttributeValueLongIntegerRule,
-                    reader::ItemElement<LongIntegerValue>,
-                >,
+                Variant<AttributeValueLongIntegerRule, AsElement<LeafItem<i64, 0x42000B>>>,
                 (
-                    reader::Variant<
+                    Variant<
                         AttributeValueBigIntegerRule,
-                        reader::ItemElement<BigIntegerValue<A>>,
+                        AsElement<LeafItem<BigNumber<A>, 0x42000B>>,
                     >,
                     (
-                        reader::Variant<
-                            AttributeValueEnumerationRule,
-                            reader::ItemElement<EnumerationValue>,
-                        >,
+                        Variant<AttributeValueEnumerationRule, AsElement<LeafItem<u32, 0x42000B>>>,
                         AttributeValueLater8,
                     ),
                 ),
             ),
-        ) as reader::VariantList<AttributeValue<A>, A>>::read_chosen(scope, cursor, typ)
+        ) as VariantList<AttributeValue<A>, A>>::read_chosen(scope, cursor, typ)
     }
 
     ghost ruled = { λ content. refl };
@@ -1439,36 +1160,33 @@ impl<A: Allocator + Copy> reader::VariantList<AttributeValue<A>, A> for Attribut
 /// The variants of `AttributeValue` from `Boolean` on.
 pub struct AttributeValueLater8;
 
-impl<A: Allocator + Copy> reader::VariantList<AttributeValue<A>, A> for AttributeValueLater8 {
-    ghost variants = { attribute_value_variants_8 };
+impl<A: Allocator + Copy> VariantList<AttributeValue<A>, A> for AttributeValueLater8 {
+    ghost variants = { ⟦<(Variant<AttributeValueBooleanRule, AsElement<LeafItem<bool, 0x42000B>>>, (Variant<AttributeValueTextStringRule, AsElement<LeafItem<String<A>, 0x42000B>>>, (Variant<AttributeValueByteStringRule, AsElement<LeafItem<Vec<u8, A>, 0x42000B>>>, (Variant<AttributeValueDateTimeRule, AsElement<LeafItem<DateTime, 0x42000B>>>, AttributeValueLater12)))) as VariantList<AttributeValue<A>, A>>⟧.variants };
 
     fn read_chosen<'b>(
-        scope: &reader::Scope<'b, A>,
-        cursor: &mut reader::Cursor<'b, A>,
+        scope: &Scope<'b, A>,
+        cursor: &mut Cursor<'b, A>,
         typ: TtlvType,
-    ) -> reader::Step<Option<AttributeValue<A>>, A> {
+    ) -> Step<Option<AttributeValue<A>>, A> {
         <(
-            reader::Variant<AttributeValueBooleanRule, reader::ItemElement<BooleanValue>>,
+            Variant<AttributeValueBooleanRule, AsElement<LeafItem<bool, 0x42000B>>>,
             (
-                reader::Variant<
-                    AttributeValueTextStringRule,
-                    reader::ItemElement<TextStringValue<A>>,
-                >,
+                Variant<AttributeValueTextStringRule, AsElement<LeafItem<String<A>, 0x42000B>>>,
                 (
-                    reader::Variant<
+                    Variant<
                         AttributeValueByteStringRule,
-                        reader::ItemElement<ByteStringValue<A>>,
+                        AsElement<LeafItem<Vec<u8, A>, 0x42000B>>,
                     >,
                     (
-                        reader::Variant<
+                        Variant<
                             AttributeValueDateTimeRule,
-                            reader::ItemElement<DateTimeValue>,
+                            AsElement<LeafItem<DateTime, 0x42000B>>,
                         >,
                         AttributeValueLater12,
                     ),
                 ),
             ),
-        ) as reader::VariantList<AttributeValue<A>, A>>::read_chosen(scope, cursor, typ)
+        ) as VariantList<AttributeValue<A>, A>>::read_chosen(scope, cursor, typ)
     }
 
     ghost ruled = { λ content. refl };
@@ -1477,52 +1195,49 @@ impl<A: Allocator + Copy> reader::VariantList<AttributeValue<A>, A> for Attribut
 /// The variants of `AttributeValue` from `Interval` on.
 pub struct AttributeValueLater12;
 
-impl<A: Allocator + Copy> reader::VariantList<AttributeValue<A>, A> for AttributeValueLater12 {
-    ghost variants = { attribute_value_variants_12 };
+impl<A: Allocator + Copy> VariantList<AttributeValue<A>, A> for AttributeValueLater12 {
+    ghost variants = { ⟦<(Variant<AttributeValueIntervalRule, AsElement<LeafItem<Interval, 0x42000B>>>, (Variant<AttributeValueStructureRule, ChoiceElement<AttributeStructure<A>>>, ())) as VariantList<AttributeValue<A>, A>>⟧.variants };
 
     fn read_chosen<'b>(
-        scope: &reader::Scope<'b, A>,
-        cursor: &mut reader::Cursor<'b, A>,
+        scope: &Scope<'b, A>,
+        cursor: &mut Cursor<'b, A>,
         typ: TtlvType,
-    ) -> reader::Step<Option<AttributeValue<A>>, A> {
+    ) -> Step<Option<AttributeValue<A>>, A> {
         <(
-            reader::Variant<AttributeValueIntervalRule, reader::ItemElement<IntervalValue>>,
+            Variant<AttributeValueIntervalRule, AsElement<LeafItem<Interval, 0x42000B>>>,
             (
-                reader::Variant<
-                    AttributeValueStructureRule,
-                    reader::ItemElement<AttributeStructure<A>>,
-                >,
+                Variant<AttributeValueStructureRule, ChoiceElement<AttributeStructure<A>>>,
                 (),
             ),
-        ) as reader::VariantList<AttributeValue<A>, A>>::read_chosen(scope, cursor, typ)
+        ) as VariantList<AttributeValue<A>, A>>::read_chosen(scope, cursor, typ)
     }
 
     ghost ruled = { λ content. refl };
 }
 
-impl<A: Allocator> reader::ChoiceValue for AttributeValue<A> {
+impl<A: Allocator + Copy> ChoiceValue for AttributeValue<A> {
     ghost own = { codes "value" };
 
-    ghost value = { read_attribute_value };
+    ghost value = { ⟦<AttributeValue<A> as Choice<A>>⟧.chosen.value };
 }
 
 impl<A: Allocator + Copy> reader::Choice<A> for AttributeValue<A> {
-    ghost form = { attribute_value_form };
+    ghost form = { ⟦<AttributeValue<A> as Choice<A>>⟧.chosen.form };
 
     type Variants = (
-        reader::Variant<AttributeValueObjectTypeRule, reader::ItemElement<ObjectType>>,
+        Variant<AttributeValueObjectTypeRule, AsElement<Under<ObjectType, 0x42000B>>>,
         (
-            reader::Variant<
+            Variant<
                 AttributeValueCryptographicAlgorithmRule,
-                reader::ItemElement<CryptographicAlgorithm>,
+                AsElement<Under<CryptographicAlgorithm, 0x42000B>>,
             >,
             (
-                reader::Variant<
+                Variant<
                     AttributeValueCertificateTypeRule,
-                    reader::ItemElement<CertificateType>,
+                    AsElement<Under<CertificateType, 0x42000B>>,
                 >,
                 (
-                    reader::Variant<AttributeValueStateRule, reader::ItemElement<State>>,
+                    Variant<AttributeValueStateRule, AsElement<Under<State, 0x42000B>>>,
                     AttributeValueLater4,
                 ),
             ),
@@ -1532,21 +1247,6 @@ impl<A: Allocator + Copy> reader::Choice<A> for AttributeValue<A> {
     fn has_form() {}
 }
 
-impl<A: Allocator + Copy> reader::ReadItem<A> for AttributeValue<A> {
-    ghost form = { attribute_value_form };
-
-    ghost value = { read_attribute_value };
-
-    ghost plain = { (refl, refl) };
-
-    fn read_item<'b>(
-        scope: &reader::Scope<'b, A>,
-        cursor: &mut reader::Cursor<'b, A>,
-    ) -> reader::Step<Self, A> {
-        reader::read_choice(scope, cursor)
-    }
-}
-
 /// What is known of an object.
 #[derive(Drop)]
 #[derive_where(PartialEq)]
@@ -1554,67 +1254,65 @@ pub struct Attribute<A: Allocator = Global> {
     /// Its name.
     pub name: String<A>,
     /// Which of this name; the first, if it is absent.
-    pub index: Option<AttributeIndex>,
+    pub index: Option<i32>,
     /// What it says.
     pub value: AttributeValue<A>,
 }
 
-impl<B: Allocator> Serialize for Attribute<B> {
-    ghost stated = { written_attribute };
-
-    fn visit<V: Visitor>(&self, visitor: &mut V) -> Result<(), AllocError> {
-        writing::begin_structure(visitor, 0x420008)?;
-        writing::string(visitor, 0x42000A, &self.name)?;
-        writing::option(visitor, &self.index)?;
-        self.value.visit(visitor)?;
-        writing::end_structure(visitor, 0x420008)?;
-        Ok(())
+impl<A: Allocator> Attribute<A> {
+    // Whether `name` chooses `value`.
+    fn is_value_chosen(&self) -> bool
+        ensures { IsTrue result ↔ ChoosesAttributeValue (string_bytes self.now.name) self.now.value }
+    {
+        self.value.is_chosen_by(self.name.as_str())
     }
 }
 
-impl<A: Allocator + Copy> reader::ReadStructure<A> for Attribute<A> {
-    ghost form = { attribute_form };
+type AttributeParts<A> = (
+    Leaf<String<A>, 0x42000A>,
+    MaybeLeaf<i32, 0x420009>,
+    OneOf<AttributeValue<A>, 0x42000B>,
+);
 
-    ghost value = { read_attribute };
+impl<A: Allocator + Copy> Structure<A> for Attribute<A> {
+    ghost item = { structure_where 0x420008 true (of (λ x. (x.name, x.index, x.value)) ⟦<AttributeParts<A> as PartList<A>>⟧.rules) refl
+        (λ x. ChoosesAttributeValue (string_bytes x.name) x.value) (λ x d. (tt, (tt, (d))))
+        ⟦<Attribute<A> as PartialEq>⟧.eq (λ x y e. e) };
 
-    ghost TAG = { 0x420008 };
-
-    ghost DENIES_UNKNOWN = { true };
-
-    type Fields = (
-        reader::Leaf<String<A>, 0x42000A>,
-        reader::OptionalItem<AttributeIndex, 0x420009>,
-        reader::Item<AttributeValue<A>, 0x42000B>,
-    );
-
-    const TAG: u32 = 0x420008;
-
-    const DENIES_UNKNOWN: bool = true;
-
-    fn has_form() {}
-
-    #[tactic(auto, unfolding(crate::specs::Attributes::read_attribute))]
-    fn from_fields(fields: (String<A>, Option<AttributeIndex>, AttributeValue<A>)) -> Self {
-        let (name, index, value) = fields;
-        Attribute { name, index, value }
+    fn number() -> u32 {
+        0x420008
     }
-}
 
-impl<A: Allocator + Copy> reader::ReadNested<A> for Attribute<A> {
-    ghost form = { attribute_form };
+    fn read_nested<'b>(scope: &Scope<'b, A>, cursor: &mut Cursor<'b, A>) -> Step<Self, A> {
+        match read_parts::<AttributeParts<A>, A>(scope, 0x420008, true, cursor) {
+            Ok(parts) => {
+                let (name, index, value) = parts;
+                Ok(Attribute { name, index, value })
+            }
+            Err(failure) => Err(failure),
+        }
+    }
 
-    ghost value = { read_attribute };
+    fn visit_parts<V: Visitor>(&self, visitor: &mut V) -> Result<(), AllocError> {
+        visit_structure_three::<
+            Leaf<String<A>, 0x42000A>,
+            MaybeLeaf<i32, 0x420009>,
+            OneOf<AttributeValue<A>, 0x42000B>,
+            V,
+            A,
+        >(visitor, 0x420008, &self.name, &self.index, &self.value)
+    }
 
-    ghost TAG = { 0x420008 };
+    fn is_whole(&self) -> bool {
+        let parts = are_whole_three::<
+            Leaf<String<A>, 0x42000A>,
+            MaybeLeaf<i32, 0x420009>,
+            OneOf<AttributeValue<A>, 0x42000B>,
+            A,
+        >(&self.name, &self.index, &self.value);
+        let chosen = self.is_value_chosen();
+        both(parts, chosen)
+    }
 
     ghost structured = { (refl, refl) };
-
-    const TAG: u32 = 0x420008;
-
-    fn read_nested<'b>(
-        scope: &reader::Scope<'b, A>,
-        cursor: &mut reader::Cursor<'b, A>,
-    ) -> reader::Step<Self, A> {
-        reader::read_structure(scope, cursor)
-    }
 }

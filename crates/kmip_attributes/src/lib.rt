@@ -1,7 +1,7 @@
-//! Attributes of managed objects (KMIP 1.0, section 3): their types, as `codegen/codegen` writes them of `types.table`.
+//! Attributes of managed objects (KMIP 1.0, section 3): `attribute` is one, by its name; `structures` and `values` are what it says.
+//! `codegen/codegen` writes them of `types.table`.
 #![tactic(auto)]
 
 pub mod attribute;
-pub mod laws;
 pub mod structures;
 pub mod values;

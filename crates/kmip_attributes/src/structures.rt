@@ -2,16 +2,19 @@
 //! What attributes that are structures say (KMIP 1.0, section 3), under the tag of an Attribute Value.
 
 ghost use Rattle.std.specs.Prelude.{refl, true};
-ghost use Rattle.kmip_attributes.specs.Structures.{name_form, name_value, cryptographic_parameters_form, written_cryptographic_parameters, read_cryptographic_parameters, qlength_form, qlength_value, cryptographic_domain_parameters_form, written_cryptographic_domain_parameters, read_cryptographic_domain_parameters, certificate_identifier_form, written_certificate_identifier, read_certificate_identifier, certificate_subject_alternative_name_form, certificate_subject_alternative_name_value, certificate_subject_form, written_certificate_subject, read_certificate_subject, certificate_issuer_alternative_name_form, certificate_issuer_alternative_name_value, certificate_issuer_form, written_certificate_issuer, read_certificate_issuer, digest_form, written_digest, read_digest, usage_limits_count_form, usage_limits_count_value, usage_limits_form, written_usage_limits, read_usage_limits, revocation_reason_form, written_revocation_reason, read_revocation_reason, link_form, link_value, application_specific_information_form, application_specific_information_value};
+ghost use Rattle.kmip_ttlv_kinds.specs.Parts.{of, structure};
 
 use crate::values::{
     BlockCipherMode, HashingAlgorithm, KeyFormatType, KeyRoleType, LinkType, NameType,
     PaddingMethod, RecommendedCurve, RevocationReasonCode, UsageLimitsUnit,
 };
-use kmip_ttlv_parts::messages::writing;
-use kmip_ttlv_parts::reader;
-use kmip_ttlv_parts::shape::Serialize;
-use kmip_ttlv_parts::visit::{Leaf, Visitor};
+use kmip_ttlv_kinds::{
+    Any, Leaf, LeafItem, Maybe, MaybeLeaf, One, PartList, Structure, are_whole_four,
+    are_whole_three, are_whole_two, read_parts, visit_structure_four, visit_structure_three,
+    visit_structure_two,
+};
+use kmip_ttlv_parts::reader::{Cursor, Scope, Step};
+use kmip_ttlv_parts::visit::Visitor;
 use std::alloc::{AllocError, Allocator, Global};
 
 /// What users call an object (KMIP 1.0, section 3.2).
@@ -24,63 +27,40 @@ pub struct Name<A: Allocator = Global> {
     pub name_type: NameType,
 }
 
-impl<B: Allocator> Serialize for Name<B> {
-    ghost stated = { name_value };
+type NameParts<A> = (Leaf<String<A>, 0x420055>, One<NameType>);
 
-    #[tactic(auto, unfolding(crate::specs::Structures::name_value))]
-    fn visit<V: Visitor>(&self, visitor: &mut V) -> Result<(), AllocError> {
-        writing::begin_structure(visitor, 0x42000B)?;
-        writing::string(visitor, 0x420055, &self.value)?;
-        self.name_type.visit(visitor)?;
-        writing::end_structure(visitor, 0x42000B)?;
-        Ok(())
+impl<A: Allocator + Copy> Structure<A> for Name<A> {
+    ghost item = { structure 0x42000B true (of (λ x. (x.value, x.name_type)) ⟦<NameParts<A> as PartList<A>>⟧.rules) refl
+        ⟦<Name<A> as PartialEq>⟧.eq (λ x y e. e) };
+
+    fn number() -> u32 {
+        0x42000B
     }
-}
 
-impl<A: Allocator + Copy> reader::ReadStructure<A> for Name<A> {
-    ghost form = { name_form };
-
-    ghost value = { name_value };
-
-    ghost TAG = { 0x42000B };
-
-    ghost DENIES_UNKNOWN = { true };
-
-    type Fields = (
-        reader::Leaf<String<A>, 0x420055>,
-        reader::Item<NameType, 0x420054>,
-    );
-
-    const TAG: u32 = 0x42000B;
-
-    const DENIES_UNKNOWN: bool = true;
-
-    fn has_form() {}
-
-    #[tactic(auto, unfolding(crate::specs::Structures::name_value))]
-    fn from_fields(fields: (String<A>, NameType)) -> Self {
-        let (value, name_type) = fields;
-        Name { value, name_type }
+    fn read_nested<'b>(scope: &Scope<'b, A>, cursor: &mut Cursor<'b, A>) -> Step<Self, A> {
+        match read_parts::<NameParts<A>, A>(scope, 0x42000B, true, cursor) {
+            Ok(parts) => {
+                let (value, name_type) = parts;
+                Ok(Name { value, name_type })
+            }
+            Err(failure) => Err(failure),
+        }
     }
-}
 
-impl<A: Allocator + Copy> reader::ReadNested<A> for Name<A> {
-    ghost form = { name_form };
+    fn visit_parts<V: Visitor>(&self, visitor: &mut V) -> Result<(), AllocError> {
+        visit_structure_two::<Leaf<String<A>, 0x420055>, One<NameType>, V, A>(
+            visitor,
+            0x42000B,
+            &self.value,
+            &self.name_type,
+        )
+    }
 
-    ghost value = { name_value };
-
-    ghost TAG = { 0x42000B };
+    fn is_whole(&self) -> bool {
+        are_whole_two::<Leaf<String<A>, 0x420055>, One<NameType>, A>(&self.value, &self.name_type)
+    }
 
     ghost structured = { (refl, refl) };
-
-    const TAG: u32 = 0x42000B;
-
-    fn read_nested<'b>(
-        scope: &reader::Scope<'b, A>,
-        cursor: &mut reader::Cursor<'b, A>,
-    ) -> reader::Step<Self, A> {
-        reader::read_structure(scope, cursor)
-    }
 }
 
 /// How a key is used (KMIP 1.0, section 3.6).
@@ -96,180 +76,124 @@ pub struct CryptographicParameters {
     pub key_role_type: Option<KeyRoleType>,
 }
 
-impl Serialize for CryptographicParameters {
-    ghost stated = { written_cryptographic_parameters };
+type CryptographicParametersParts = (
+    Maybe<BlockCipherMode, 0x420011>,
+    Maybe<PaddingMethod, 0x42005F>,
+    Maybe<HashingAlgorithm, 0x420038>,
+    Maybe<KeyRoleType, 0x420083>,
+);
 
-    fn visit<V: Visitor>(&self, visitor: &mut V) -> Result<(), AllocError> {
-        writing::begin_structure(visitor, 0x42000B)?;
-        writing::option(visitor, &self.block_cipher_mode)?;
-        writing::option(visitor, &self.padding_method)?;
-        writing::option(visitor, &self.hashing_algorithm)?;
-        writing::option(visitor, &self.key_role_type)?;
-        writing::end_structure(visitor, 0x42000B)?;
-        Ok(())
+impl<A: Allocator + Copy> Structure<A> for CryptographicParameters {
+    ghost item = { structure 0x42000B true (of (λ x. (x.block_cipher_mode, x.padding_method, x.hashing_algorithm, x.key_role_type)) ⟦<CryptographicParametersParts as PartList<A>>⟧.rules) refl
+        ⟦<CryptographicParameters as PartialEq>⟧.eq (λ x y e. e) };
+
+    fn number() -> u32 {
+        0x42000B
     }
-}
 
-impl<A: Allocator + Copy> reader::ReadStructure<A> for CryptographicParameters {
-    ghost form = { cryptographic_parameters_form };
-
-    ghost value = { read_cryptographic_parameters };
-
-    ghost TAG = { 0x42000B };
-
-    ghost DENIES_UNKNOWN = { true };
-
-    type Fields = (
-        reader::OptionalItem<BlockCipherMode, 0x420011>,
-        reader::OptionalItem<PaddingMethod, 0x42005F>,
-        reader::OptionalItem<HashingAlgorithm, 0x420038>,
-        reader::OptionalItem<KeyRoleType, 0x420083>,
-    );
-
-    const TAG: u32 = 0x42000B;
-
-    const DENIES_UNKNOWN: bool = true;
-
-    fn has_form() {}
-
-    #[tactic(auto, unfolding(crate::specs::Structures::read_cryptographic_parameters))]
-    fn from_fields(
-        fields: (
-            Option<BlockCipherMode>,
-            Option<PaddingMethod>,
-            Option<HashingAlgorithm>,
-            Option<KeyRoleType>,
-        ),
-    ) -> Self {
-        let (block_cipher_mode, padding_method, hashing_algorithm, key_role_type) = fields;
-        CryptographicParameters {
-            block_cipher_mode,
-            padding_method,
-            hashing_algorithm,
-            key_role_type,
+    fn read_nested<'b>(scope: &Scope<'b, A>, cursor: &mut Cursor<'b, A>) -> Step<Self, A> {
+        match read_parts::<CryptographicParametersParts, A>(scope, 0x42000B, true, cursor) {
+            Ok(parts) => {
+                let (block_cipher_mode, padding_method, hashing_algorithm, key_role_type) = parts;
+                Ok(CryptographicParameters {
+                    block_cipher_mode,
+                    padding_method,
+                    hashing_algorithm,
+                    key_role_type,
+                })
+            }
+            Err(failure) => Err(failure),
         }
     }
-}
 
-impl<A: Allocator + Copy> reader::ReadNested<A> for CryptographicParameters {
-    ghost form = { cryptographic_parameters_form };
+    fn visit_parts<V: Visitor>(&self, visitor: &mut V) -> Result<(), AllocError> {
+        visit_structure_four::<
+            Maybe<BlockCipherMode, 0x420011>,
+            Maybe<PaddingMethod, 0x42005F>,
+            Maybe<HashingAlgorithm, 0x420038>,
+            Maybe<KeyRoleType, 0x420083>,
+            V,
+            A,
+        >(
+            visitor,
+            0x42000B,
+            &self.block_cipher_mode,
+            &self.padding_method,
+            &self.hashing_algorithm,
+            &self.key_role_type,
+        )
+    }
 
-    ghost value = { read_cryptographic_parameters };
-
-    ghost TAG = { 0x42000B };
+    fn is_whole(&self) -> bool {
+        are_whole_four::<
+            Maybe<BlockCipherMode, 0x420011>,
+            Maybe<PaddingMethod, 0x42005F>,
+            Maybe<HashingAlgorithm, 0x420038>,
+            Maybe<KeyRoleType, 0x420083>,
+            A,
+        >(
+            &self.block_cipher_mode,
+            &self.padding_method,
+            &self.hashing_algorithm,
+            &self.key_role_type,
+        )
+    }
 
     ghost structured = { (refl, refl) };
-
-    const TAG: u32 = 0x42000B;
-
-    fn read_nested<'b>(
-        scope: &reader::Scope<'b, A>,
-        cursor: &mut reader::Cursor<'b, A>,
-    ) -> reader::Step<Self, A> {
-        reader::read_structure(scope, cursor)
-    }
-}
-
-/// The length of a Diffie-Hellman key's order, in bits.
-#[derive(Clone, Copy, PartialEq, Eq)]
-pub struct Qlength {
-    /// What it holds.
-    pub bits: i32,
-}
-
-impl Serialize for Qlength {
-    ghost stated = { qlength_value };
-
-    fn visit<V: Visitor>(&self, visitor: &mut V) -> Result<(), AllocError> {
-        writing::tagged(visitor, 0x420073, Leaf::I32(self.bits))?;
-        Ok(())
-    }
-}
-
-impl<A: Allocator + Copy> reader::ReadItem<A> for Qlength {
-    ghost form = { qlength_form };
-
-    ghost value = { qlength_value };
-
-    ghost plain = { (refl, refl) };
-
-    fn read_item<'b>(
-        scope: &reader::Scope<'b, A>,
-        cursor: &mut reader::Cursor<'b, A>,
-    ) -> reader::Step<Self, A> {
-        let bits = cursor.wrapped_leaf(scope, 0x420073)?;
-        Ok(Qlength { bits })
-    }
 }
 
 /// What a key pair is made over (KMIP 1.0, section 3.7).
 #[derive(Clone, Copy, PartialEq, Eq)]
 pub struct CryptographicDomainParameters {
     /// The length of the order.
-    pub qlength: Option<Qlength>,
+    pub qlength: Option<i32>,
     /// The elliptic curve.
     pub recommended_curve: Option<RecommendedCurve>,
 }
 
-impl Serialize for CryptographicDomainParameters {
-    ghost stated = { written_cryptographic_domain_parameters };
+type CryptographicDomainParametersParts = (
+    MaybeLeaf<i32, 0x420073>,
+    Maybe<RecommendedCurve, 0x420075>,
+);
 
-    fn visit<V: Visitor>(&self, visitor: &mut V) -> Result<(), AllocError> {
-        writing::begin_structure(visitor, 0x42000B)?;
-        writing::option(visitor, &self.qlength)?;
-        writing::option(visitor, &self.recommended_curve)?;
-        writing::end_structure(visitor, 0x42000B)?;
-        Ok(())
+impl<A: Allocator + Copy> Structure<A> for CryptographicDomainParameters {
+    ghost item = { structure 0x42000B true (of (λ x. (x.qlength, x.recommended_curve)) ⟦<CryptographicDomainParametersParts as PartList<A>>⟧.rules) refl
+        ⟦<CryptographicDomainParameters as PartialEq>⟧.eq (λ x y e. e) };
+
+    fn number() -> u32 {
+        0x42000B
     }
-}
 
-impl<A: Allocator + Copy> reader::ReadStructure<A> for CryptographicDomainParameters {
-    ghost form = { cryptographic_domain_parameters_form };
-
-    ghost value = { read_cryptographic_domain_parameters };
-
-    ghost TAG = { 0x42000B };
-
-    ghost DENIES_UNKNOWN = { true };
-
-    type Fields = (
-        reader::OptionalItem<Qlength, 0x420073>,
-        reader::OptionalItem<RecommendedCurve, 0x420075>,
-    );
-
-    const TAG: u32 = 0x42000B;
-
-    const DENIES_UNKNOWN: bool = true;
-
-    fn has_form() {}
-
-    #[tactic(auto, unfolding(crate::specs::Structures::read_cryptographic_domain_parameters))]
-    fn from_fields(fields: (Option<Qlength>, Option<RecommendedCurve>)) -> Self {
-        let (qlength, recommended_curve) = fields;
-        CryptographicDomainParameters {
-            qlength,
-            recommended_curve,
+    fn read_nested<'b>(scope: &Scope<'b, A>, cursor: &mut Cursor<'b, A>) -> Step<Self, A> {
+        match read_parts::<CryptographicDomainParametersParts, A>(scope, 0x42000B, true, cursor) {
+            Ok(parts) => {
+                let (qlength, recommended_curve) = parts;
+                Ok(CryptographicDomainParameters {
+                    qlength,
+                    recommended_curve,
+                })
+            }
+            Err(failure) => Err(failure),
         }
     }
-}
 
-impl<A: Allocator + Copy> reader::ReadNested<A> for CryptographicDomainParameters {
-    ghost form = { cryptographic_domain_parameters_form };
+    fn visit_parts<V: Visitor>(&self, visitor: &mut V) -> Result<(), AllocError> {
+        visit_structure_two::<MaybeLeaf<i32, 0x420073>, Maybe<RecommendedCurve, 0x420075>, V, A>(
+            visitor,
+            0x42000B,
+            &self.qlength,
+            &self.recommended_curve,
+        )
+    }
 
-    ghost value = { read_cryptographic_domain_parameters };
-
-    ghost TAG = { 0x42000B };
+    fn is_whole(&self) -> bool {
+        are_whole_two::<MaybeLeaf<i32, 0x420073>, Maybe<RecommendedCurve, 0x420075>, A>(
+            &self.qlength,
+            &self.recommended_curve,
+        )
+    }
 
     ghost structured = { (refl, refl) };
-
-    const TAG: u32 = 0x42000B;
-
-    fn read_nested<'b>(
-        scope: &reader::Scope<'b, A>,
-        cursor: &mut reader::Cursor<'b, A>,
-    ) -> reader::Step<Self, A> {
-        reader::read_structure(scope, cursor)
-    }
 }
 
 /// Who issued a certificate, and as which (KMIP 1.0, section 3.9).
@@ -282,97 +206,46 @@ pub struct CertificateIdentifier<A: Allocator = Global> {
     pub serial_number: Option<String<A>>,
 }
 
-impl<B: Allocator> Serialize for CertificateIdentifier<B> {
-    ghost stated = { written_certificate_identifier };
+type CertificateIdentifierParts<A> = (Leaf<String<A>, 0x42003B>, MaybeLeaf<String<A>, 0x420087>);
 
-    fn visit<V: Visitor>(&self, visitor: &mut V) -> Result<(), AllocError> {
-        writing::begin_structure(visitor, 0x42000B)?;
-        writing::string(visitor, 0x42003B, &self.issuer)?;
-        writing::optional_text_string(visitor, 0x420087, &self.serial_number)?;
-        writing::end_structure(visitor, 0x42000B)?;
-        Ok(())
+impl<A: Allocator + Copy> Structure<A> for CertificateIdentifier<A> {
+    ghost item = { structure 0x42000B true (of (λ x. (x.issuer, x.serial_number)) ⟦<CertificateIdentifierParts<A> as PartList<A>>⟧.rules) refl
+        ⟦<CertificateIdentifier<A> as PartialEq>⟧.eq (λ x y e. e) };
+
+    fn number() -> u32 {
+        0x42000B
     }
-}
 
-impl<A: Allocator + Copy> reader::ReadStructure<A> for CertificateIdentifier<A> {
-    ghost form = { certificate_identifier_form };
-
-    ghost value = { read_certificate_identifier };
-
-    ghost TAG = { 0x42000B };
-
-    ghost DENIES_UNKNOWN = { true };
-
-    type Fields = (
-        reader::Leaf<String<A>, 0x42003B>,
-        reader::OptionalLeaf<String<A>, 0x420087>,
-    );
-
-    const TAG: u32 = 0x42000B;
-
-    const DENIES_UNKNOWN: bool = true;
-
-    fn has_form() {}
-
-    #[tactic(auto, unfolding(crate::specs::Structures::read_certificate_identifier))]
-    fn from_fields(fields: (String<A>, Option<String<A>>)) -> Self {
-        let (issuer, serial_number) = fields;
-        CertificateIdentifier {
-            issuer,
-            serial_number,
+    fn read_nested<'b>(scope: &Scope<'b, A>, cursor: &mut Cursor<'b, A>) -> Step<Self, A> {
+        match read_parts::<CertificateIdentifierParts<A>, A>(scope, 0x42000B, true, cursor) {
+            Ok(parts) => {
+                let (issuer, serial_number) = parts;
+                Ok(CertificateIdentifier {
+                    issuer,
+                    serial_number,
+                })
+            }
+            Err(failure) => Err(failure),
         }
     }
-}
 
-impl<A: Allocator + Copy> reader::ReadNested<A> for CertificateIdentifier<A> {
-    ghost form = { certificate_identifier_form };
+    fn visit_parts<V: Visitor>(&self, visitor: &mut V) -> Result<(), AllocError> {
+        visit_structure_two::<Leaf<String<A>, 0x42003B>, MaybeLeaf<String<A>, 0x420087>, V, A>(
+            visitor,
+            0x42000B,
+            &self.issuer,
+            &self.serial_number,
+        )
+    }
 
-    ghost value = { read_certificate_identifier };
-
-    ghost TAG = { 0x42000B };
+    fn is_whole(&self) -> bool {
+        are_whole_two::<Leaf<String<A>, 0x42003B>, MaybeLeaf<String<A>, 0x420087>, A>(
+            &self.issuer,
+            &self.serial_number,
+        )
+    }
 
     ghost structured = { (refl, refl) };
-
-    const TAG: u32 = 0x42000B;
-
-    fn read_nested<'b>(
-        scope: &reader::Scope<'b, A>,
-        cursor: &mut reader::Cursor<'b, A>,
-    ) -> reader::Step<Self, A> {
-        reader::read_structure(scope, cursor)
-    }
-}
-
-/// Another name of whom a certificate is for.
-#[derive(Drop)]
-#[derive_where(PartialEq)]
-pub struct CertificateSubjectAlternativeName<A: Allocator = Global> {
-    /// What it holds.
-    pub text: String<A>,
-}
-
-impl<B: Allocator> Serialize for CertificateSubjectAlternativeName<B> {
-    ghost stated = { certificate_subject_alternative_name_value };
-
-    fn visit<V: Visitor>(&self, visitor: &mut V) -> Result<(), AllocError> {
-        writing::string(visitor, 0x42001B, &self.text)
-    }
-}
-
-impl<A: Allocator + Copy> reader::ReadItem<A> for CertificateSubjectAlternativeName<A> {
-    ghost form = { certificate_subject_alternative_name_form };
-
-    ghost value = { certificate_subject_alternative_name_value };
-
-    ghost plain = { (refl, refl) };
-
-    fn read_item<'b>(
-        scope: &reader::Scope<'b, A>,
-        cursor: &mut reader::Cursor<'b, A>,
-    ) -> reader::Step<Self, A> {
-        let text = cursor.wrapped_leaf(scope, 0x42001B)?;
-        Ok(CertificateSubjectAlternativeName { text })
-    }
 }
 
 /// Whom a certificate is for (KMIP 1.0, section 3.10).
@@ -382,101 +255,57 @@ pub struct CertificateSubject<A: Allocator = Global> {
     /// The name.
     pub distinguished_name: String<A>,
     /// Others.
-    pub alternative_names: Vec<CertificateSubjectAlternativeName<A>, A>,
+    pub alternative_names: Vec<String<A>, A>,
 }
 
-impl<B: Allocator> Serialize for CertificateSubject<B> {
-    ghost stated = { written_certificate_subject };
+type CertificateSubjectParts<A> = (
+    Leaf<String<A>, 0x42001C>,
+    Any<LeafItem<String<A>, 0x42001B>, 0x42001B>,
+);
 
-    #[tactic(auto, unfolding(crate::specs::Structures::written_certificate_subject))]
-    fn visit<V: Visitor>(&self, visitor: &mut V) -> Result<(), AllocError> {
-        writing::begin_structure(visitor, 0x42000B)?;
-        writing::string(visitor, 0x42001C, &self.distinguished_name)?;
-        writing::several(visitor, &self.alternative_names)?;
-        writing::end_structure(visitor, 0x42000B)?;
-        Ok(())
+impl<A: Allocator + Copy> Structure<A> for CertificateSubject<A> {
+    ghost item = { structure 0x42000B true (of (λ x. (x.distinguished_name, x.alternative_names)) ⟦<CertificateSubjectParts<A> as PartList<A>>⟧.rules) refl
+        ⟦<CertificateSubject<A> as PartialEq>⟧.eq (λ x y e. e) };
+
+    fn number() -> u32 {
+        0x42000B
     }
-}
 
-impl<A: Allocator + Copy> reader::ReadStructure<A> for CertificateSubject<A> {
-    ghost form = { certificate_subject_form };
-
-    ghost value = { read_certificate_subject };
-
-    ghost TAG = { 0x42000B };
-
-    ghost DENIES_UNKNOWN = { true };
-
-    type Fields = (
-        reader::Leaf<String<A>, 0x42001C>,
-        reader::OptionalSeveralItems<CertificateSubjectAlternativeName<A>, 0x42001B>,
-    );
-
-    const TAG: u32 = 0x42000B;
-
-    const DENIES_UNKNOWN: bool = true;
-
-    fn has_form() {}
-
-    #[tactic(auto, unfolding(crate::specs::Structures::read_certificate_subject))]
-    fn from_fields(fields: (String<A>, Vec<CertificateSubjectAlternativeName<A>, A>)) -> Self {
-        let (distinguished_name, alternative_names) = fields;
-        CertificateSubject {
-            distinguished_name,
-            alternative_names,
+    fn read_nested<'b>(scope: &Scope<'b, A>, cursor: &mut Cursor<'b, A>) -> Step<Self, A> {
+        match read_parts::<CertificateSubjectParts<A>, A>(scope, 0x42000B, true, cursor) {
+            Ok(parts) => {
+                let (distinguished_name, alternative_names) = parts;
+                Ok(CertificateSubject {
+                    distinguished_name,
+                    alternative_names,
+                })
+            }
+            Err(failure) => Err(failure),
         }
     }
-}
 
-impl<A: Allocator + Copy> reader::ReadNested<A> for CertificateSubject<A> {
-    ghost form = { certificate_subject_form };
+    fn visit_parts<V: Visitor>(&self, visitor: &mut V) -> Result<(), AllocError> {
+        visit_structure_two::<
+            Leaf<String<A>, 0x42001C>,
+            Any<LeafItem<String<A>, 0x42001B>, 0x42001B>,
+            V,
+            A,
+        >(
+            visitor,
+            0x42000B,
+            &self.distinguished_name,
+            &self.alternative_names,
+        )
+    }
 
-    ghost value = { read_certificate_subject };
-
-    ghost TAG = { 0x42000B };
+    fn is_whole(&self) -> bool {
+        are_whole_two::<Leaf<String<A>, 0x42001C>, Any<LeafItem<String<A>, 0x42001B>, 0x42001B>, A>(
+            &self.distinguished_name,
+            &self.alternative_names,
+        )
+    }
 
     ghost structured = { (refl, refl) };
-
-    const TAG: u32 = 0x42000B;
-
-    fn read_nested<'b>(
-        scope: &reader::Scope<'b, A>,
-        cursor: &mut reader::Cursor<'b, A>,
-    ) -> reader::Step<Self, A> {
-        reader::read_structure(scope, cursor)
-    }
-}
-
-/// Another name of who issued a certificate.
-#[derive(Drop)]
-#[derive_where(PartialEq)]
-pub struct CertificateIssuerAlternativeName<A: Allocator = Global> {
-    /// What it holds.
-    pub text: String<A>,
-}
-
-impl<B: Allocator> Serialize for CertificateIssuerAlternativeName<B> {
-    ghost stated = { certificate_issuer_alternative_name_value };
-
-    fn visit<V: Visitor>(&self, visitor: &mut V) -> Result<(), AllocError> {
-        writing::string(visitor, 0x420016, &self.text)
-    }
-}
-
-impl<A: Allocator + Copy> reader::ReadItem<A> for CertificateIssuerAlternativeName<A> {
-    ghost form = { certificate_issuer_alternative_name_form };
-
-    ghost value = { certificate_issuer_alternative_name_value };
-
-    ghost plain = { (refl, refl) };
-
-    fn read_item<'b>(
-        scope: &reader::Scope<'b, A>,
-        cursor: &mut reader::Cursor<'b, A>,
-    ) -> reader::Step<Self, A> {
-        let text = cursor.wrapped_leaf(scope, 0x420016)?;
-        Ok(CertificateIssuerAlternativeName { text })
-    }
 }
 
 /// Who issued a certificate (KMIP 1.0, section 3.11).
@@ -486,69 +315,57 @@ pub struct CertificateIssuer<A: Allocator = Global> {
     /// The name.
     pub distinguished_name: String<A>,
     /// Others.
-    pub alternative_names: Vec<CertificateIssuerAlternativeName<A>, A>,
+    pub alternative_names: Vec<String<A>, A>,
 }
 
-impl<B: Allocator> Serialize for CertificateIssuer<B> {
-    ghost stated = { written_certificate_issuer };
+type CertificateIssuerParts<A> = (
+    Leaf<String<A>, 0x420017>,
+    Any<LeafItem<String<A>, 0x420016>, 0x420016>,
+);
 
-    #[tactic(auto, unfolding(crate::specs::Structures::written_certificate_issuer))]
-    fn visit<V: Visitor>(&self, visitor: &mut V) -> Result<(), AllocError> {
-        writing::begin_structure(visitor, 0x42000B)?;
-        writing::string(visitor, 0x420017, &self.distinguished_name)?;
-        writing::several(visitor, &self.alternative_names)?;
-        writing::end_structure(visitor, 0x42000B)?;
-        Ok(())
+impl<A: Allocator + Copy> Structure<A> for CertificateIssuer<A> {
+    ghost item = { structure 0x42000B true (of (λ x. (x.distinguished_name, x.alternative_names)) ⟦<CertificateIssuerParts<A> as PartList<A>>⟧.rules) refl
+        ⟦<CertificateIssuer<A> as PartialEq>⟧.eq (λ x y e. e) };
+
+    fn number() -> u32 {
+        0x42000B
     }
-}
 
-impl<A: Allocator + Copy> reader::ReadStructure<A> for CertificateIssuer<A> {
-    ghost form = { certificate_issuer_form };
-
-    ghost value = { read_certificate_issuer };
-
-    ghost TAG = { 0x42000B };
-
-    ghost DENIES_UNKNOWN = { true };
-
-    type Fields = (
-        reader::Leaf<String<A>, 0x420017>,
-        reader::OptionalSeveralItems<CertificateIssuerAlternativeName<A>, 0x420016>,
-    );
-
-    const TAG: u32 = 0x42000B;
-
-    const DENIES_UNKNOWN: bool = true;
-
-    fn has_form() {}
-
-    #[tactic(auto, unfolding(crate::specs::Structures::read_certificate_issuer))]
-    fn from_fields(fields: (String<A>, Vec<CertificateIssuerAlternativeName<A>, A>)) -> Self {
-        let (distinguished_name, alternative_names) = fields;
-        CertificateIssuer {
-            distinguished_name,
-            alternative_names,
+    fn read_nested<'b>(scope: &Scope<'b, A>, cursor: &mut Cursor<'b, A>) -> Step<Self, A> {
+        match read_parts::<CertificateIssuerParts<A>, A>(scope, 0x42000B, true, cursor) {
+            Ok(parts) => {
+                let (distinguished_name, alternative_names) = parts;
+                Ok(CertificateIssuer {
+                    distinguished_name,
+                    alternative_names,
+                })
+            }
+            Err(failure) => Err(failure),
         }
     }
-}
 
-impl<A: Allocator + Copy> reader::ReadNested<A> for CertificateIssuer<A> {
-    ghost form = { certificate_issuer_form };
+    fn visit_parts<V: Visitor>(&self, visitor: &mut V) -> Result<(), AllocError> {
+        visit_structure_two::<
+            Leaf<String<A>, 0x420017>,
+            Any<LeafItem<String<A>, 0x420016>, 0x420016>,
+            V,
+            A,
+        >(
+            visitor,
+            0x42000B,
+            &self.distinguished_name,
+            &self.alternative_names,
+        )
+    }
 
-    ghost value = { read_certificate_issuer };
-
-    ghost TAG = { 0x42000B };
+    fn is_whole(&self) -> bool {
+        are_whole_two::<Leaf<String<A>, 0x420017>, Any<LeafItem<String<A>, 0x420016>, 0x420016>, A>(
+            &self.distinguished_name,
+            &self.alternative_names,
+        )
+    }
 
     ghost structured = { (refl, refl) };
-
-    const TAG: u32 = 0x42000B;
-
-    fn read_nested<'b>(
-        scope: &reader::Scope<'b, A>,
-        cursor: &mut reader::Cursor<'b, A>,
-    ) -> reader::Step<Self, A> {
-        reader::read_structure(scope, cursor)
-    }
 }
 
 /// A hash of an object (KMIP 1.0, section 3.12).
@@ -563,100 +380,64 @@ pub struct Digest<A: Allocator = Global> {
     pub key_format_type: Option<KeyFormatType>,
 }
 
-impl<B: Allocator> Serialize for Digest<B> {
-    ghost stated = { written_digest };
+type DigestParts<A> = (
+    One<HashingAlgorithm>,
+    MaybeLeaf<Vec<u8, A>, 0x420035>,
+    Maybe<KeyFormatType, 0x420042>,
+);
 
-    fn visit<V: Visitor>(&self, visitor: &mut V) -> Result<(), AllocError> {
-        writing::begin_structure(visitor, 0x42000B)?;
-        self.hashing_algorithm.visit(visitor)?;
-        writing::optional_byte_string(visitor, 0x420035, &self.digest_value)?;
-        writing::option(visitor, &self.key_format_type)?;
-        writing::end_structure(visitor, 0x42000B)?;
-        Ok(())
+impl<A: Allocator + Copy> Structure<A> for Digest<A> {
+    ghost item = { structure 0x42000B true (of (λ x. (x.hashing_algorithm, x.digest_value, x.key_format_type)) ⟦<DigestParts<A> as PartList<A>>⟧.rules) refl
+        ⟦<Digest<A> as PartialEq>⟧.eq (λ x y e. e) };
+
+    fn number() -> u32 {
+        0x42000B
     }
-}
 
-impl<A: Allocator + Copy> reader::ReadStructure<A> for Digest<A> {
-    ghost form = { digest_form };
-
-    ghost value = { read_digest };
-
-    ghost TAG = { 0x42000B };
-
-    ghost DENIES_UNKNOWN = { true };
-
-    type Fields = (
-        reader::Item<HashingAlgorithm, 0x420038>,
-        reader::OptionalLeaf<Vec<u8, A>, 0x420035>,
-        reader::OptionalItem<KeyFormatType, 0x420042>,
-    );
-
-    const TAG: u32 = 0x42000B;
-
-    const DENIES_UNKNOWN: bool = true;
-
-    fn has_form() {}
-
-    #[tactic(auto, unfolding(crate::specs::Structures::read_digest))]
-    fn from_fields(fields: (HashingAlgorithm, Option<Vec<u8, A>>, Option<KeyFormatType>)) -> Self {
-        let (hashing_algorithm, digest_value, key_format_type) = fields;
-        Digest {
-            hashing_algorithm,
-            digest_value,
-            key_format_type,
+    fn read_nested<'b>(scope: &Scope<'b, A>, cursor: &mut Cursor<'b, A>) -> Step<Self, A> {
+        match read_parts::<DigestParts<A>, A>(scope, 0x42000B, true, cursor) {
+            Ok(parts) => {
+                let (hashing_algorithm, digest_value, key_format_type) = parts;
+                Ok(Digest {
+                    hashing_algorithm,
+                    digest_value,
+                    key_format_type,
+                })
+            }
+            Err(failure) => Err(failure),
         }
     }
-}
 
-impl<A: Allocator + Copy> reader::ReadNested<A> for Digest<A> {
-    ghost form = { digest_form };
+    fn visit_parts<V: Visitor>(&self, visitor: &mut V) -> Result<(), AllocError> {
+        visit_structure_three::<
+            One<HashingAlgorithm>,
+            MaybeLeaf<Vec<u8, A>, 0x420035>,
+            Maybe<KeyFormatType, 0x420042>,
+            V,
+            A,
+        >(
+            visitor,
+            0x42000B,
+            &self.hashing_algorithm,
+            &self.digest_value,
+            &self.key_format_type,
+        )
+    }
 
-    ghost value = { read_digest };
-
-    ghost TAG = { 0x42000B };
+    fn is_whole(&self) -> bool {
+        are_whole_three::<
+            One<HashingAlgorithm>,
+            MaybeLeaf<Vec<u8, A>, 0x420035>,
+            Maybe<KeyFormatType, 0x420042>,
+            A,
+        >(
+            &self.hashing_algorithm,
+            &self.digest_value,
+            &self.key_format_type,
+        )
+    }
 
     ghost structured = { (refl, refl) };
-
-    const TAG: u32 = 0x42000B;
-
-    fn read_nested<'b>(
-        scope: &reader::Scope<'b, A>,
-        cursor: &mut reader::Cursor<'b, A>,
-    ) -> reader::Step<Self, A> {
-        reader::read_structure(scope, cursor)
-    }
-}
-
-/// How much of an allowance is left.
-#[derive(Clone, Copy, PartialEq, Eq)]
-pub struct UsageLimitsCount {
-    /// What it holds.
-    pub count: i64,
-}
-
-impl Serialize for UsageLimitsCount {
-    ghost stated = { usage_limits_count_value };
-
-    fn visit<V: Visitor>(&self, visitor: &mut V) -> Result<(), AllocError> {
-        writing::tagged(visitor, 0x420096, Leaf::I64(self.count))?;
-        Ok(())
-    }
-}
-
-impl<A: Allocator + Copy> reader::ReadItem<A> for UsageLimitsCount {
-    ghost form = { usage_limits_count_form };
-
-    ghost value = { usage_limits_count_value };
-
-    ghost plain = { (refl, refl) };
-
-    fn read_item<'b>(
-        scope: &reader::Scope<'b, A>,
-        cursor: &mut reader::Cursor<'b, A>,
-    ) -> reader::Step<Self, A> {
-        let count = cursor.wrapped_leaf(scope, 0x420096)?;
-        Ok(UsageLimitsCount { count })
-    }
 }
 
 /// How much may be done with an object (KMIP 1.0, section 3.16).
@@ -665,69 +446,54 @@ pub struct UsageLimits {
     /// The whole allowance.
     pub total: i64,
     /// What is left of it.
-    pub count: Option<UsageLimitsCount>,
+    pub count: Option<i64>,
     /// What is counted.
     pub unit: UsageLimitsUnit,
 }
 
-impl Serialize for UsageLimits {
-    ghost stated = { written_usage_limits };
+type UsageLimitsParts = (
+    Leaf<i64, 0x420097>,
+    MaybeLeaf<i64, 0x420096>,
+    One<UsageLimitsUnit>,
+);
 
-    fn visit<V: Visitor>(&self, visitor: &mut V) -> Result<(), AllocError> {
-        writing::begin_structure(visitor, 0x42000B)?;
-        writing::tagged(visitor, 0x420097, Leaf::I64(self.total))?;
-        writing::option(visitor, &self.count)?;
-        self.unit.visit(visitor)?;
-        writing::end_structure(visitor, 0x42000B)?;
-        Ok(())
+impl<A: Allocator + Copy> Structure<A> for UsageLimits {
+    ghost item = { structure 0x42000B true (of (λ x. (x.total, x.count, x.unit)) ⟦<UsageLimitsParts as PartList<A>>⟧.rules) refl
+        ⟦<UsageLimits as PartialEq>⟧.eq (λ x y e. e) };
+
+    fn number() -> u32 {
+        0x42000B
     }
-}
 
-impl<A: Allocator + Copy> reader::ReadStructure<A> for UsageLimits {
-    ghost form = { usage_limits_form };
-
-    ghost value = { read_usage_limits };
-
-    ghost TAG = { 0x42000B };
-
-    ghost DENIES_UNKNOWN = { true };
-
-    type Fields = (
-        reader::Leaf<i64, 0x420097>,
-        reader::OptionalItem<UsageLimitsCount, 0x420096>,
-        reader::Item<UsageLimitsUnit, 0x420098>,
-    );
-
-    const TAG: u32 = 0x42000B;
-
-    const DENIES_UNKNOWN: bool = true;
-
-    fn has_form() {}
-
-    #[tactic(auto, unfolding(crate::specs::Structures::read_usage_limits))]
-    fn from_fields(fields: (i64, Option<UsageLimitsCount>, UsageLimitsUnit)) -> Self {
-        let (total, count, unit) = fields;
-        UsageLimits { total, count, unit }
+    fn read_nested<'b>(scope: &Scope<'b, A>, cursor: &mut Cursor<'b, A>) -> Step<Self, A> {
+        match read_parts::<UsageLimitsParts, A>(scope, 0x42000B, true, cursor) {
+            Ok(parts) => {
+                let (total, count, unit) = parts;
+                Ok(UsageLimits { total, count, unit })
+            }
+            Err(failure) => Err(failure),
+        }
     }
-}
 
-impl<A: Allocator + Copy> reader::ReadNested<A> for UsageLimits {
-    ghost form = { usage_limits_form };
+    fn visit_parts<V: Visitor>(&self, visitor: &mut V) -> Result<(), AllocError> {
+        visit_structure_three::<
+            Leaf<i64, 0x420097>,
+            MaybeLeaf<i64, 0x420096>,
+            One<UsageLimitsUnit>,
+            V,
+            A,
+        >(visitor, 0x42000B, &self.total, &self.count, &self.unit)
+    }
 
-    ghost value = { read_usage_limits };
-
-    ghost TAG = { 0x42000B };
+    fn is_whole(&self) -> bool {
+        are_whole_three::<Leaf<i64, 0x420097>, MaybeLeaf<i64, 0x420096>, One<UsageLimitsUnit>, A>(
+            &self.total,
+            &self.count,
+            &self.unit,
+        )
+    }
 
     ghost structured = { (refl, refl) };
-
-    const TAG: u32 = 0x42000B;
-
-    fn read_nested<'b>(
-        scope: &reader::Scope<'b, A>,
-        cursor: &mut reader::Cursor<'b, A>,
-    ) -> reader::Step<Self, A> {
-        reader::read_structure(scope, cursor)
-    }
 }
 
 /// Why an object was revoked (KMIP 1.0, section 3.26).
@@ -740,62 +506,43 @@ pub struct RevocationReason<A: Allocator = Global> {
     pub message: Option<String<A>>,
 }
 
-impl<B: Allocator> Serialize for RevocationReason<B> {
-    ghost stated = { written_revocation_reason };
+type RevocationReasonParts<A> = (One<RevocationReasonCode>, MaybeLeaf<String<A>, 0x420080>);
 
-    fn visit<V: Visitor>(&self, visitor: &mut V) -> Result<(), AllocError> {
-        writing::begin_structure(visitor, 0x42000B)?;
-        self.code.visit(visitor)?;
-        writing::optional_text_string(visitor, 0x420080, &self.message)?;
-        writing::end_structure(visitor, 0x42000B)?;
-        Ok(())
+impl<A: Allocator + Copy> Structure<A> for RevocationReason<A> {
+    ghost item = { structure 0x42000B true (of (λ x. (x.code, x.message)) ⟦<RevocationReasonParts<A> as PartList<A>>⟧.rules) refl
+        ⟦<RevocationReason<A> as PartialEq>⟧.eq (λ x y e. e) };
+
+    fn number() -> u32 {
+        0x42000B
     }
-}
 
-impl<A: Allocator + Copy> reader::ReadStructure<A> for RevocationReason<A> {
-    ghost form = { revocation_reason_form };
-
-    ghost value = { read_revocation_reason };
-
-    ghost TAG = { 0x42000B };
-
-    ghost DENIES_UNKNOWN = { true };
-
-    type Fields = (
-        reader::Item<RevocationReasonCode, 0x420082>,
-        reader::OptionalLeaf<String<A>, 0x420080>,
-    );
-
-    const TAG: u32 = 0x42000B;
-
-    const DENIES_UNKNOWN: bool = true;
-
-    fn has_form() {}
-
-    #[tactic(auto, unfolding(crate::specs::Structures::read_revocation_reason))]
-    fn from_fields(fields: (RevocationReasonCode, Option<String<A>>)) -> Self {
-        let (code, message) = fields;
-        RevocationReason { code, message }
+    fn read_nested<'b>(scope: &Scope<'b, A>, cursor: &mut Cursor<'b, A>) -> Step<Self, A> {
+        match read_parts::<RevocationReasonParts<A>, A>(scope, 0x42000B, true, cursor) {
+            Ok(parts) => {
+                let (code, message) = parts;
+                Ok(RevocationReason { code, message })
+            }
+            Err(failure) => Err(failure),
+        }
     }
-}
 
-impl<A: Allocator + Copy> reader::ReadNested<A> for RevocationReason<A> {
-    ghost form = { revocation_reason_form };
+    fn visit_parts<V: Visitor>(&self, visitor: &mut V) -> Result<(), AllocError> {
+        visit_structure_two::<One<RevocationReasonCode>, MaybeLeaf<String<A>, 0x420080>, V, A>(
+            visitor,
+            0x42000B,
+            &self.code,
+            &self.message,
+        )
+    }
 
-    ghost value = { read_revocation_reason };
-
-    ghost TAG = { 0x42000B };
+    fn is_whole(&self) -> bool {
+        are_whole_two::<One<RevocationReasonCode>, MaybeLeaf<String<A>, 0x420080>, A>(
+            &self.code,
+            &self.message,
+        )
+    }
 
     ghost structured = { (refl, refl) };
-
-    const TAG: u32 = 0x42000B;
-
-    fn read_nested<'b>(
-        scope: &reader::Scope<'b, A>,
-        cursor: &mut reader::Cursor<'b, A>,
-    ) -> reader::Step<Self, A> {
-        reader::read_structure(scope, cursor)
-    }
 }
 
 /// An object that belongs to this one (KMIP 1.0, section 3.29).
@@ -808,66 +555,46 @@ pub struct Link<A: Allocator = Global> {
     pub linked_object_identifier: String<A>,
 }
 
-impl<B: Allocator> Serialize for Link<B> {
-    ghost stated = { link_value };
+type LinkParts<A> = (One<LinkType>, Leaf<String<A>, 0x42004C>);
 
-    #[tactic(auto, unfolding(crate::specs::Structures::link_value))]
-    fn visit<V: Visitor>(&self, visitor: &mut V) -> Result<(), AllocError> {
-        writing::begin_structure(visitor, 0x42000B)?;
-        self.link_type.visit(visitor)?;
-        writing::string(visitor, 0x42004C, &self.linked_object_identifier)?;
-        writing::end_structure(visitor, 0x42000B)?;
-        Ok(())
+impl<A: Allocator + Copy> Structure<A> for Link<A> {
+    ghost item = { structure 0x42000B true (of (λ x. (x.link_type, x.linked_object_identifier)) ⟦<LinkParts<A> as PartList<A>>⟧.rules) refl
+        ⟦<Link<A> as PartialEq>⟧.eq (λ x y e. e) };
+
+    fn number() -> u32 {
+        0x42000B
     }
-}
 
-impl<A: Allocator + Copy> reader::ReadStructure<A> for Link<A> {
-    ghost form = { link_form };
-
-    ghost value = { link_value };
-
-    ghost TAG = { 0x42000B };
-
-    ghost DENIES_UNKNOWN = { true };
-
-    type Fields = (
-        reader::Item<LinkType, 0x42004B>,
-        reader::Leaf<String<A>, 0x42004C>,
-    );
-
-    const TAG: u32 = 0x42000B;
-
-    const DENIES_UNKNOWN: bool = true;
-
-    fn has_form() {}
-
-    #[tactic(auto, unfolding(crate::specs::Structures::link_value))]
-    fn from_fields(fields: (LinkType, String<A>)) -> Self {
-        let (link_type, linked_object_identifier) = fields;
-        Link {
-            link_type,
-            linked_object_identifier,
+    fn read_nested<'b>(scope: &Scope<'b, A>, cursor: &mut Cursor<'b, A>) -> Step<Self, A> {
+        match read_parts::<LinkParts<A>, A>(scope, 0x42000B, true, cursor) {
+            Ok(parts) => {
+                let (link_type, linked_object_identifier) = parts;
+                Ok(Link {
+                    link_type,
+                    linked_object_identifier,
+                })
+            }
+            Err(failure) => Err(failure),
         }
     }
-}
 
-impl<A: Allocator + Copy> reader::ReadNested<A> for Link<A> {
-    ghost form = { link_form };
+    fn visit_parts<V: Visitor>(&self, visitor: &mut V) -> Result<(), AllocError> {
+        visit_structure_two::<One<LinkType>, Leaf<String<A>, 0x42004C>, V, A>(
+            visitor,
+            0x42000B,
+            &self.link_type,
+            &self.linked_object_identifier,
+        )
+    }
 
-    ghost value = { link_value };
-
-    ghost TAG = { 0x42000B };
+    fn is_whole(&self) -> bool {
+        are_whole_two::<One<LinkType>, Leaf<String<A>, 0x42004C>, A>(
+            &self.link_type,
+            &self.linked_object_identifier,
+        )
+    }
 
     ghost structured = { (refl, refl) };
-
-    const TAG: u32 = 0x42000B;
-
-    fn read_nested<'b>(
-        scope: &reader::Scope<'b, A>,
-        cursor: &mut reader::Cursor<'b, A>,
-    ) -> reader::Step<Self, A> {
-        reader::read_structure(scope, cursor)
-    }
 }
 
 /// What an application keeps with an object (KMIP 1.0, section 3.30).
@@ -880,61 +607,46 @@ pub struct ApplicationSpecificInformation<A: Allocator = Global> {
     pub data: String<A>,
 }
 
-impl<B: Allocator> Serialize for ApplicationSpecificInformation<B> {
-    ghost stated = { application_specific_information_value };
+type ApplicationSpecificInformationParts<A> = (
+    Leaf<String<A>, 0x420003>,
+    Leaf<String<A>, 0x420002>,
+);
 
-    #[tactic(auto, unfolding(crate::specs::Structures::application_specific_information_value))]
-    fn visit<V: Visitor>(&self, visitor: &mut V) -> Result<(), AllocError> {
-        writing::begin_structure(visitor, 0x42000B)?;
-        writing::string(visitor, 0x420003, &self.namespace)?;
-        writing::string(visitor, 0x420002, &self.data)?;
-        writing::end_structure(visitor, 0x42000B)?;
-        Ok(())
+impl<A: Allocator + Copy> Structure<A> for ApplicationSpecificInformation<A> {
+    ghost item = { structure 0x42000B true (of (λ x. (x.namespace, x.data)) ⟦<ApplicationSpecificInformationParts<A> as PartList<A>>⟧.rules) refl
+        ⟦<ApplicationSpecificInformation<A> as PartialEq>⟧.eq (λ x y e. e) };
+
+    fn number() -> u32 {
+        0x42000B
     }
-}
 
-impl<A: Allocator + Copy> reader::ReadStructure<A> for ApplicationSpecificInformation<A> {
-    ghost form = { application_specific_information_form };
-
-    ghost value = { application_specific_information_value };
-
-    ghost TAG = { 0x42000B };
-
-    ghost DENIES_UNKNOWN = { true };
-
-    type Fields = (
-        reader::Leaf<String<A>, 0x420003>,
-        reader::Leaf<String<A>, 0x420002>,
-    );
-
-    const TAG: u32 = 0x42000B;
-
-    const DENIES_UNKNOWN: bool = true;
-
-    fn has_form() {}
-
-    #[tactic(auto, unfolding(crate::specs::Structures::application_specific_information_value))]
-    fn from_fields(fields: (String<A>, String<A>)) -> Self {
-        let (namespace, data) = fields;
-        ApplicationSpecificInformation { namespace, data }
+    fn read_nested<'b>(scope: &Scope<'b, A>, cursor: &mut Cursor<'b, A>) -> Step<Self, A> {
+        match read_parts::<ApplicationSpecificInformationParts<A>, A>(
+            scope, 0x42000B, true, cursor,
+        ) {
+            Ok(parts) => {
+                let (namespace, data) = parts;
+                Ok(ApplicationSpecificInformation { namespace, data })
+            }
+            Err(failure) => Err(failure),
+        }
     }
-}
 
-impl<A: Allocator + Copy> reader::ReadNested<A> for ApplicationSpecificInformation<A> {
-    ghost form = { application_specific_information_form };
+    fn visit_parts<V: Visitor>(&self, visitor: &mut V) -> Result<(), AllocError> {
+        visit_structure_two::<Leaf<String<A>, 0x420003>, Leaf<String<A>, 0x420002>, V, A>(
+            visitor,
+            0x42000B,
+            &self.namespace,
+            &self.data,
+        )
+    }
 
-    ghost value = { application_specific_information_value };
-
-    ghost TAG = { 0x42000B };
+    fn is_whole(&self) -> bool {
+        are_whole_two::<Leaf<String<A>, 0x420003>, Leaf<String<A>, 0x420002>, A>(
+            &self.namespace,
+            &self.data,
+        )
+    }
 
     ghost structured = { (refl, refl) };
-
-    const TAG: u32 = 0x42000B;
-
-    fn read_nested<'b>(
-        scope: &reader::Scope<'b, A>,
-        cursor: &mut reader::Cursor<'b, A>,
-    ) -> reader::Step<Self, A> {
-        reader::read_structure(scope, cursor)
-    }
 }

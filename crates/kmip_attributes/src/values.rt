@@ -1,14 +1,7 @@
 // Written by codegen from types.table: change that, and run codegen/codegen.
 //! What attributes that are numbers say: Enumerations (KMIP 1.0, section 9.1.3.2).
 
-ghost use Rattle.std.specs.Prelude.{};
-ghost use Rattle.kmip_attributes.specs.Values.{};
-
-use kmip_ttlv_parts::messages::writing;
-use kmip_ttlv_parts::shape::Serialize;
-use kmip_ttlv_parts::visit::Visitor;
-use kmip_ttlv_parts::{Enumeration, reader};
-use std::alloc::{AllocError, Allocator};
+use kmip_ttlv_parts::Enumeration;
 
 /// What an object is (KMIP 1.0, sections 3.3 and 9.1.3.2.11).
 pub type ObjectType = Enumeration<0x420057>;

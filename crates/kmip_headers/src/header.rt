@@ -1,12 +1,22 @@
 // Written by codegen from types.table: change that, and run codegen/codegen.
 //! What messages begin with (KMIP 1.0, section 6).
 
-ghost use Rattle.std.specs.Prelude.{◌↔◌, refl, IsTrue, codes, false, true};
-ghost use Rattle.kmip_headers.specs.Headers.{protocol_version_form, protocol_version_value, username_and_password_form, written_username_and_password, read_username_and_password, device_form, written_device, read_device, credential_value_form, written_credential_value, read_credential_value, ChoosesCredentialValue, ChoosesCredentialValueNumber, credential_form, written_credential, read_credential, authentication_form, written_authentication, read_authentication, maximum_response_size_form, maximum_response_size_value, time_stamp_form, time_stamp_value, batch_count_form, batch_count_value, request_header_form, written_request_header, read_request_header, response_header_form, response_header_value, message_extension_form, message_extension_value};
+ghost use Rattle.std.specs.Prelude.{◌↔◌, ◌+◌, IsTrue, Some, codes, false, refl, true};
+ghost use Rattle.kmip_ttlv_kinds.specs.Parts.{of, structure, structure_where};
+ghost use Rattle.kmip_ttlv_kinds.specs.Choices.{held};
+ghost use Rattle.kmip_headers.specs.Choices.{credential_value_choice, ChoosesCredentialValue, ChoosesCredentialValueNumber, credential_value_numbered};
 
+use kmip_ttlv_kinds::{
+    Alone, AsElement, Choice, Element, Four, Leaf, Maybe, MaybeLeaf, Of, One, OneOf, PartList,
+    Several, Structure, are_whole_four, are_whole_one, are_whole_three, are_whole_two, both,
+    read_parts, visit_four, visit_structure_one, visit_structure_three, visit_structure_two,
+    visit_two,
+};
 use kmip_ttlv_parts::messages::writing;
-use kmip_ttlv_parts::shape::Serialize;
-use kmip_ttlv_parts::visit::{Leaf, Visitor};
+use kmip_ttlv_parts::reader::{
+    ChoiceValue, Cursor, DateTime, Rule, RuleParts, Scope, Step, Variant, VariantOf,
+};
+use kmip_ttlv_parts::visit::Visitor;
 use kmip_ttlv_parts::{Enumeration, reader};
 use std::alloc::{AllocError, Allocator, Global};
 
@@ -19,59 +29,40 @@ pub struct ProtocolVersion {
     pub minor: i32,
 }
 
-impl Serialize for ProtocolVersion {
-    ghost stated = { protocol_version_value };
+type ProtocolVersionParts = (Leaf<i32, 0x42006A>, Leaf<i32, 0x42006B>);
 
-    fn visit<V: Visitor>(&self, visitor: &mut V) -> Result<(), AllocError> {
-        writing::begin_structure(visitor, 0x420069)?;
-        writing::tagged(visitor, 0x42006A, Leaf::I32(self.major))?;
-        writing::tagged(visitor, 0x42006B, Leaf::I32(self.minor))?;
-        writing::end_structure(visitor, 0x420069)?;
-        Ok(())
+impl<A: Allocator + Copy> Structure<A> for ProtocolVersion {
+    ghost item = { structure 0x420069 true (of (λ x. (x.major, x.minor)) ⟦<ProtocolVersionParts as PartList<A>>⟧.rules) refl
+        ⟦<ProtocolVersion as PartialEq>⟧.eq (λ x y e. e) };
+
+    fn number() -> u32 {
+        0x420069
     }
-}
 
-impl<A: Allocator + Copy> reader::ReadStructure<A> for ProtocolVersion {
-    ghost form = { protocol_version_form };
-
-    ghost value = { protocol_version_value };
-
-    ghost TAG = { 0x420069 };
-
-    ghost DENIES_UNKNOWN = { true };
-
-    type Fields = (reader::Leaf<i32, 0x42006A>, reader::Leaf<i32, 0x42006B>);
-
-    const TAG: u32 = 0x420069;
-
-    const DENIES_UNKNOWN: bool = true;
-
-    fn has_form() {}
-
-    #[tactic(auto, unfolding(crate::specs::Headers::protocol_version_value))]
-    fn from_fields(fields: (i32, i32)) -> Self {
-        let (major, minor) = fields;
-        ProtocolVersion { major, minor }
+    fn read_nested<'b>(scope: &Scope<'b, A>, cursor: &mut Cursor<'b, A>) -> Step<Self, A> {
+        match read_parts::<ProtocolVersionParts, A>(scope, 0x420069, true, cursor) {
+            Ok(parts) => {
+                let (major, minor) = parts;
+                Ok(ProtocolVersion { major, minor })
+            }
+            Err(failure) => Err(failure),
+        }
     }
-}
 
-impl<A: Allocator + Copy> reader::ReadNested<A> for ProtocolVersion {
-    ghost form = { protocol_version_form };
+    fn visit_parts<V: Visitor>(&self, visitor: &mut V) -> Result<(), AllocError> {
+        visit_structure_two::<Leaf<i32, 0x42006A>, Leaf<i32, 0x42006B>, V, A>(
+            visitor,
+            0x420069,
+            &self.major,
+            &self.minor,
+        )
+    }
 
-    ghost value = { protocol_version_value };
-
-    ghost TAG = { 0x420069 };
+    fn is_whole(&self) -> bool {
+        are_whole_two::<Leaf<i32, 0x42006A>, Leaf<i32, 0x42006B>, A>(&self.major, &self.minor)
+    }
 
     ghost structured = { (refl, refl) };
-
-    const TAG: u32 = 0x420069;
-
-    fn read_nested<'b>(
-        scope: &reader::Scope<'b, A>,
-        cursor: &mut reader::Cursor<'b, A>,
-    ) -> reader::Step<Self, A> {
-        reader::read_structure(scope, cursor)
-    }
 }
 
 /// What a client proves who it is by (section 9.1.3.2.1).
@@ -97,62 +88,43 @@ pub struct UsernameAndPassword<A: Allocator = Global> {
     pub password: Option<String<A>>,
 }
 
-impl<B: Allocator> Serialize for UsernameAndPassword<B> {
-    ghost stated = { written_username_and_password };
+type UsernameAndPasswordParts<A> = (Leaf<String<A>, 0x420099>, MaybeLeaf<String<A>, 0x4200A1>);
 
-    fn visit<V: Visitor>(&self, visitor: &mut V) -> Result<(), AllocError> {
-        writing::begin_structure(visitor, 0x420025)?;
-        writing::string(visitor, 0x420099, &self.username)?;
-        writing::optional_text_string(visitor, 0x4200A1, &self.password)?;
-        writing::end_structure(visitor, 0x420025)?;
-        Ok(())
+impl<A: Allocator + Copy> Structure<A> for UsernameAndPassword<A> {
+    ghost item = { structure 0x420025 true (of (λ x. (x.username, x.password)) ⟦<UsernameAndPasswordParts<A> as PartList<A>>⟧.rules) refl
+        ⟦<UsernameAndPassword<A> as PartialEq>⟧.eq (λ x y e. e) };
+
+    fn number() -> u32 {
+        0x420025
     }
-}
 
-impl<A: Allocator + Copy> reader::ReadStructure<A> for UsernameAndPassword<A> {
-    ghost form = { username_and_password_form };
-
-    ghost value = { read_username_and_password };
-
-    ghost TAG = { 0x420025 };
-
-    ghost DENIES_UNKNOWN = { true };
-
-    type Fields = (
-        reader::Leaf<String<A>, 0x420099>,
-        reader::OptionalLeaf<String<A>, 0x4200A1>,
-    );
-
-    const TAG: u32 = 0x420025;
-
-    const DENIES_UNKNOWN: bool = true;
-
-    fn has_form() {}
-
-    #[tactic(auto, unfolding(crate::specs::Headers::read_username_and_password))]
-    fn from_fields(fields: (String<A>, Option<String<A>>)) -> Self {
-        let (username, password) = fields;
-        UsernameAndPassword { username, password }
+    fn read_nested<'b>(scope: &Scope<'b, A>, cursor: &mut Cursor<'b, A>) -> Step<Self, A> {
+        match read_parts::<UsernameAndPasswordParts<A>, A>(scope, 0x420025, true, cursor) {
+            Ok(parts) => {
+                let (username, password) = parts;
+                Ok(UsernameAndPassword { username, password })
+            }
+            Err(failure) => Err(failure),
+        }
     }
-}
 
-impl<A: Allocator + Copy> reader::ReadNested<A> for UsernameAndPassword<A> {
-    ghost form = { username_and_password_form };
+    fn visit_parts<V: Visitor>(&self, visitor: &mut V) -> Result<(), AllocError> {
+        visit_structure_two::<Leaf<String<A>, 0x420099>, MaybeLeaf<String<A>, 0x4200A1>, V, A>(
+            visitor,
+            0x420025,
+            &self.username,
+            &self.password,
+        )
+    }
 
-    ghost value = { read_username_and_password };
-
-    ghost TAG = { 0x420025 };
+    fn is_whole(&self) -> bool {
+        are_whole_two::<Leaf<String<A>, 0x420099>, MaybeLeaf<String<A>, 0x4200A1>, A>(
+            &self.username,
+            &self.password,
+        )
+    }
 
     ghost structured = { (refl, refl) };
-
-    const TAG: u32 = 0x420025;
-
-    fn read_nested<'b>(
-        scope: &reader::Scope<'b, A>,
-        cursor: &mut reader::Cursor<'b, A>,
-    ) -> reader::Step<Self, A> {
-        reader::read_structure(scope, cursor)
-    }
 }
 
 /// What a device knows of itself (KMIP 1.1, section 2.1.2).
@@ -173,93 +145,96 @@ pub struct Device<A: Allocator = Global> {
     pub media_identifier: Option<String<A>>,
 }
 
-impl<B: Allocator> Serialize for Device<B> {
-    ghost stated = { written_device };
+type DeviceParts<A> = Four<
+    MaybeLeaf<String<A>, 0x4200B0>,
+    MaybeLeaf<String<A>, 0x4200A1>,
+    MaybeLeaf<String<A>, 0x4200A2>,
+    MaybeLeaf<String<A>, 0x4200AB>,
+    (
+        MaybeLeaf<String<A>, 0x4200A9>,
+        MaybeLeaf<String<A>, 0x4200AA>,
+    ),
+>;
 
-    fn visit<V: Visitor>(&self, visitor: &mut V) -> Result<(), AllocError> {
+impl<A: Allocator + Copy> Structure<A> for Device<A> {
+    ghost item = { structure 0x420025 true (of (λ x. (x.device_serial_number, x.password, x.device_identifier, x.network_identifier, (x.machine_identifier, x.media_identifier))) ⟦<DeviceParts<A> as PartList<A>>⟧.rules) refl
+        ⟦<Device<A> as PartialEq>⟧.eq (λ x y e. e) };
+
+    fn number() -> u32 {
+        0x420025
+    }
+
+    fn read_nested<'b>(scope: &Scope<'b, A>, cursor: &mut Cursor<'b, A>) -> Step<Self, A> {
+        match read_parts::<DeviceParts<A>, A>(scope, 0x420025, true, cursor) {
+            Ok(parts) => {
+                let (
+                    device_serial_number,
+                    password,
+                    device_identifier,
+                    network_identifier,
+                    others,
+                ) = parts;
+                let (machine_identifier, media_identifier) = others;
+                Ok(Device {
+                    device_serial_number,
+                    password,
+                    device_identifier,
+                    network_identifier,
+                    machine_identifier,
+                    media_identifier,
+                })
+            }
+            Err(failure) => Err(failure),
+        }
+    }
+
+    fn visit_parts<V: Visitor>(&self, visitor: &mut V) -> Result<(), AllocError> {
         writing::begin_structure(visitor, 0x420025)?;
-        writing::optional_text_string(visitor, 0x4200B0, &self.device_serial_number)?;
-        writing::optional_text_string(visitor, 0x4200A1, &self.password)?;
-        writing::optional_text_string(visitor, 0x4200A2, &self.device_identifier)?;
-        writing::optional_text_string(visitor, 0x4200AB, &self.network_identifier)?;
-        writing::optional_text_string(visitor, 0x4200A9, &self.machine_identifier)?;
-        writing::optional_text_string(visitor, 0x4200AA, &self.media_identifier)?;
+        visit_four::<
+            MaybeLeaf<String<A>, 0x4200B0>,
+            MaybeLeaf<String<A>, 0x4200A1>,
+            MaybeLeaf<String<A>, 0x4200A2>,
+            MaybeLeaf<String<A>, 0x4200AB>,
+            V,
+            A,
+        >(
+            visitor,
+            &self.device_serial_number,
+            &self.password,
+            &self.device_identifier,
+            &self.network_identifier,
+        )?;
+        visit_two::<MaybeLeaf<String<A>, 0x4200A9>, MaybeLeaf<String<A>, 0x4200AA>, V, A>(
+            visitor,
+            &self.machine_identifier,
+            &self.media_identifier,
+        )?;
         writing::end_structure(visitor, 0x420025)?;
         Ok(())
     }
-}
 
-impl<A: Allocator + Copy> reader::ReadStructure<A> for Device<A> {
-    ghost form = { device_form };
-
-    ghost value = { read_device };
-
-    ghost TAG = { 0x420025 };
-
-    ghost DENIES_UNKNOWN = { true };
-
-    type Fields = reader::Four<
-        reader::OptionalLeaf<String<A>, 0x4200B0>,
-        reader::OptionalLeaf<String<A>, 0x4200A1>,
-        reader::OptionalLeaf<String<A>, 0x4200A2>,
-        reader::OptionalLeaf<String<A>, 0x4200AB>,
-        (
-            reader::OptionalLeaf<String<A>, 0x4200A9>,
-            reader::OptionalLeaf<String<A>, 0x4200AA>,
-        ),
-    >;
-
-    const TAG: u32 = 0x420025;
-
-    const DENIES_UNKNOWN: bool = true;
-
-    fn has_form() {}
-
-    #[tactic(auto, unfolding(crate::specs::Headers::read_device))]
-    fn from_fields(
-        fields: (
-            Option<String<A>>,
-            Option<String<A>>,
-            Option<String<A>>,
-            Option<String<A>>,
-            (Option<String<A>>, Option<String<A>>),
-        ),
-    ) -> Self {
-        let (
-            device_serial_number,
-            password,
-            device_identifier,
-            network_identifier,
-            (machine_identifier, media_identifier),
-        ) = fields;
-        Device {
-            device_serial_number,
-            password,
-            device_identifier,
-            network_identifier,
-            machine_identifier,
-            media_identifier,
-        }
+    fn is_whole(&self) -> bool {
+        let first_four = are_whole_four::<
+            MaybeLeaf<String<A>, 0x4200B0>,
+            MaybeLeaf<String<A>, 0x4200A1>,
+            MaybeLeaf<String<A>, 0x4200A2>,
+            MaybeLeaf<String<A>, 0x4200AB>,
+            A,
+        >(
+            &self.device_serial_number,
+            &self.password,
+            &self.device_identifier,
+            &self.network_identifier,
+        );
+        let others = are_whole_two::<
+            MaybeLeaf<String<A>, 0x4200A9>,
+            MaybeLeaf<String<A>, 0x4200AA>,
+            A,
+        >(&self.machine_identifier, &self.media_identifier);
+        both(first_four, others)
     }
-}
-
-impl<A: Allocator + Copy> reader::ReadNested<A> for Device<A> {
-    ghost form = { device_form };
-
-    ghost value = { read_device };
-
-    ghost TAG = { 0x420025 };
 
     ghost structured = { (refl, refl) };
-
-    const TAG: u32 = 0x420025;
-
-    fn read_nested<'b>(
-        scope: &reader::Scope<'b, A>,
-        cursor: &mut reader::Cursor<'b, A>,
-    ) -> reader::Step<Self, A> {
-        reader::read_structure(scope, cursor)
-    }
 }
 
 /// What a client says of itself.
@@ -294,22 +269,43 @@ impl<A: Allocator> CredentialValue<A> {
     }
 }
 
-impl<B: Allocator> Serialize for CredentialValue<B> {
-    ghost stated = { written_credential_value };
+impl<A: Allocator + Copy> Choice<A> for CredentialValue<A> {
+    ghost chosen = { credential_value_choice ⟦<CredentialValue<A> as PartialEq>⟧.eq record {
+      username_and_password = held ⟦<Of<UsernameAndPassword<A>> as Element<A>>⟧.rules refl refl (λ x y e. e);
+      device = held ⟦<Of<Device<A>> as Element<A>>⟧.rules refl refl (λ x y e. e);
+    } };
 
-    #[tactic(auto, unfolding(crate::specs::Headers::written_credential_value))]
-    fn visit<V: Visitor>(&self, visitor: &mut V) -> Result<(), AllocError> {
+    fn read_chosen<'b>(scope: &Scope<'b, A>, cursor: &mut Cursor<'b, A>) -> Step<Self, A> {
+        reader::read_choice(scope, cursor)
+    }
+
+    fn visit_chosen<V: Visitor>(&self, visitor: &mut V) -> Result<(), AllocError> {
         match self {
-            CredentialValue::UsernameAndPassword(inner) => inner.visit(visitor),
-            CredentialValue::Device(inner) => inner.visit(visitor),
+            CredentialValue::UsernameAndPassword(inner) => <Of<UsernameAndPassword<A>> as Element<
+                A,
+            >>::visit_one(inner, visitor),
+            CredentialValue::Device(inner) => <Of<Device<A>> as Element<A>>::visit_one(
+                inner, visitor,
+            ),
         }
     }
+
+    fn is_whole(&self) -> bool {
+        match self {
+            CredentialValue::UsernameAndPassword(inner) => <Of<UsernameAndPassword<A>> as Element<
+                A,
+            >>::is_whole(inner),
+            CredentialValue::Device(inner) => <Of<Device<A>> as Element<A>>::is_whole(inner),
+        }
+    }
+
+    ghost plain = { (refl, refl) };
 }
 
 /// The rule that chooses `CredentialValue::UsernameAndPassword`.
 pub struct CredentialValueUsernameAndPasswordRule;
 
-impl reader::Rule for CredentialValueUsernameAndPasswordRule {
+impl Rule for CredentialValueUsernameAndPasswordRule {
     ghost condition = { codes "0x420024==0x00000001" };
 
     fn name() -> &'static str {
@@ -317,20 +313,17 @@ impl reader::Rule for CredentialValueUsernameAndPasswordRule {
     }
 
     #[tactic(auto, unfolding(kmip_ttlv_reader::specs::RuleParts::parts_of))]
-    fn parts() -> Option<reader::RuleParts> {
-        Some(reader::RuleParts::Texts {
+    fn parts() -> Option<RuleParts> {
+        Some(RuleParts::Texts {
             tag: 0x420024,
             texts: &["0x00000001"],
         })
     }
 }
 
-impl<A: Allocator + Copy> reader::VariantOf<
-    reader::StructureElement<UsernameAndPassword<A>>,
-    CredentialValue<A>,
-    A,
-> for CredentialValueUsernameAndPasswordRule {
-    #[tactic(auto, unfolding(crate::specs::Headers::read_credential_value))]
+impl<A: Allocator + Copy> VariantOf<AsElement<Of<UsernameAndPassword<A>>>, CredentialValue<A>, A>
+    for CredentialValueUsernameAndPasswordRule {
+    #[tactic(auto, unfolding(crate::specs::Choices::credential_value_by))]
     fn from_content(inner: UsernameAndPassword<A>) -> CredentialValue<A> {
         CredentialValue::UsernameAndPassword(inner)
     }
@@ -339,7 +332,7 @@ impl<A: Allocator + Copy> reader::VariantOf<
 /// The rule that chooses `CredentialValue::Device`.
 pub struct CredentialValueDeviceRule;
 
-impl reader::Rule for CredentialValueDeviceRule {
+impl Rule for CredentialValueDeviceRule {
     ghost condition = { codes "0x420024==0x00000002" };
 
     fn name() -> &'static str {
@@ -347,61 +340,40 @@ impl reader::Rule for CredentialValueDeviceRule {
     }
 
     #[tactic(auto, unfolding(kmip_ttlv_reader::specs::RuleParts::parts_of))]
-    fn parts() -> Option<reader::RuleParts> {
-        Some(reader::RuleParts::Texts {
+    fn parts() -> Option<RuleParts> {
+        Some(RuleParts::Texts {
             tag: 0x420024,
             texts: &["0x00000002"],
         })
     }
 }
 
-impl<A: Allocator + Copy> reader::VariantOf<
-    reader::StructureElement<Device<A>>,
-    CredentialValue<A>,
-    A,
-> for CredentialValueDeviceRule {
-    #[tactic(auto, unfolding(crate::specs::Headers::read_credential_value))]
+impl<A: Allocator + Copy> VariantOf<AsElement<Of<Device<A>>>, CredentialValue<A>, A>
+    for CredentialValueDeviceRule {
+    #[tactic(auto, unfolding(crate::specs::Choices::credential_value_by))]
     fn from_content(inner: Device<A>) -> CredentialValue<A> {
         CredentialValue::Device(inner)
     }
 }
 
-impl<A: Allocator> reader::ChoiceValue for CredentialValue<A> {
+impl<A: Allocator + Copy> ChoiceValue for CredentialValue<A> {
     ghost own = { codes "credential" };
 
-    ghost value = { read_credential_value };
+    ghost value = { ⟦<CredentialValue<A> as Choice<A>>⟧.chosen.value };
 }
 
 impl<A: Allocator + Copy> reader::Choice<A> for CredentialValue<A> {
-    ghost form = { credential_value_form };
+    ghost form = { ⟦<CredentialValue<A> as Choice<A>>⟧.chosen.form };
 
     type Variants = (
-        reader::Variant<
-            CredentialValueUsernameAndPasswordRule,
-            reader::StructureElement<UsernameAndPassword<A>>,
-        >,
+        Variant<CredentialValueUsernameAndPasswordRule, AsElement<Of<UsernameAndPassword<A>>>>,
         (
-            reader::Variant<CredentialValueDeviceRule, reader::StructureElement<Device<A>>>,
+            Variant<CredentialValueDeviceRule, AsElement<Of<Device<A>>>>,
             (),
         ),
     );
 
     fn has_form() {}
-}
-
-impl<A: Allocator + Copy> reader::ReadItem<A> for CredentialValue<A> {
-    ghost form = { credential_value_form };
-
-    ghost value = { read_credential_value };
-
-    ghost plain = { (refl, refl) };
-
-    fn read_item<'b>(
-        scope: &reader::Scope<'b, A>,
-        cursor: &mut reader::Cursor<'b, A>,
-    ) -> reader::Step<Self, A> {
-        reader::read_choice(scope, cursor)
-    }
 }
 
 /// Who a client is (section 2.1.2).
@@ -414,66 +386,51 @@ pub struct Credential<A: Allocator = Global> {
     pub credential_value: CredentialValue<A>,
 }
 
-impl<B: Allocator> Serialize for Credential<B> {
-    ghost stated = { written_credential };
+type CredentialParts<A> = (One<CredentialType>, OneOf<CredentialValue<A>, 0x420025>);
 
-    #[tactic(auto, unfolding(crate::specs::Headers::written_credential))]
-    fn visit<V: Visitor>(&self, visitor: &mut V) -> Result<(), AllocError> {
-        writing::begin_structure(visitor, 0x420023)?;
-        self.credential_type.visit(visitor)?;
-        self.credential_value.visit(visitor)?;
-        writing::end_structure(visitor, 0x420023)?;
-        Ok(())
+impl<A: Allocator + Copy> Structure<A> for Credential<A> {
+    ghost item = { structure_where 0x420023 true (of (λ x. (x.credential_type, x.credential_value)) ⟦<CredentialParts<A> as PartList<A>>⟧.rules) refl
+        (λ x. ChoosesCredentialValueNumber x.credential_type.number x.credential_value) (λ x d. (tt, (credential_value_numbered x.credential_type.number x.credential_value d)))
+        ⟦<Credential<A> as PartialEq>⟧.eq (λ x y e. e) };
+
+    fn number() -> u32 {
+        0x420023
     }
-}
 
-impl<A: Allocator + Copy> reader::ReadStructure<A> for Credential<A> {
-    ghost form = { credential_form };
-
-    ghost value = { read_credential };
-
-    ghost TAG = { 0x420023 };
-
-    ghost DENIES_UNKNOWN = { true };
-
-    type Fields = (
-        reader::Item<CredentialType, 0x420024>,
-        reader::Item<CredentialValue<A>, 0x420025>,
-    );
-
-    const TAG: u32 = 0x420023;
-
-    const DENIES_UNKNOWN: bool = true;
-
-    fn has_form() {}
-
-    #[tactic(auto, unfolding(crate::specs::Headers::read_credential))]
-    fn from_fields(fields: (CredentialType, CredentialValue<A>)) -> Self {
-        let (credential_type, credential_value) = fields;
-        Credential {
-            credential_type,
-            credential_value,
+    fn read_nested<'b>(scope: &Scope<'b, A>, cursor: &mut Cursor<'b, A>) -> Step<Self, A> {
+        match read_parts::<CredentialParts<A>, A>(scope, 0x420023, true, cursor) {
+            Ok(parts) => {
+                let (credential_type, credential_value) = parts;
+                Ok(Credential {
+                    credential_type,
+                    credential_value,
+                })
+            }
+            Err(failure) => Err(failure),
         }
     }
-}
 
-impl<A: Allocator + Copy> reader::ReadNested<A> for Credential<A> {
-    ghost form = { credential_form };
+    fn visit_parts<V: Visitor>(&self, visitor: &mut V) -> Result<(), AllocError> {
+        visit_structure_two::<One<CredentialType>, OneOf<CredentialValue<A>, 0x420025>, V, A>(
+            visitor,
+            0x420023,
+            &self.credential_type,
+            &self.credential_value,
+        )
+    }
 
-    ghost value = { read_credential };
-
-    ghost TAG = { 0x420023 };
+    fn is_whole(&self) -> bool {
+        let parts = are_whole_two::<One<CredentialType>, OneOf<CredentialValue<A>, 0x420025>, A>(
+            &self.credential_type,
+            &self.credential_value,
+        );
+        let chosen = self
+            .credential_value
+            .is_chosen_by_number(self.credential_type.number);
+        both(parts, chosen)
+    }
 
     ghost structured = { (refl, refl) };
-
-    const TAG: u32 = 0x420023;
-
-    fn read_nested<'b>(
-        scope: &reader::Scope<'b, A>,
-        cursor: &mut reader::Cursor<'b, A>,
-    ) -> reader::Step<Self, A> {
-        reader::read_structure(scope, cursor)
-    }
 }
 
 /// Who a client is (section 6.6).
@@ -484,59 +441,39 @@ pub struct Authentication<A: Allocator = Global> {
     pub credentials: Vec<Credential<A>, A>,
 }
 
-impl<B: Allocator> Serialize for Authentication<B> {
-    ghost stated = { written_authentication };
+type AuthenticationParts<A> = Alone<Several<Of<Credential<A>>, 0x420023>>;
 
-    #[tactic(auto, unfolding(crate::specs::Headers::written_authentication))]
-    fn visit<V: Visitor>(&self, visitor: &mut V) -> Result<(), AllocError> {
-        writing::begin_structure(visitor, 0x42000C)?;
-        writing::several(visitor, &self.credentials)?;
-        writing::end_structure(visitor, 0x42000C)?;
-        Ok(())
+impl<A: Allocator + Copy> Structure<A> for Authentication<A> {
+    ghost item = { structure 0x42000C true (of (λ x. x.credentials) ⟦<AuthenticationParts<A> as PartList<A>>⟧.rules) refl
+        ⟦<Authentication<A> as PartialEq>⟧.eq (λ x y e. e) };
+
+    fn number() -> u32 {
+        0x42000C
     }
-}
 
-impl<A: Allocator + Copy> reader::ReadStructure<A> for Authentication<A> {
-    ghost form = { authentication_form };
-
-    ghost value = { read_authentication };
-
-    ghost TAG = { 0x42000C };
-
-    ghost DENIES_UNKNOWN = { true };
-
-    type Fields = (reader::Several<Credential<A>>,);
-
-    const TAG: u32 = 0x42000C;
-
-    const DENIES_UNKNOWN: bool = true;
-
-    fn has_form() {}
-
-    #[tactic(auto, unfolding(crate::specs::Headers::read_authentication))]
-    fn from_fields(fields: (Vec<Credential<A>, A>,)) -> Self {
-        let (credentials,) = fields;
-        Authentication { credentials }
+    fn read_nested<'b>(scope: &Scope<'b, A>, cursor: &mut Cursor<'b, A>) -> Step<Self, A> {
+        match read_parts::<AuthenticationParts<A>, A>(scope, 0x42000C, true, cursor) {
+            Ok(parts) => {
+                let credentials = parts;
+                Ok(Authentication { credentials })
+            }
+            Err(failure) => Err(failure),
+        }
     }
-}
 
-impl<A: Allocator + Copy> reader::ReadNested<A> for Authentication<A> {
-    ghost form = { authentication_form };
+    fn visit_parts<V: Visitor>(&self, visitor: &mut V) -> Result<(), AllocError> {
+        visit_structure_one::<Several<Of<Credential<A>>, 0x420023>, V, A>(
+            visitor,
+            0x42000C,
+            &self.credentials,
+        )
+    }
 
-    ghost value = { read_authentication };
-
-    ghost TAG = { 0x42000C };
+    fn is_whole(&self) -> bool {
+        are_whole_one::<Several<Of<Credential<A>>, 0x420023>, A>(&self.credentials)
+    }
 
     ghost structured = { (refl, refl) };
-
-    const TAG: u32 = 0x42000C;
-
-    fn read_nested<'b>(
-        scope: &reader::Scope<'b, A>,
-        cursor: &mut reader::Cursor<'b, A>,
-    ) -> reader::Step<Self, A> {
-        reader::read_structure(scope, cursor)
-    }
 }
 
 /// What a server does after an item that failed (section 9.1.3.2.29).
@@ -560,102 +497,6 @@ pub mod batch_error_continuation_option {
     };
 }
 
-/// How many bytes a response may have.
-#[derive(Clone, Copy, PartialEq, Eq)]
-pub struct MaximumResponseSize {
-    /// What it holds.
-    pub bytes: i32,
-}
-
-impl Serialize for MaximumResponseSize {
-    ghost stated = { maximum_response_size_value };
-
-    fn visit<V: Visitor>(&self, visitor: &mut V) -> Result<(), AllocError> {
-        writing::tagged(visitor, 0x420050, Leaf::I32(self.bytes))?;
-        Ok(())
-    }
-}
-
-impl<A: Allocator + Copy> reader::ReadItem<A> for MaximumResponseSize {
-    ghost form = { maximum_response_size_form };
-
-    ghost value = { maximum_response_size_value };
-
-    ghost plain = { (refl, refl) };
-
-    fn read_item<'b>(
-        scope: &reader::Scope<'b, A>,
-        cursor: &mut reader::Cursor<'b, A>,
-    ) -> reader::Step<Self, A> {
-        let bytes = cursor.wrapped_leaf(scope, 0x420050)?;
-        Ok(MaximumResponseSize { bytes })
-    }
-}
-
-/// When a message was made, in seconds since 1970.
-#[derive(Clone, Copy, PartialEq, Eq)]
-pub struct TimeStamp {
-    /// What it holds.
-    pub seconds: i64,
-}
-
-impl Serialize for TimeStamp {
-    ghost stated = { time_stamp_value };
-
-    fn visit<V: Visitor>(&self, visitor: &mut V) -> Result<(), AllocError> {
-        writing::tagged(visitor, 0x420092, Leaf::DateTime(self.seconds))?;
-        Ok(())
-    }
-}
-
-impl<A: Allocator + Copy> reader::ReadItem<A> for TimeStamp {
-    ghost form = { time_stamp_form };
-
-    ghost value = { time_stamp_value };
-
-    ghost plain = { (refl, refl) };
-
-    fn read_item<'b>(
-        scope: &reader::Scope<'b, A>,
-        cursor: &mut reader::Cursor<'b, A>,
-    ) -> reader::Step<Self, A> {
-        let seconds: reader::DateTime = cursor.wrapped_leaf(scope, 0x420092)?;
-        Ok(TimeStamp { seconds: seconds.0 })
-    }
-}
-
-/// How many items follow.
-#[derive(Clone, Copy, PartialEq, Eq)]
-pub struct BatchCount {
-    /// What it holds.
-    pub count: i32,
-}
-
-impl Serialize for BatchCount {
-    ghost stated = { batch_count_value };
-
-    fn visit<V: Visitor>(&self, visitor: &mut V) -> Result<(), AllocError> {
-        writing::tagged(visitor, 0x42000D, Leaf::I32(self.count))?;
-        Ok(())
-    }
-}
-
-impl<A: Allocator + Copy> reader::ReadItem<A> for BatchCount {
-    ghost form = { batch_count_form };
-
-    ghost value = { batch_count_value };
-
-    ghost plain = { (refl, refl) };
-
-    fn read_item<'b>(
-        scope: &reader::Scope<'b, A>,
-        cursor: &mut reader::Cursor<'b, A>,
-    ) -> reader::Step<Self, A> {
-        let count = cursor.wrapped_leaf(scope, 0x42000D)?;
-        Ok(BatchCount { count })
-    }
-}
-
 /// The header of a request (section 7.2).
 #[derive(Drop)]
 #[derive_where(PartialEq)]
@@ -663,7 +504,7 @@ pub struct RequestHeader<A: Allocator = Global> {
     /// The version of the request.
     pub version: ProtocolVersion,
     /// How many bytes the response may have.
-    pub maximum_response_size: Option<MaximumResponseSize>,
+    pub maximum_response_size: Option<i32>,
     /// Whether the client is able to poll for the response.
     pub asynchronous_indicator: Option<bool>,
     /// Who the client is.
@@ -673,109 +514,122 @@ pub struct RequestHeader<A: Allocator = Global> {
     /// Whether the items are to be processed in their order.
     pub batch_order_option: Option<bool>,
     /// When it was made.
-    pub time_stamp: Option<TimeStamp>,
+    pub time_stamp: Option<DateTime>,
     /// How many items follow.
-    pub batch_count: BatchCount,
+    pub batch_count: i32,
 }
 
-impl<B: Allocator> Serialize for RequestHeader<B> {
-    ghost stated = { written_request_header };
+type RequestHeaderParts<A> = Four<
+    One<Of<ProtocolVersion>>,
+    MaybeLeaf<i32, 0x420050>,
+    MaybeLeaf<bool, 0x420007>,
+    Maybe<Of<Authentication<A>>, 0x42000C>,
+    (
+        Maybe<BatchErrorContinuationOption, 0x42000E>,
+        MaybeLeaf<bool, 0x420010>,
+        MaybeLeaf<DateTime, 0x420092>,
+        Leaf<i32, 0x42000D>,
+    ),
+>;
 
-    fn visit<V: Visitor>(&self, visitor: &mut V) -> Result<(), AllocError> {
+impl<A: Allocator + Copy> Structure<A> for RequestHeader<A> {
+    ghost item = { structure 0x420077 true (of (λ x. (x.version, x.maximum_response_size, x.asynchronous_indicator, x.authentication, (x.batch_error_continuation_option, x.batch_order_option, x.time_stamp, x.batch_count))) ⟦<RequestHeaderParts<A> as PartList<A>>⟧.rules) refl
+        ⟦<RequestHeader<A> as PartialEq>⟧.eq (λ x y e. e) };
+
+    fn number() -> u32 {
+        0x420077
+    }
+
+    fn read_nested<'b>(scope: &Scope<'b, A>, cursor: &mut Cursor<'b, A>) -> Step<Self, A> {
+        match read_parts::<RequestHeaderParts<A>, A>(scope, 0x420077, true, cursor) {
+            Ok(parts) => {
+                let (
+                    version,
+                    maximum_response_size,
+                    asynchronous_indicator,
+                    authentication,
+                    others,
+                ) = parts;
+                let (batch_error_continuation_option, batch_order_option, time_stamp, batch_count) =
+                    others;
+                Ok(RequestHeader {
+                    version,
+                    maximum_response_size,
+                    asynchronous_indicator,
+                    authentication,
+                    batch_error_continuation_option,
+                    batch_order_option,
+                    time_stamp,
+                    batch_count,
+                })
+            }
+            Err(failure) => Err(failure),
+        }
+    }
+
+    fn visit_parts<V: Visitor>(&self, visitor: &mut V) -> Result<(), AllocError> {
         writing::begin_structure(visitor, 0x420077)?;
-        self.version.visit(visitor)?;
-        writing::option(visitor, &self.maximum_response_size)?;
-        writing::optional_boolean(visitor, 0x420007, &self.asynchronous_indicator)?;
-        writing::option(visitor, &self.authentication)?;
-        writing::option(visitor, &self.batch_error_continuation_option)?;
-        writing::optional_boolean(visitor, 0x420010, &self.batch_order_option)?;
-        writing::option(visitor, &self.time_stamp)?;
-        self.batch_count.visit(visitor)?;
+        visit_four::<
+            One<Of<ProtocolVersion>>,
+            MaybeLeaf<i32, 0x420050>,
+            MaybeLeaf<bool, 0x420007>,
+            Maybe<Of<Authentication<A>>, 0x42000C>,
+            V,
+            A,
+        >(
+            visitor,
+            &self.version,
+            &self.maximum_response_size,
+            &self.asynchronous_indicator,
+            &self.authentication,
+        )?;
+        visit_four::<
+            Maybe<BatchErrorContinuationOption, 0x42000E>,
+            MaybeLeaf<bool, 0x420010>,
+            MaybeLeaf<DateTime, 0x420092>,
+            Leaf<i32, 0x42000D>,
+            V,
+            A,
+        >(
+            visitor,
+            &self.batch_error_continuation_option,
+            &self.batch_order_option,
+            &self.time_stamp,
+            &self.batch_count,
+        )?;
         writing::end_structure(visitor, 0x420077)?;
         Ok(())
     }
-}
 
-impl<A: Allocator + Copy> reader::ReadStructure<A> for RequestHeader<A> {
-    ghost form = { request_header_form };
-
-    ghost value = { read_request_header };
-
-    ghost TAG = { 0x420077 };
-
-    ghost DENIES_UNKNOWN = { true };
-
-    type Fields = reader::Four<
-        reader::Nested<ProtocolVersion>,
-        reader::OptionalItem<MaximumResponseSize, 0x420050>,
-        reader::OptionalLeaf<bool, 0x420007>,
-        reader::OptionalNested<Authentication<A>>,
-        (
-            reader::OptionalItem<BatchErrorContinuationOption, 0x42000E>,
-            reader::OptionalLeaf<bool, 0x420010>,
-            reader::OptionalItem<TimeStamp, 0x420092>,
-            reader::Item<BatchCount, 0x42000D>,
-        ),
-    >;
-
-    const TAG: u32 = 0x420077;
-
-    const DENIES_UNKNOWN: bool = true;
-
-    fn has_form() {}
-
-    #[tactic(auto, unfolding(crate::specs::Headers::read_request_header))]
-    fn from_fields(
-        fields: (
-            ProtocolVersion,
-            Option<MaximumResponseSize>,
-            Option<bool>,
-            Option<Authentication<A>>,
-            (
-                Option<BatchErrorContinuationOption>,
-                Option<bool>,
-                Option<TimeStamp>,
-                BatchCount,
-            ),
-        ),
-    ) -> Self {
-        let (
-            version,
-            maximum_response_size,
-            asynchronous_indicator,
-            authentication,
-            (batch_error_continuation_option, batch_order_option, time_stamp, batch_count),
-        ) = fields;
-        RequestHeader {
-            version,
-            maximum_response_size,
-            asynchronous_indicator,
-            authentication,
-            batch_error_continuation_option,
-            batch_order_option,
-            time_stamp,
-            batch_count,
-        }
+    fn is_whole(&self) -> bool {
+        let first_four = are_whole_four::<
+            One<Of<ProtocolVersion>>,
+            MaybeLeaf<i32, 0x420050>,
+            MaybeLeaf<bool, 0x420007>,
+            Maybe<Of<Authentication<A>>, 0x42000C>,
+            A,
+        >(
+            &self.version,
+            &self.maximum_response_size,
+            &self.asynchronous_indicator,
+            &self.authentication,
+        );
+        let others = are_whole_four::<
+            Maybe<BatchErrorContinuationOption, 0x42000E>,
+            MaybeLeaf<bool, 0x420010>,
+            MaybeLeaf<DateTime, 0x420092>,
+            Leaf<i32, 0x42000D>,
+            A,
+        >(
+            &self.batch_error_continuation_option,
+            &self.batch_order_option,
+            &self.time_stamp,
+            &self.batch_count,
+        );
+        both(first_four, others)
     }
-}
-
-impl<A: Allocator + Copy> reader::ReadNested<A> for RequestHeader<A> {
-    ghost form = { request_header_form };
-
-    ghost value = { read_request_header };
-
-    ghost TAG = { 0x420077 };
 
     ghost structured = { (refl, refl) };
-
-    const TAG: u32 = 0x420077;
-
-    fn read_nested<'b>(
-        scope: &reader::Scope<'b, A>,
-        cursor: &mut reader::Cursor<'b, A>,
-    ) -> reader::Step<Self, A> {
-        reader::read_structure(scope, cursor)
-    }
 }
 
 /// The header of a response (section 7.2).
@@ -784,73 +638,65 @@ pub struct ResponseHeader {
     /// The version of the response.
     pub version: ProtocolVersion,
     /// When it was made, in seconds since 1970.
-    pub time_stamp: i64,
+    pub time_stamp: DateTime,
     /// How many items follow.
     pub batch_count: i32,
 }
 
-impl Serialize for ResponseHeader {
-    ghost stated = { response_header_value };
+type ResponseHeaderParts = (
+    One<Of<ProtocolVersion>>,
+    Leaf<DateTime, 0x420092>,
+    Leaf<i32, 0x42000D>,
+);
 
-    fn visit<V: Visitor>(&self, visitor: &mut V) -> Result<(), AllocError> {
-        writing::begin_structure(visitor, 0x42007A)?;
-        self.version.visit(visitor)?;
-        writing::tagged(visitor, 0x420092, Leaf::DateTime(self.time_stamp))?;
-        writing::tagged(visitor, 0x42000D, Leaf::I32(self.batch_count))?;
-        writing::end_structure(visitor, 0x42007A)?;
-        Ok(())
+impl<A: Allocator + Copy> Structure<A> for ResponseHeader {
+    ghost item = { structure 0x42007A true (of (λ x. (x.version, x.time_stamp, x.batch_count)) ⟦<ResponseHeaderParts as PartList<A>>⟧.rules) refl
+        ⟦<ResponseHeader as PartialEq>⟧.eq (λ x y e. e) };
+
+    fn number() -> u32 {
+        0x42007A
     }
-}
 
-impl<A: Allocator + Copy> reader::ReadStructure<A> for ResponseHeader {
-    ghost form = { response_header_form };
-
-    ghost value = { response_header_value };
-
-    ghost TAG = { 0x42007A };
-
-    ghost DENIES_UNKNOWN = { true };
-
-    type Fields = (
-        reader::Nested<ProtocolVersion>,
-        reader::Leaf<reader::DateTime, 0x420092>,
-        reader::Leaf<i32, 0x42000D>,
-    );
-
-    const TAG: u32 = 0x42007A;
-
-    const DENIES_UNKNOWN: bool = true;
-
-    fn has_form() {}
-
-    #[tactic(auto, unfolding(crate::specs::Headers::response_header_value))]
-    fn from_fields(fields: (ProtocolVersion, reader::DateTime, i32)) -> Self {
-        let (version, time_stamp, batch_count) = fields;
-        ResponseHeader {
-            version,
-            time_stamp: time_stamp.0,
-            batch_count,
+    fn read_nested<'b>(scope: &Scope<'b, A>, cursor: &mut Cursor<'b, A>) -> Step<Self, A> {
+        match read_parts::<ResponseHeaderParts, A>(scope, 0x42007A, true, cursor) {
+            Ok(parts) => {
+                let (version, time_stamp, batch_count) = parts;
+                Ok(ResponseHeader {
+                    version,
+                    time_stamp,
+                    batch_count,
+                })
+            }
+            Err(failure) => Err(failure),
         }
     }
-}
 
-impl<A: Allocator + Copy> reader::ReadNested<A> for ResponseHeader {
-    ghost form = { response_header_form };
+    fn visit_parts<V: Visitor>(&self, visitor: &mut V) -> Result<(), AllocError> {
+        visit_structure_three::<
+            One<Of<ProtocolVersion>>,
+            Leaf<DateTime, 0x420092>,
+            Leaf<i32, 0x42000D>,
+            V,
+            A,
+        >(
+            visitor,
+            0x42007A,
+            &self.version,
+            &self.time_stamp,
+            &self.batch_count,
+        )
+    }
 
-    ghost value = { response_header_value };
-
-    ghost TAG = { 0x42007A };
+    fn is_whole(&self) -> bool {
+        are_whole_three::<
+            One<Of<ProtocolVersion>>,
+            Leaf<DateTime, 0x420092>,
+            Leaf<i32, 0x42000D>,
+            A,
+        >(&self.version, &self.time_stamp, &self.batch_count)
+    }
 
     ghost structured = { (refl, refl) };
-
-    const TAG: u32 = 0x42007A;
-
-    fn read_nested<'b>(
-        scope: &reader::Scope<'b, A>,
-        cursor: &mut reader::Cursor<'b, A>,
-    ) -> reader::Step<Self, A> {
-        reader::read_structure(scope, cursor)
-    }
 }
 
 /// What an item asks for (section 9.1.3.2.26).
@@ -930,64 +776,44 @@ pub struct MessageExtension<A: Allocator = Global> {
     pub criticality_indicator: bool,
 }
 
-impl<B: Allocator> Serialize for MessageExtension<B> {
-    ghost stated = { message_extension_value };
+type MessageExtensionParts<A> = (Leaf<String<A>, 0x42009D>, Leaf<bool, 0x420026>);
 
-    #[tactic(auto, unfolding(crate::specs::Headers::message_extension_value))]
-    fn visit<V: Visitor>(&self, visitor: &mut V) -> Result<(), AllocError> {
-        writing::begin_structure(visitor, 0x420051)?;
-        writing::string(visitor, 0x42009D, &self.vendor_identification)?;
-        writing::tagged(visitor, 0x420026, Leaf::Bool(self.criticality_indicator))?;
-        writing::end_structure(visitor, 0x420051)?;
-        Ok(())
+impl<A: Allocator + Copy> Structure<A> for MessageExtension<A> {
+    ghost item = { structure 0x420051 false (of (λ x. (x.vendor_identification, x.criticality_indicator)) ⟦<MessageExtensionParts<A> as PartList<A>>⟧.rules) refl
+        ⟦<MessageExtension<A> as PartialEq>⟧.eq (λ x y e. e) };
+
+    fn number() -> u32 {
+        0x420051
     }
-}
 
-impl<A: Allocator + Copy> reader::ReadStructure<A> for MessageExtension<A> {
-    ghost form = { message_extension_form };
-
-    ghost value = { message_extension_value };
-
-    ghost TAG = { 0x420051 };
-
-    ghost DENIES_UNKNOWN = { false };
-
-    type Fields = (
-        reader::Leaf<String<A>, 0x42009D>,
-        reader::Leaf<bool, 0x420026>,
-    );
-
-    const TAG: u32 = 0x420051;
-
-    const DENIES_UNKNOWN: bool = false;
-
-    fn has_form() {}
-
-    #[tactic(auto, unfolding(crate::specs::Headers::message_extension_value))]
-    fn from_fields(fields: (String<A>, bool)) -> Self {
-        let (vendor_identification, criticality_indicator) = fields;
-        MessageExtension {
-            vendor_identification,
-            criticality_indicator,
+    fn read_nested<'b>(scope: &Scope<'b, A>, cursor: &mut Cursor<'b, A>) -> Step<Self, A> {
+        match read_parts::<MessageExtensionParts<A>, A>(scope, 0x420051, false, cursor) {
+            Ok(parts) => {
+                let (vendor_identification, criticality_indicator) = parts;
+                Ok(MessageExtension {
+                    vendor_identification,
+                    criticality_indicator,
+                })
+            }
+            Err(failure) => Err(failure),
         }
     }
-}
 
-impl<A: Allocator + Copy> reader::ReadNested<A> for MessageExtension<A> {
-    ghost form = { message_extension_form };
+    fn visit_parts<V: Visitor>(&self, visitor: &mut V) -> Result<(), AllocError> {
+        visit_structure_two::<Leaf<String<A>, 0x42009D>, Leaf<bool, 0x420026>, V, A>(
+            visitor,
+            0x420051,
+            &self.vendor_identification,
+            &self.criticality_indicator,
+        )
+    }
 
-    ghost value = { message_extension_value };
-
-    ghost TAG = { 0x420051 };
+    fn is_whole(&self) -> bool {
+        are_whole_two::<Leaf<String<A>, 0x42009D>, Leaf<bool, 0x420026>, A>(
+            &self.vendor_identification,
+            &self.criticality_indicator,
+        )
+    }
 
     ghost structured = { (refl, refl) };
-
-    const TAG: u32 = 0x420051;
-
-    fn read_nested<'b>(
-        scope: &reader::Scope<'b, A>,
-        cursor: &mut reader::Cursor<'b, A>,
-    ) -> reader::Step<Self, A> {
-        reader::read_structure(scope, cursor)
-    }
 }

@@ -1,7 +1,6 @@
 //! What KMIP's messages begin with (KMIP 1.0, section 6): versions, credentials, the headers of requests and responses, and the
-//! operations. `codegen/codegen` writes `header` and `laws` of `types.table`; by hand is `request_header`.
+//! operations. `codegen/codegen` writes `header` of `types.table`; by hand is `request_header`.
 #![tactic(auto)]
 
 pub mod header;
-pub mod laws;
 pub mod request_header;

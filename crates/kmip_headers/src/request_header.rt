@@ -2,14 +2,14 @@
 
 ghost use Rattle.std.specs.Prelude.{◌≡◌, None};
 
-use crate::header::{BatchCount, ProtocolVersion, RequestHeader};
+use crate::header::{ProtocolVersion, RequestHeader};
 use std::alloc::Allocator;
 
 impl<A: Allocator> RequestHeader<A> {
     /// The header of a request of this version with so many items, without any field that may be absent (KMIP 1.0, section 7.2).
     pub fn new(version: ProtocolVersion, items: i32) -> RequestHeader<A>
         ensures version { result.version ≡ version }
-        ensures items { result.batch_count.count ≡ items }
+        ensures items { result.batch_count ≡ items }
         ensures size { result.maximum_response_size ≡ None }
         ensures asynchronous { result.asynchronous_indicator ≡ None }
         ensures authentication { result.authentication ≡ None }
@@ -25,7 +25,7 @@ impl<A: Allocator> RequestHeader<A> {
             batch_error_continuation_option: None,
             batch_order_option: None,
             time_stamp: None,
-            batch_count: BatchCount { count: items },
+            batch_count: items,
         }
     }
 }

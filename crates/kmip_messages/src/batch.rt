@@ -1,14 +1,12 @@
 //! Items of requests in few words, whether a message says how many items it has, and whether its parts agree.
 
-ghost use Rattle.std.specs.Prelude.{◌≡◌, ◌↔◌, IsTrue, None, pos};
-ghost use Rattle.kmip_messages.specs.Soundness.{IsRequest, IsResponse};
-ghost use Rattle.kmip_messages.specs.Batches.{IsConsistentRequest, IsConsistentResponse};
+ghost use Rattle.std.specs.Prelude.{◌≡◌, ◌↔◌, IsTrue, None, length, pos};
 
 use crate::request::{Request, RequestItem};
 use crate::response::Response;
 use kmip_headers::header::Operation;
 use kmip_requests::request_payload::RequestPayload;
-use kmip_ttlv::laws::Sound;
+use kmip_ttlv_kinds::Structure;
 use std::alloc::Allocator;
 
 impl<A: Allocator> RequestItem<A> {
@@ -38,22 +36,36 @@ fn is_count(count: i32, items: usize) -> bool
     }
 }
 
-impl<A: Allocator> Request<A> {
-    /// Whether the request is sound, so each item has the payload of its operation, and its Batch Count is the number of
-    /// its items (KMIP 1.0, section 6.14).
-    pub fn is_consistent(&self) -> bool
-        ensures { IsTrue result ↔ IsConsistentRequest self.now }
+/// A message of items, whose header says how many they are.
+pub trait Batch<A: Allocator + Copy>: Structure<A> {
+    // The Batch Count is the number of items.
+    ghost IsCounted: { Self → Type 0 };
+
+    /// Whether the Batch Count is the number of items (KMIP 1.0, section 6.14).
+    fn is_counted(&self) -> bool
+        ensures { IsTrue result ↔ IsCounted self.now };
+
+    /// Whether the message is sound, so each item has the payload of its operation (in a response, if it has one), and its Batch Count
+    /// is the number of its items.
+    fn is_consistent(&self) -> bool
+        ensures { IsTrue result ↔ (Self.Structure.item.rules.IsSound self.now × IsCounted self.now) }
     {
-        self.is_sound() && is_count(self.header.batch_count.count, self.items.len())
+        self.is_whole() && self.is_counted()
     }
 }
 
-impl<A: Allocator> Response<A> {
-    /// Whether the response is sound, so each item has the payload of its operation, if it has one, and its Batch Count is the
-    /// number of its items (KMIP 1.0, section 6.14).
-    pub fn is_consistent(&self) -> bool
-        ensures { IsTrue result ↔ IsConsistentResponse self.now }
-    {
-        self.is_sound() && is_count(self.header.batch_count, self.items.len())
+impl<A: Allocator + Copy> Batch<A> for Request<A> {
+    ghost IsCounted = { λ x. x.header.batch_count ≡ pos (length x.items.items) };
+
+    fn is_counted(&self) -> bool {
+        is_count(self.header.batch_count, self.items.len())
+    }
+}
+
+impl<A: Allocator + Copy> Batch<A> for Response<A> {
+    ghost IsCounted = { λ x. x.header.batch_count ≡ pos (length x.items.items) };
+
+    fn is_counted(&self) -> bool {
+        is_count(self.header.batch_count, self.items.len())
     }
 }

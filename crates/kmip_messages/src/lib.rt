@@ -6,7 +6,7 @@
 //! `response_payload` what an item asks for and what became of it, `template` what objects are made with, `object` what a
 //! server keeps, `key` what a key is, `attribute`, `structures` and `values` what is known of one.
 //!
-//! `codegen/codegen` writes `request`, `response` and `laws` of `types.table`; by hand is `batch`. What is decoded is encoded as
+//! `codegen/codegen` writes `request` and `response` of `types.table`; by hand are `batch` and `laws`. What is decoded is encoded as
 //! the same canonical bytes, save for a Vendor Extension, which is ignored; any other item that the tables don't name is an
 //! error.
 #![tactic(auto)]

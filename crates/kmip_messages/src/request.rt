@@ -2,14 +2,21 @@
 //! A request: what its items ask for (KMIP 1.0, section 7).
 
 ghost use Rattle.std.specs.Prelude.{◌≡◌, refl, true};
-ghost use Rattle.kmip_messages.specs.Requests.{request_item_form, written_request_item, read_request_item, request_form, written_request, read_request};
+ghost use Rattle.kmip_ttlv_kinds.specs.Parts.{of, structure, structure_where};
+ghost use Rattle.kmip_requests.specs.Choices.{ChoosesRequestPayloadNumber, request_payload_numbered};
 
 use kmip_headers::header::{MessageExtension, Operation, RequestHeader};
 use kmip_requests::request_payload::RequestPayload;
-use kmip_ttlv::messages::writing;
+use kmip_ttlv::error::Error;
+use kmip_ttlv::laws::{Message, Sound};
 use kmip_ttlv::shape::{Decode, Serialize};
-use kmip_ttlv::visit::Visitor;
-use kmip_ttlv::{error, reader};
+use kmip_ttlv_kinds::{
+    Maybe, MaybeLeaf, Of, One, OneOf, PartList, Several, Structure, are_whole_four, are_whole_two,
+    both, read_message_parts, read_parts, structures_come_back, visit_structure_four,
+    visit_structure_two,
+};
+use kmip_ttlv_parts::reader::{Cursor, Scope, Step};
+use kmip_ttlv_parts::visit::Visitor;
 use std::alloc::{AllocError, Allocator, Global};
 
 /// One thing that is asked for (section 7.2).
@@ -26,78 +33,73 @@ pub struct RequestItem<A: Allocator = Global> {
     pub message_extension: Option<MessageExtension<A>>,
 }
 
-impl<B: Allocator> Serialize for RequestItem<B> {
-    ghost stated = { written_request_item };
+type RequestItemParts<A> = (
+    One<Operation>,
+    MaybeLeaf<Vec<u8, A>, 0x420093>,
+    OneOf<RequestPayload<A>, 0x420079>,
+    Maybe<Of<MessageExtension<A>>, 0x420051>,
+);
 
-    fn visit<V: Visitor>(&self, visitor: &mut V) -> Result<(), AllocError> {
-        writing::begin_structure(visitor, 0x42000F)?;
-        self.operation.visit(visitor)?;
-        writing::optional_byte_string(visitor, 0x420093, &self.unique_batch_item_id)?;
-        self.payload.visit(visitor)?;
-        writing::option(visitor, &self.message_extension)?;
-        writing::end_structure(visitor, 0x42000F)?;
-        Ok(())
+impl<A: Allocator + Copy> Structure<A> for RequestItem<A> {
+    ghost item = { structure_where 0x42000F true (of (λ x. (x.operation, x.unique_batch_item_id, x.payload, x.message_extension)) ⟦<RequestItemParts<A> as PartList<A>>⟧.rules) refl
+        (λ x. ChoosesRequestPayloadNumber x.operation.number x.payload) (λ x d. (tt, (tt, (request_payload_numbered x.operation.number x.payload d, (tt)))))
+        ⟦<RequestItem<A> as PartialEq>⟧.eq (λ x y e. e) };
+
+    fn number() -> u32 {
+        0x42000F
     }
-}
 
-impl<A: Allocator + Copy> reader::ReadStructure<A> for RequestItem<A> {
-    ghost form = { request_item_form };
-
-    ghost value = { read_request_item };
-
-    ghost TAG = { 0x42000F };
-
-    ghost DENIES_UNKNOWN = { true };
-
-    type Fields = (
-        reader::Item<Operation, 0x42005C>,
-        reader::OptionalLeaf<Vec<u8, A>, 0x420093>,
-        reader::Item<RequestPayload<A>, 0x420079>,
-        reader::OptionalNested<MessageExtension<A>>,
-    );
-
-    const TAG: u32 = 0x42000F;
-
-    const DENIES_UNKNOWN: bool = true;
-
-    fn has_form() {}
-
-    #[tactic(auto, unfolding(crate::specs::Requests::read_request_item))]
-    fn from_fields(
-        fields: (
-            Operation,
-            Option<Vec<u8, A>>,
-            RequestPayload<A>,
-            Option<MessageExtension<A>>,
-        ),
-    ) -> Self {
-        let (operation, unique_batch_item_id, payload, message_extension) = fields;
-        RequestItem {
-            operation,
-            unique_batch_item_id,
-            payload,
-            message_extension,
+    fn read_nested<'b>(scope: &Scope<'b, A>, cursor: &mut Cursor<'b, A>) -> Step<Self, A> {
+        match read_parts::<RequestItemParts<A>, A>(scope, 0x42000F, true, cursor) {
+            Ok(parts) => {
+                let (operation, unique_batch_item_id, payload, message_extension) = parts;
+                Ok(RequestItem {
+                    operation,
+                    unique_batch_item_id,
+                    payload,
+                    message_extension,
+                })
+            }
+            Err(failure) => Err(failure),
         }
     }
-}
 
-impl<A: Allocator + Copy> reader::ReadNested<A> for RequestItem<A> {
-    ghost form = { request_item_form };
+    fn visit_parts<V: Visitor>(&self, visitor: &mut V) -> Result<(), AllocError> {
+        visit_structure_four::<
+            One<Operation>,
+            MaybeLeaf<Vec<u8, A>, 0x420093>,
+            OneOf<RequestPayload<A>, 0x420079>,
+            Maybe<Of<MessageExtension<A>>, 0x420051>,
+            V,
+            A,
+        >(
+            visitor,
+            0x42000F,
+            &self.operation,
+            &self.unique_batch_item_id,
+            &self.payload,
+            &self.message_extension,
+        )
+    }
 
-    ghost value = { read_request_item };
-
-    ghost TAG = { 0x42000F };
+    fn is_whole(&self) -> bool {
+        let parts = are_whole_four::<
+            One<Operation>,
+            MaybeLeaf<Vec<u8, A>, 0x420093>,
+            OneOf<RequestPayload<A>, 0x420079>,
+            Maybe<Of<MessageExtension<A>>, 0x420051>,
+            A,
+        >(
+            &self.operation,
+            &self.unique_batch_item_id,
+            &self.payload,
+            &self.message_extension,
+        );
+        let chosen = self.payload.is_chosen_by_number(self.operation.number);
+        both(parts, chosen)
+    }
 
     ghost structured = { (refl, refl) };
-
-    const TAG: u32 = 0x42000F;
-
-    fn read_nested<'b>(
-        scope: &reader::Scope<'b, A>,
-        cursor: &mut reader::Cursor<'b, A>,
-    ) -> reader::Step<Self, A> {
-        reader::read_structure(scope, cursor)
-    }
 }
 
 /// A request (section 7.1).
@@ -110,52 +112,82 @@ pub struct Request<A: Allocator = Global> {
     pub items: Vec<RequestItem<A>, A>,
 }
 
-impl<B: Allocator> Serialize for Request<B> {
-    ghost stated = { written_request };
+type RequestParts<A> = (
+    One<Of<RequestHeader<A>>>,
+    Several<Of<RequestItem<A>>, 0x42000F>,
+);
 
-    #[tactic(auto, unfolding(crate::specs::Requests::written_request))]
-    fn visit<V: Visitor>(&self, visitor: &mut V) -> Result<(), AllocError> {
-        writing::begin_structure(visitor, 0x420078)?;
-        self.header.visit(visitor)?;
-        writing::several(visitor, &self.items)?;
-        writing::end_structure(visitor, 0x420078)?;
-        Ok(())
+impl<A: Allocator + Copy> Structure<A> for Request<A> {
+    ghost item = { structure 0x420078 true (of (λ x. (x.header, x.items)) ⟦<RequestParts<A> as PartList<A>>⟧.rules) refl
+        ⟦<Request<A> as PartialEq>⟧.eq (λ x y e. e) };
+
+    fn number() -> u32 {
+        0x420078
     }
+
+    fn read_nested<'b>(scope: &Scope<'b, A>, cursor: &mut Cursor<'b, A>) -> Step<Self, A> {
+        match read_parts::<RequestParts<A>, A>(scope, 0x420078, true, cursor) {
+            Ok(parts) => {
+                let (header, items) = parts;
+                Ok(Request { header, items })
+            }
+            Err(failure) => Err(failure),
+        }
+    }
+
+    fn visit_parts<V: Visitor>(&self, visitor: &mut V) -> Result<(), AllocError> {
+        visit_structure_two::<
+            One<Of<RequestHeader<A>>>,
+            Several<Of<RequestItem<A>>, 0x42000F>,
+            V,
+            A,
+        >(visitor, 0x420078, &self.header, &self.items)
+    }
+
+    fn is_whole(&self) -> bool {
+        are_whole_two::<One<Of<RequestHeader<A>>>, Several<Of<RequestItem<A>>, 0x42000F>, A>(
+            &self.header,
+            &self.items,
+        )
+    }
+
+    ghost structured = { (refl, refl) };
 }
 
-impl<A: Allocator + Copy> reader::ReadStructure<A> for Request<A> {
-    ghost form = { request_form };
+impl<A: Allocator + Copy> Serialize for Request<A> {
+    ghost stated = { ⟦<Request<A> as Structure<A>>⟧.item.rules.written };
 
-    ghost value = { read_request };
-
-    ghost TAG = { 0x420078 };
-
-    ghost DENIES_UNKNOWN = { true };
-
-    type Fields = (
-        reader::Nested<RequestHeader<A>>,
-        reader::Several<RequestItem<A>>,
-    );
-
-    const TAG: u32 = 0x420078;
-
-    const DENIES_UNKNOWN: bool = true;
-
-    fn has_form() {}
-
-    #[tactic(auto, unfolding(crate::specs::Requests::read_request))]
-    fn from_fields(fields: (RequestHeader<A>, Vec<RequestItem<A>, A>)) -> Self {
-        let (header, items) = fields;
-        Request { header, items }
+    fn visit<V: Visitor>(&self, visitor: &mut V) -> Result<(), AllocError> {
+        <Request<A> as Structure<A>>::visit_parts(self, visitor)
     }
 }
 
 impl<A: Allocator + Copy> Decode<A> for Request<A> {
-    ghost form = { request_form };
+    ghost form = { ⟦<Request<A> as Structure<A>>⟧.item.form };
 
-    ghost is_value = { λ v x. v ≡ read_request x };
+    ghost is_value = { λ v x. v ≡ ⟦<Request<A> as Structure<A>>⟧.item.value x };
 
-    fn decode(alloc: A, bytes: &[u8]) -> Result<Self, error::Error<A>> {
-        reader::read_message(alloc, bytes)
+    fn decode(alloc: A, bytes: &[u8]) -> Result<Self, Error<A>> {
+        match read_message_parts::<RequestParts<A>, A>(alloc, 0x420078, true, bytes) {
+            Ok(parts) => {
+                let (header, items) = parts;
+                Ok(Request { header, items })
+            }
+            Err(error) => Err(error),
+        }
+    }
+}
+
+impl<A: Allocator + Copy> Sound for Request<A> {
+    ghost IsSound = { ⟦<Request<A> as Structure<A>>⟧.item.rules.IsSound };
+
+    fn is_sound(&self) -> bool {
+        <Request<A> as Structure<A>>::is_whole(self)
+    }
+}
+
+impl<A: Allocator + Copy> Message<A> for Request<A> {
+    fn comes_back() {
+        structures_come_back::<Request<A>, A>();
     }
 }

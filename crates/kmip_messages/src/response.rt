@@ -1,15 +1,25 @@
 // Written by codegen from types.table: change that, and run codegen/codegen.
 //! A response: what became of each item (KMIP 1.0, section 7).
 
-ghost use Rattle.std.specs.Prelude.{◌≡◌, refl, true};
-ghost use Rattle.kmip_messages.specs.Responses.{response_item_form, written_response_item, read_response_item, response_form, written_response, read_response};
+ghost use Rattle.std.specs.Prelude.{◌≡◌, ◌↔◌, ◌+◌, None, IfSome, IsTrue, Some, false, refl, true};
+ghost use Rattle.std.specs.Option.{IsSomeAnd};
+ghost use Rattle.kmip_ttlv_kinds.specs.Parts.{of, structure, structure_where};
+ghost use Rattle.kmip_responses.specs.Choices.{ChoosesResponsePayloadNumber, response_payload_numbered_where};
 
 use kmip_headers::header::{MessageExtension, Operation, ResponseHeader};
 use kmip_responses::response_payload::ResponsePayload;
-use kmip_ttlv::messages::writing;
+use kmip_ttlv::error::Error;
+use kmip_ttlv::laws::{Message, Sound};
 use kmip_ttlv::shape::{Decode, Serialize};
-use kmip_ttlv::visit::Visitor;
-use kmip_ttlv::{Enumeration, error, reader};
+use kmip_ttlv_kinds::{
+    Four, Maybe, MaybeLeaf, MaybeOneOf, Of, One, PartList, Several, Structure, are_whole_four,
+    are_whole_two, both, read_message_parts, read_parts, structures_come_back, visit_four,
+    visit_structure_two,
+};
+use kmip_ttlv_parts::Enumeration;
+use kmip_ttlv_parts::messages::writing;
+use kmip_ttlv_parts::reader::{Cursor, Scope, Step};
+use kmip_ttlv_parts::visit::Visitor;
 use std::alloc::{AllocError, Allocator, Global};
 
 /// What became of an operation (section 9.1.3.2.27).
@@ -100,104 +110,127 @@ pub struct ResponseItem<A: Allocator = Global> {
     pub message_extension: Option<MessageExtension<A>>,
 }
 
-impl<B: Allocator> Serialize for ResponseItem<B> {
-    ghost stated = { written_response_item };
-
-    fn visit<V: Visitor>(&self, visitor: &mut V) -> Result<(), AllocError> {
-        writing::begin_structure(visitor, 0x42000F)?;
-        writing::option(visitor, &self.operation)?;
-        writing::optional_byte_string(visitor, 0x420093, &self.unique_batch_item_id)?;
-        self.result_status.visit(visitor)?;
-        writing::option(visitor, &self.result_reason)?;
-        writing::optional_text_string(visitor, 0x42007D, &self.result_message)?;
-        writing::optional_byte_string(visitor, 0x420006, &self.asynchronous_correlation_value)?;
-        writing::option(visitor, &self.payload)?;
-        writing::option(visitor, &self.message_extension)?;
-        writing::end_structure(visitor, 0x42000F)?;
-        Ok(())
-    }
-}
-
-impl<A: Allocator + Copy> reader::ReadStructure<A> for ResponseItem<A> {
-    ghost form = { response_item_form };
-
-    ghost value = { read_response_item };
-
-    ghost TAG = { 0x42000F };
-
-    ghost DENIES_UNKNOWN = { true };
-
-    type Fields = reader::Four<
-        reader::OptionalItem<Operation, 0x42005C>,
-        reader::OptionalLeaf<Vec<u8, A>, 0x420093>,
-        reader::Item<ResultStatus, 0x42007F>,
-        reader::OptionalItem<ResultReason, 0x42007E>,
-        (
-            reader::OptionalLeaf<String<A>, 0x42007D>,
-            reader::OptionalLeaf<Vec<u8, A>, 0x420006>,
-            reader::OptionalItem<ResponsePayload<A>, 0x42007C>,
-            reader::OptionalNested<MessageExtension<A>>,
-        ),
-    >;
-
-    const TAG: u32 = 0x42000F;
-
-    const DENIES_UNKNOWN: bool = true;
-
-    fn has_form() {}
-
-    #[tactic(auto, unfolding(crate::specs::Responses::read_response_item))]
-    fn from_fields(
-        fields: (
-            Option<Operation>,
-            Option<Vec<u8, A>>,
-            ResultStatus,
-            Option<ResultReason>,
-            (
-                Option<String<A>>,
-                Option<Vec<u8, A>>,
-                Option<ResponsePayload<A>>,
-                Option<MessageExtension<A>>,
-            ),
-        ),
-    ) -> Self {
-        let (
-            operation,
-            unique_batch_item_id,
-            result_status,
-            result_reason,
-            (result_message, asynchronous_correlation_value, payload, message_extension),
-        ) = fields;
-        ResponseItem {
-            operation,
-            unique_batch_item_id,
-            result_status,
-            result_reason,
-            result_message,
-            asynchronous_correlation_value,
-            payload,
-            message_extension,
+impl<A: Allocator> ResponseItem<A> {
+    // Whether `operation` chooses `payload`, if that is there.
+    fn is_payload_chosen(&self) -> bool
+        ensures { IsTrue result ↔ IfSome self.now.payload (λ y. IsSomeAnd self.now.operation (λ z. ChoosesResponsePayloadNumber z.number y)) }
+    {
+        match (&self.operation, &self.payload) {
+            (Some(said), Some(inner)) => inner.is_chosen_by_number(said.number),
+            (None, Some(_)) => false,
+            (_, None) => true,
         }
     }
 }
 
-impl<A: Allocator + Copy> reader::ReadNested<A> for ResponseItem<A> {
-    ghost form = { response_item_form };
+type ResponseItemParts<A> = Four<
+    Maybe<Operation, 0x42005C>,
+    MaybeLeaf<Vec<u8, A>, 0x420093>,
+    One<ResultStatus>,
+    Maybe<ResultReason, 0x42007E>,
+    (
+        MaybeLeaf<String<A>, 0x42007D>,
+        MaybeLeaf<Vec<u8, A>, 0x420006>,
+        MaybeOneOf<ResponsePayload<A>, 0x42007C>,
+        Maybe<Of<MessageExtension<A>>, 0x420051>,
+    ),
+>;
 
-    ghost value = { read_response_item };
+impl<A: Allocator + Copy> Structure<A> for ResponseItem<A> {
+    ghost item = { structure_where 0x42000F true (of (λ x. (x.operation, x.unique_batch_item_id, x.result_status, x.result_reason, (x.result_message, x.asynchronous_correlation_value, x.payload, x.message_extension))) ⟦<ResponseItemParts<A> as PartList<A>>⟧.rules) refl
+        (λ x. IfSome x.payload (λ y. IsSomeAnd x.operation (λ z. ChoosesResponsePayloadNumber z.number y))) (λ x d. (tt, (tt, (tt, (tt, (tt, (tt, (response_payload_numbered_where x.operation x.payload d, (tt)))))))))
+        ⟦<ResponseItem<A> as PartialEq>⟧.eq (λ x y e. e) };
 
-    ghost TAG = { 0x42000F };
+    fn number() -> u32 {
+        0x42000F
+    }
+
+    fn read_nested<'b>(scope: &Scope<'b, A>, cursor: &mut Cursor<'b, A>) -> Step<Self, A> {
+        match read_parts::<ResponseItemParts<A>, A>(scope, 0x42000F, true, cursor) {
+            Ok(parts) => {
+                let (operation, unique_batch_item_id, result_status, result_reason, others) = parts;
+                let (result_message, asynchronous_correlation_value, payload, message_extension) =
+                    others;
+                Ok(ResponseItem {
+                    operation,
+                    unique_batch_item_id,
+                    result_status,
+                    result_reason,
+                    result_message,
+                    asynchronous_correlation_value,
+                    payload,
+                    message_extension,
+                })
+            }
+            Err(failure) => Err(failure),
+        }
+    }
+
+    fn visit_parts<V: Visitor>(&self, visitor: &mut V) -> Result<(), AllocError> {
+        writing::begin_structure(visitor, 0x42000F)?;
+        visit_four::<
+            Maybe<Operation, 0x42005C>,
+            MaybeLeaf<Vec<u8, A>, 0x420093>,
+            One<ResultStatus>,
+            Maybe<ResultReason, 0x42007E>,
+            V,
+            A,
+        >(
+            visitor,
+            &self.operation,
+            &self.unique_batch_item_id,
+            &self.result_status,
+            &self.result_reason,
+        )?;
+        visit_four::<
+            MaybeLeaf<String<A>, 0x42007D>,
+            MaybeLeaf<Vec<u8, A>, 0x420006>,
+            MaybeOneOf<ResponsePayload<A>, 0x42007C>,
+            Maybe<Of<MessageExtension<A>>, 0x420051>,
+            V,
+            A,
+        >(
+            visitor,
+            &self.result_message,
+            &self.asynchronous_correlation_value,
+            &self.payload,
+            &self.message_extension,
+        )?;
+        writing::end_structure(visitor, 0x42000F)?;
+        Ok(())
+    }
+
+    fn is_whole(&self) -> bool {
+        let first_four = are_whole_four::<
+            Maybe<Operation, 0x42005C>,
+            MaybeLeaf<Vec<u8, A>, 0x420093>,
+            One<ResultStatus>,
+            Maybe<ResultReason, 0x42007E>,
+            A,
+        >(
+            &self.operation,
+            &self.unique_batch_item_id,
+            &self.result_status,
+            &self.result_reason,
+        );
+        let others = are_whole_four::<
+            MaybeLeaf<String<A>, 0x42007D>,
+            MaybeLeaf<Vec<u8, A>, 0x420006>,
+            MaybeOneOf<ResponsePayload<A>, 0x42007C>,
+            Maybe<Of<MessageExtension<A>>, 0x420051>,
+            A,
+        >(
+            &self.result_message,
+            &self.asynchronous_correlation_value,
+            &self.payload,
+            &self.message_extension,
+        );
+        let parts = both(first_four, others);
+        let chosen = self.is_payload_chosen();
+        both(parts, chosen)
+    }
 
     ghost structured = { (refl, refl) };
-
-    const TAG: u32 = 0x42000F;
-
-    fn read_nested<'b>(
-        scope: &reader::Scope<'b, A>,
-        cursor: &mut reader::Cursor<'b, A>,
-    ) -> reader::Step<Self, A> {
-        reader::read_structure(scope, cursor)
-    }
 }
 
 /// A response (section 7.1).
@@ -210,52 +243,82 @@ pub struct Response<A: Allocator = Global> {
     pub items: Vec<ResponseItem<A>, A>,
 }
 
-impl<B: Allocator> Serialize for Response<B> {
-    ghost stated = { written_response };
+type ResponseParts<A> = (
+    One<Of<ResponseHeader>>,
+    Several<Of<ResponseItem<A>>, 0x42000F>,
+);
 
-    #[tactic(auto, unfolding(crate::specs::Responses::written_response))]
-    fn visit<V: Visitor>(&self, visitor: &mut V) -> Result<(), AllocError> {
-        writing::begin_structure(visitor, 0x42007B)?;
-        self.header.visit(visitor)?;
-        writing::several(visitor, &self.items)?;
-        writing::end_structure(visitor, 0x42007B)?;
-        Ok(())
+impl<A: Allocator + Copy> Structure<A> for Response<A> {
+    ghost item = { structure 0x42007B true (of (λ x. (x.header, x.items)) ⟦<ResponseParts<A> as PartList<A>>⟧.rules) refl
+        ⟦<Response<A> as PartialEq>⟧.eq (λ x y e. e) };
+
+    fn number() -> u32 {
+        0x42007B
     }
+
+    fn read_nested<'b>(scope: &Scope<'b, A>, cursor: &mut Cursor<'b, A>) -> Step<Self, A> {
+        match read_parts::<ResponseParts<A>, A>(scope, 0x42007B, true, cursor) {
+            Ok(parts) => {
+                let (header, items) = parts;
+                Ok(Response { header, items })
+            }
+            Err(failure) => Err(failure),
+        }
+    }
+
+    fn visit_parts<V: Visitor>(&self, visitor: &mut V) -> Result<(), AllocError> {
+        visit_structure_two::<
+            One<Of<ResponseHeader>>,
+            Several<Of<ResponseItem<A>>, 0x42000F>,
+            V,
+            A,
+        >(visitor, 0x42007B, &self.header, &self.items)
+    }
+
+    fn is_whole(&self) -> bool {
+        are_whole_two::<One<Of<ResponseHeader>>, Several<Of<ResponseItem<A>>, 0x42000F>, A>(
+            &self.header,
+            &self.items,
+        )
+    }
+
+    ghost structured = { (refl, refl) };
 }
 
-impl<A: Allocator + Copy> reader::ReadStructure<A> for Response<A> {
-    ghost form = { response_form };
+impl<A: Allocator + Copy> Serialize for Response<A> {
+    ghost stated = { ⟦<Response<A> as Structure<A>>⟧.item.rules.written };
 
-    ghost value = { read_response };
-
-    ghost TAG = { 0x42007B };
-
-    ghost DENIES_UNKNOWN = { true };
-
-    type Fields = (
-        reader::Nested<ResponseHeader>,
-        reader::Several<ResponseItem<A>>,
-    );
-
-    const TAG: u32 = 0x42007B;
-
-    const DENIES_UNKNOWN: bool = true;
-
-    fn has_form() {}
-
-    #[tactic(auto, unfolding(crate::specs::Responses::read_response))]
-    fn from_fields(fields: (ResponseHeader, Vec<ResponseItem<A>, A>)) -> Self {
-        let (header, items) = fields;
-        Response { header, items }
+    fn visit<V: Visitor>(&self, visitor: &mut V) -> Result<(), AllocError> {
+        <Response<A> as Structure<A>>::visit_parts(self, visitor)
     }
 }
 
 impl<A: Allocator + Copy> Decode<A> for Response<A> {
-    ghost form = { response_form };
+    ghost form = { ⟦<Response<A> as Structure<A>>⟧.item.form };
 
-    ghost is_value = { λ v x. v ≡ read_response x };
+    ghost is_value = { λ v x. v ≡ ⟦<Response<A> as Structure<A>>⟧.item.value x };
 
-    fn decode(alloc: A, bytes: &[u8]) -> Result<Self, error::Error<A>> {
-        reader::read_message(alloc, bytes)
+    fn decode(alloc: A, bytes: &[u8]) -> Result<Self, Error<A>> {
+        match read_message_parts::<ResponseParts<A>, A>(alloc, 0x42007B, true, bytes) {
+            Ok(parts) => {
+                let (header, items) = parts;
+                Ok(Response { header, items })
+            }
+            Err(error) => Err(error),
+        }
+    }
+}
+
+impl<A: Allocator + Copy> Sound for Response<A> {
+    ghost IsSound = { ⟦<Response<A> as Structure<A>>⟧.item.rules.IsSound };
+
+    fn is_sound(&self) -> bool {
+        <Response<A> as Structure<A>>::is_whole(self)
+    }
+}
+
+impl<A: Allocator + Copy> Message<A> for Response<A> {
+    fn comes_back() {
+        structures_come_back::<Response<A>, A>();
     }
 }

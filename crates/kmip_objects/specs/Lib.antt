@@ -1,4 +1,1 @@
-pub mod Keys
-pub mod Objects
-pub mod Templates
-pub mod Soundness
+pub mod Choices

@@ -1,53 +1,29 @@
 // Written by codegen from types.table: change that, and run codegen/codegen.
 //! A key: its bytes, and how they are wrapped (KMIP 1.0, sections 2.1.3 to 2.1.5).
 
-ghost use Rattle.std.specs.Prelude.{refl, OnErr, OnOk, codes, true};
-ghost use Rattle.kmip_ttlv_parts.specs.Visits.{Receives};
-ghost use Rattle.kmip_objects.specs.Keys.{unique_identifier_form, unique_identifier_value, wrapping_parameters_form, written_wrapping_parameters, read_wrapping_parameters, encryption_key_information_form, written_encryption_key_information, read_encryption_key_information, mac_signature_key_information_form, written_mac_signature_key_information, read_mac_signature_key_information, key_wrapping_data_form, written_key_wrapping_data, read_key_wrapping_data, key_bytes_form, key_bytes_value, transparent_symmetric_key_form, transparent_symmetric_key_value, key_material_form, written_key_material, read_key_material, key_material_content, plain_key_value_form, written_plain_key_value, read_plain_key_value, wrapped_key_value_form, wrapped_key_value_value, key_value_form, written_key_value, read_key_value, key_value_content, cryptographic_length_form, cryptographic_length_value, key_block_form, written_key_block, read_key_block};
+ghost use Rattle.std.specs.Prelude.{codes, refl, true};
+ghost use Rattle.kmip_ttlv_kinds.specs.Parts.{of, structure};
+ghost use Rattle.kmip_ttlv_kinds.specs.Choices.{held};
+ghost use Rattle.kmip_objects.specs.Choices.{key_material_choice, key_value_choice};
 
 use kmip_attributes::attribute::Attribute;
 use kmip_attributes::values::{
     BlockCipherMode, CryptographicAlgorithm, HashingAlgorithm, KeyFormatType, KeyRoleType,
     PaddingMethod,
 };
+use kmip_ttlv_kinds::{
+    Alone, Any, AsElement, Choice, Element, Four, Leaf, LeafItem, Maybe, MaybeLeaf, Of, One, OneOf,
+    PartList, Structure, are_whole_four, are_whole_one, are_whole_two, both, read_parts,
+    visit_four, visit_structure_four, visit_structure_one, visit_structure_two, visit_two,
+};
 use kmip_ttlv_parts::messages::writing;
-use kmip_ttlv_parts::shape::Serialize;
+use kmip_ttlv_parts::reader::{
+    ChoiceValue, Cursor, Rule, RuleParts, Scope, Step, Variant, VariantOf,
+};
 use kmip_ttlv_parts::types::TtlvType;
-use kmip_ttlv_parts::visit::{Leaf, Visitor};
+use kmip_ttlv_parts::visit::Visitor;
 use kmip_ttlv_parts::{Boxed, Enumeration, reader};
 use std::alloc::{AllocError, Allocator, Global};
-
-/// What names an object.
-#[derive(Drop)]
-#[derive_where(PartialEq)]
-pub struct UniqueIdentifier<A: Allocator = Global> {
-    /// What it holds.
-    pub text: String<A>,
-}
-
-impl<B: Allocator> Serialize for UniqueIdentifier<B> {
-    ghost stated = { unique_identifier_value };
-
-    fn visit<V: Visitor>(&self, visitor: &mut V) -> Result<(), AllocError> {
-        writing::string(visitor, 0x420094, &self.text)
-    }
-}
-
-impl<A: Allocator + Copy> reader::ReadItem<A> for UniqueIdentifier<A> {
-    ghost form = { unique_identifier_form };
-
-    ghost value = { unique_identifier_value };
-
-    ghost plain = { (refl, refl) };
-
-    fn read_item<'b>(
-        scope: &reader::Scope<'b, A>,
-        cursor: &mut reader::Cursor<'b, A>,
-    ) -> reader::Step<Self, A> {
-        let text = cursor.wrapped_leaf(scope, 0x420094)?;
-        Ok(UniqueIdentifier { text })
-    }
-}
 
 /// How the point of an elliptic curve is written (KMIP 1.0, section 9.1.3.2.2).
 pub type KeyCompressionType = Enumeration<0x420041>;
@@ -119,78 +95,70 @@ pub struct WrappingParameters {
     pub key_role_type: Option<KeyRoleType>,
 }
 
-impl Serialize for WrappingParameters {
-    ghost stated = { written_wrapping_parameters };
+type WrappingParametersParts = (
+    Maybe<BlockCipherMode, 0x420011>,
+    Maybe<PaddingMethod, 0x42005F>,
+    Maybe<HashingAlgorithm, 0x420038>,
+    Maybe<KeyRoleType, 0x420083>,
+);
 
-    fn visit<V: Visitor>(&self, visitor: &mut V) -> Result<(), AllocError> {
-        writing::begin_structure(visitor, 0x42002B)?;
-        writing::option(visitor, &self.block_cipher_mode)?;
-        writing::option(visitor, &self.padding_method)?;
-        writing::option(visitor, &self.hashing_algorithm)?;
-        writing::option(visitor, &self.key_role_type)?;
-        writing::end_structure(visitor, 0x42002B)?;
-        Ok(())
+impl<A: Allocator + Copy> Structure<A> for WrappingParameters {
+    ghost item = { structure 0x42002B true (of (λ x. (x.block_cipher_mode, x.padding_method, x.hashing_algorithm, x.key_role_type)) ⟦<WrappingParametersParts as PartList<A>>⟧.rules) refl
+        ⟦<WrappingParameters as PartialEq>⟧.eq (λ x y e. e) };
+
+    fn number() -> u32 {
+        0x42002B
     }
-}
 
-impl<A: Allocator + Copy> reader::ReadStructure<A> for WrappingParameters {
-    ghost form = { wrapping_parameters_form };
-
-    ghost value = { read_wrapping_parameters };
-
-    ghost TAG = { 0x42002B };
-
-    ghost DENIES_UNKNOWN = { true };
-
-    type Fields = (
-        reader::OptionalItem<BlockCipherMode, 0x420011>,
-        reader::OptionalItem<PaddingMethod, 0x42005F>,
-        reader::OptionalItem<HashingAlgorithm, 0x420038>,
-        reader::OptionalItem<KeyRoleType, 0x420083>,
-    );
-
-    const TAG: u32 = 0x42002B;
-
-    const DENIES_UNKNOWN: bool = true;
-
-    fn has_form() {}
-
-    #[tactic(auto, unfolding(crate::specs::Keys::read_wrapping_parameters))]
-    fn from_fields(
-        fields: (
-            Option<BlockCipherMode>,
-            Option<PaddingMethod>,
-            Option<HashingAlgorithm>,
-            Option<KeyRoleType>,
-        ),
-    ) -> Self {
-        let (block_cipher_mode, padding_method, hashing_algorithm, key_role_type) = fields;
-        WrappingParameters {
-            block_cipher_mode,
-            padding_method,
-            hashing_algorithm,
-            key_role_type,
+    fn read_nested<'b>(scope: &Scope<'b, A>, cursor: &mut Cursor<'b, A>) -> Step<Self, A> {
+        match read_parts::<WrappingParametersParts, A>(scope, 0x42002B, true, cursor) {
+            Ok(parts) => {
+                let (block_cipher_mode, padding_method, hashing_algorithm, key_role_type) = parts;
+                Ok(WrappingParameters {
+                    block_cipher_mode,
+                    padding_method,
+                    hashing_algorithm,
+                    key_role_type,
+                })
+            }
+            Err(failure) => Err(failure),
         }
     }
-}
 
-impl<A: Allocator + Copy> reader::ReadNested<A> for WrappingParameters {
-    ghost form = { wrapping_parameters_form };
+    fn visit_parts<V: Visitor>(&self, visitor: &mut V) -> Result<(), AllocError> {
+        visit_structure_four::<
+            Maybe<BlockCipherMode, 0x420011>,
+            Maybe<PaddingMethod, 0x42005F>,
+            Maybe<HashingAlgorithm, 0x420038>,
+            Maybe<KeyRoleType, 0x420083>,
+            V,
+            A,
+        >(
+            visitor,
+            0x42002B,
+            &self.block_cipher_mode,
+            &self.padding_method,
+            &self.hashing_algorithm,
+            &self.key_role_type,
+        )
+    }
 
-    ghost value = { read_wrapping_parameters };
-
-    ghost TAG = { 0x42002B };
+    fn is_whole(&self) -> bool {
+        are_whole_four::<
+            Maybe<BlockCipherMode, 0x420011>,
+            Maybe<PaddingMethod, 0x42005F>,
+            Maybe<HashingAlgorithm, 0x420038>,
+            Maybe<KeyRoleType, 0x420083>,
+            A,
+        >(
+            &self.block_cipher_mode,
+            &self.padding_method,
+            &self.hashing_algorithm,
+            &self.key_role_type,
+        )
+    }
 
     ghost structured = { (refl, refl) };
-
-    const TAG: u32 = 0x42002B;
-
-    fn read_nested<'b>(
-        scope: &reader::Scope<'b, A>,
-        cursor: &mut reader::Cursor<'b, A>,
-    ) -> reader::Step<Self, A> {
-        reader::read_structure(scope, cursor)
-    }
 }
 
 /// The key that encrypts.
@@ -203,65 +171,54 @@ pub struct EncryptionKeyInformation<A: Allocator = Global> {
     pub cryptographic_parameters: Option<WrappingParameters>,
 }
 
-impl<B: Allocator> Serialize for EncryptionKeyInformation<B> {
-    ghost stated = { written_encryption_key_information };
+type EncryptionKeyInformationParts<A> = (
+    Leaf<String<A>, 0x420094>,
+    Maybe<Of<WrappingParameters>, 0x42002B>,
+);
 
-    fn visit<V: Visitor>(&self, visitor: &mut V) -> Result<(), AllocError> {
-        writing::begin_structure(visitor, 0x420036)?;
-        writing::string(visitor, 0x420094, &self.unique_identifier)?;
-        writing::option(visitor, &self.cryptographic_parameters)?;
-        writing::end_structure(visitor, 0x420036)?;
-        Ok(())
+impl<A: Allocator + Copy> Structure<A> for EncryptionKeyInformation<A> {
+    ghost item = { structure 0x420036 true (of (λ x. (x.unique_identifier, x.cryptographic_parameters)) ⟦<EncryptionKeyInformationParts<A> as PartList<A>>⟧.rules) refl
+        ⟦<EncryptionKeyInformation<A> as PartialEq>⟧.eq (λ x y e. e) };
+
+    fn number() -> u32 {
+        0x420036
     }
-}
 
-impl<A: Allocator + Copy> reader::ReadStructure<A> for EncryptionKeyInformation<A> {
-    ghost form = { encryption_key_information_form };
-
-    ghost value = { read_encryption_key_information };
-
-    ghost TAG = { 0x420036 };
-
-    ghost DENIES_UNKNOWN = { true };
-
-    type Fields = (
-        reader::Leaf<String<A>, 0x420094>,
-        reader::OptionalNested<WrappingParameters>,
-    );
-
-    const TAG: u32 = 0x420036;
-
-    const DENIES_UNKNOWN: bool = true;
-
-    fn has_form() {}
-
-    #[tactic(auto, unfolding(crate::specs::Keys::read_encryption_key_information))]
-    fn from_fields(fields: (String<A>, Option<WrappingParameters>)) -> Self {
-        let (unique_identifier, cryptographic_parameters) = fields;
-        EncryptionKeyInformation {
-            unique_identifier,
-            cryptographic_parameters,
+    fn read_nested<'b>(scope: &Scope<'b, A>, cursor: &mut Cursor<'b, A>) -> Step<Self, A> {
+        match read_parts::<EncryptionKeyInformationParts<A>, A>(scope, 0x420036, true, cursor) {
+            Ok(parts) => {
+                let (unique_identifier, cryptographic_parameters) = parts;
+                Ok(EncryptionKeyInformation {
+                    unique_identifier,
+                    cryptographic_parameters,
+                })
+            }
+            Err(failure) => Err(failure),
         }
     }
-}
 
-impl<A: Allocator + Copy> reader::ReadNested<A> for EncryptionKeyInformation<A> {
-    ghost form = { encryption_key_information_form };
+    fn visit_parts<V: Visitor>(&self, visitor: &mut V) -> Result<(), AllocError> {
+        visit_structure_two::<
+            Leaf<String<A>, 0x420094>,
+            Maybe<Of<WrappingParameters>, 0x42002B>,
+            V,
+            A,
+        >(
+            visitor,
+            0x420036,
+            &self.unique_identifier,
+            &self.cryptographic_parameters,
+        )
+    }
 
-    ghost value = { read_encryption_key_information };
-
-    ghost TAG = { 0x420036 };
+    fn is_whole(&self) -> bool {
+        are_whole_two::<Leaf<String<A>, 0x420094>, Maybe<Of<WrappingParameters>, 0x42002B>, A>(
+            &self.unique_identifier,
+            &self.cryptographic_parameters,
+        )
+    }
 
     ghost structured = { (refl, refl) };
-
-    const TAG: u32 = 0x420036;
-
-    fn read_nested<'b>(
-        scope: &reader::Scope<'b, A>,
-        cursor: &mut reader::Cursor<'b, A>,
-    ) -> reader::Step<Self, A> {
-        reader::read_structure(scope, cursor)
-    }
 }
 
 /// The key that makes a MAC or a signature.
@@ -274,65 +231,54 @@ pub struct MacSignatureKeyInformation<A: Allocator = Global> {
     pub cryptographic_parameters: Option<WrappingParameters>,
 }
 
-impl<B: Allocator> Serialize for MacSignatureKeyInformation<B> {
-    ghost stated = { written_mac_signature_key_information };
+type MacSignatureKeyInformationParts<A> = (
+    Leaf<String<A>, 0x420094>,
+    Maybe<Of<WrappingParameters>, 0x42002B>,
+);
 
-    fn visit<V: Visitor>(&self, visitor: &mut V) -> Result<(), AllocError> {
-        writing::begin_structure(visitor, 0x42004E)?;
-        writing::string(visitor, 0x420094, &self.unique_identifier)?;
-        writing::option(visitor, &self.cryptographic_parameters)?;
-        writing::end_structure(visitor, 0x42004E)?;
-        Ok(())
+impl<A: Allocator + Copy> Structure<A> for MacSignatureKeyInformation<A> {
+    ghost item = { structure 0x42004E true (of (λ x. (x.unique_identifier, x.cryptographic_parameters)) ⟦<MacSignatureKeyInformationParts<A> as PartList<A>>⟧.rules) refl
+        ⟦<MacSignatureKeyInformation<A> as PartialEq>⟧.eq (λ x y e. e) };
+
+    fn number() -> u32 {
+        0x42004E
     }
-}
 
-impl<A: Allocator + Copy> reader::ReadStructure<A> for MacSignatureKeyInformation<A> {
-    ghost form = { mac_signature_key_information_form };
-
-    ghost value = { read_mac_signature_key_information };
-
-    ghost TAG = { 0x42004E };
-
-    ghost DENIES_UNKNOWN = { true };
-
-    type Fields = (
-        reader::Leaf<String<A>, 0x420094>,
-        reader::OptionalNested<WrappingParameters>,
-    );
-
-    const TAG: u32 = 0x42004E;
-
-    const DENIES_UNKNOWN: bool = true;
-
-    fn has_form() {}
-
-    #[tactic(auto, unfolding(crate::specs::Keys::read_mac_signature_key_information))]
-    fn from_fields(fields: (String<A>, Option<WrappingParameters>)) -> Self {
-        let (unique_identifier, cryptographic_parameters) = fields;
-        MacSignatureKeyInformation {
-            unique_identifier,
-            cryptographic_parameters,
+    fn read_nested<'b>(scope: &Scope<'b, A>, cursor: &mut Cursor<'b, A>) -> Step<Self, A> {
+        match read_parts::<MacSignatureKeyInformationParts<A>, A>(scope, 0x42004E, true, cursor) {
+            Ok(parts) => {
+                let (unique_identifier, cryptographic_parameters) = parts;
+                Ok(MacSignatureKeyInformation {
+                    unique_identifier,
+                    cryptographic_parameters,
+                })
+            }
+            Err(failure) => Err(failure),
         }
     }
-}
 
-impl<A: Allocator + Copy> reader::ReadNested<A> for MacSignatureKeyInformation<A> {
-    ghost form = { mac_signature_key_information_form };
+    fn visit_parts<V: Visitor>(&self, visitor: &mut V) -> Result<(), AllocError> {
+        visit_structure_two::<
+            Leaf<String<A>, 0x420094>,
+            Maybe<Of<WrappingParameters>, 0x42002B>,
+            V,
+            A,
+        >(
+            visitor,
+            0x42004E,
+            &self.unique_identifier,
+            &self.cryptographic_parameters,
+        )
+    }
 
-    ghost value = { read_mac_signature_key_information };
-
-    ghost TAG = { 0x42004E };
+    fn is_whole(&self) -> bool {
+        are_whole_two::<Leaf<String<A>, 0x420094>, Maybe<Of<WrappingParameters>, 0x42002B>, A>(
+            &self.unique_identifier,
+            &self.cryptographic_parameters,
+        )
+    }
 
     ghost structured = { (refl, refl) };
-
-    const TAG: u32 = 0x42004E;
-
-    fn read_nested<'b>(
-        scope: &reader::Scope<'b, A>,
-        cursor: &mut reader::Cursor<'b, A>,
-    ) -> reader::Step<Self, A> {
-        reader::read_structure(scope, cursor)
-    }
 }
 
 /// How a key is wrapped (KMIP 1.0, section 2.1.5).
@@ -353,125 +299,96 @@ pub struct KeyWrappingData<A: Allocator = Global> {
     pub encoding_option: Option<EncodingOption>,
 }
 
-impl<B: Allocator> Serialize for KeyWrappingData<B> {
-    ghost stated = { written_key_wrapping_data };
+type KeyWrappingDataParts<A> = Four<
+    One<WrappingMethod>,
+    Maybe<Of<EncryptionKeyInformation<A>>, 0x420036>,
+    Maybe<Of<MacSignatureKeyInformation<A>>, 0x42004E>,
+    MaybeLeaf<Vec<u8, A>, 0x42004D>,
+    (
+        MaybeLeaf<Vec<u8, A>, 0x42003D>,
+        Maybe<EncodingOption, 0x4200A3>,
+    ),
+>;
 
-    fn visit<V: Visitor>(&self, visitor: &mut V) -> Result<(), AllocError> {
+impl<A: Allocator + Copy> Structure<A> for KeyWrappingData<A> {
+    ghost item = { structure 0x420046 true (of (λ x. (x.wrapping_method, x.encryption_key_information, x.mac_signature_key_information, x.mac_signature, (x.iv_counter_nonce, x.encoding_option))) ⟦<KeyWrappingDataParts<A> as PartList<A>>⟧.rules) refl
+        ⟦<KeyWrappingData<A> as PartialEq>⟧.eq (λ x y e. e) };
+
+    fn number() -> u32 {
+        0x420046
+    }
+
+    fn read_nested<'b>(scope: &Scope<'b, A>, cursor: &mut Cursor<'b, A>) -> Step<Self, A> {
+        match read_parts::<KeyWrappingDataParts<A>, A>(scope, 0x420046, true, cursor) {
+            Ok(parts) => {
+                let (
+                    wrapping_method,
+                    encryption_key_information,
+                    mac_signature_key_information,
+                    mac_signature,
+                    others,
+                ) = parts;
+                let (iv_counter_nonce, encoding_option) = others;
+                Ok(KeyWrappingData {
+                    wrapping_method,
+                    encryption_key_information,
+                    mac_signature_key_information,
+                    mac_signature,
+                    iv_counter_nonce,
+                    encoding_option,
+                })
+            }
+            Err(failure) => Err(failure),
+        }
+    }
+
+    fn visit_parts<V: Visitor>(&self, visitor: &mut V) -> Result<(), AllocError> {
         writing::begin_structure(visitor, 0x420046)?;
-        self.wrapping_method.visit(visitor)?;
-        writing::option(visitor, &self.encryption_key_information)?;
-        writing::option(visitor, &self.mac_signature_key_information)?;
-        writing::optional_byte_string(visitor, 0x42004D, &self.mac_signature)?;
-        writing::optional_byte_string(visitor, 0x42003D, &self.iv_counter_nonce)?;
-        writing::option(visitor, &self.encoding_option)?;
+        visit_four::<
+            One<WrappingMethod>,
+            Maybe<Of<EncryptionKeyInformation<A>>, 0x420036>,
+            Maybe<Of<MacSignatureKeyInformation<A>>, 0x42004E>,
+            MaybeLeaf<Vec<u8, A>, 0x42004D>,
+            V,
+            A,
+        >(
+            visitor,
+            &self.wrapping_method,
+            &self.encryption_key_information,
+            &self.mac_signature_key_information,
+            &self.mac_signature,
+        )?;
+        visit_two::<MaybeLeaf<Vec<u8, A>, 0x42003D>, Maybe<EncodingOption, 0x4200A3>, V, A>(
+            visitor,
+            &self.iv_counter_nonce,
+            &self.encoding_option,
+        )?;
         writing::end_structure(visitor, 0x420046)?;
         Ok(())
     }
-}
 
-impl<A: Allocator + Copy> reader::ReadStructure<A> for KeyWrappingData<A> {
-    ghost form = { key_wrapping_data_form };
-
-    ghost value = { read_key_wrapping_data };
-
-    ghost TAG = { 0x420046 };
-
-    ghost DENIES_UNKNOWN = { true };
-
-    type Fields = reader::Four<
-        reader::Item<WrappingMethod, 0x42009E>,
-        reader::OptionalNested<EncryptionKeyInformation<A>>,
-        reader::OptionalNested<MacSignatureKeyInformation<A>>,
-        reader::OptionalLeaf<Vec<u8, A>, 0x42004D>,
-        (
-            reader::OptionalLeaf<Vec<u8, A>, 0x42003D>,
-            reader::OptionalItem<EncodingOption, 0x4200A3>,
-        ),
-    >;
-
-    const TAG: u32 = 0x420046;
-
-    const DENIES_UNKNOWN: bool = true;
-
-    fn has_form() {}
-
-    #[tactic(auto, unfolding(crate::specs::Keys::read_key_wrapping_data))]
-    fn from_fields(
-        fields: (
-            WrappingMethod,
-            Option<EncryptionKeyInformation<A>>,
-            Option<MacSignatureKeyInformation<A>>,
-            Option<Vec<u8, A>>,
-            (Option<Vec<u8, A>>, Option<EncodingOption>),
-        ),
-    ) -> Self {
-        let (
-            wrapping_method,
-            encryption_key_information,
-            mac_signature_key_information,
-            mac_signature,
-            (iv_counter_nonce, encoding_option),
-        ) = fields;
-        KeyWrappingData {
-            wrapping_method,
-            encryption_key_information,
-            mac_signature_key_information,
-            mac_signature,
-            iv_counter_nonce,
-            encoding_option,
-        }
+    fn is_whole(&self) -> bool {
+        let first_four = are_whole_four::<
+            One<WrappingMethod>,
+            Maybe<Of<EncryptionKeyInformation<A>>, 0x420036>,
+            Maybe<Of<MacSignatureKeyInformation<A>>, 0x42004E>,
+            MaybeLeaf<Vec<u8, A>, 0x42004D>,
+            A,
+        >(
+            &self.wrapping_method,
+            &self.encryption_key_information,
+            &self.mac_signature_key_information,
+            &self.mac_signature,
+        );
+        let others = are_whole_two::<
+            MaybeLeaf<Vec<u8, A>, 0x42003D>,
+            Maybe<EncodingOption, 0x4200A3>,
+            A,
+        >(&self.iv_counter_nonce, &self.encoding_option);
+        both(first_four, others)
     }
-}
-
-impl<A: Allocator + Copy> reader::ReadNested<A> for KeyWrappingData<A> {
-    ghost form = { key_wrapping_data_form };
-
-    ghost value = { read_key_wrapping_data };
-
-    ghost TAG = { 0x420046 };
 
     ghost structured = { (refl, refl) };
-
-    const TAG: u32 = 0x420046;
-
-    fn read_nested<'b>(
-        scope: &reader::Scope<'b, A>,
-        cursor: &mut reader::Cursor<'b, A>,
-    ) -> reader::Step<Self, A> {
-        reader::read_structure(scope, cursor)
-    }
-}
-
-/// The bytes of a key, as its Key Format Type says.
-#[derive(Drop)]
-#[derive_where(PartialEq)]
-pub struct KeyBytes<A: Allocator = Global> {
-    /// What it holds.
-    pub bytes: Vec<u8, A>,
-}
-
-impl<B: Allocator> Serialize for KeyBytes<B> {
-    ghost stated = { key_bytes_value };
-
-    fn visit<V: Visitor>(&self, visitor: &mut V) -> Result<(), AllocError> {
-        writing::bytes(visitor, 0x420043, &self.bytes)
-    }
-}
-
-impl<A: Allocator + Copy> reader::ReadItem<A> for KeyBytes<A> {
-    ghost form = { key_bytes_form };
-
-    ghost value = { key_bytes_value };
-
-    ghost plain = { (refl, refl) };
-
-    fn read_item<'b>(
-        scope: &reader::Scope<'b, A>,
-        cursor: &mut reader::Cursor<'b, A>,
-    ) -> reader::Step<Self, A> {
-        let bytes = cursor.wrapped_leaf(scope, 0x420043)?;
-        Ok(KeyBytes { bytes })
-    }
 }
 
 /// A symmetric key as a structure (KMIP 1.0, section 2.1.7.1).
@@ -482,59 +399,35 @@ pub struct TransparentSymmetricKey<A: Allocator = Global> {
     pub key: Vec<u8, A>,
 }
 
-impl<B: Allocator> Serialize for TransparentSymmetricKey<B> {
-    ghost stated = { transparent_symmetric_key_value };
+type TransparentSymmetricKeyParts<A> = Alone<Leaf<Vec<u8, A>, 0x42003F>>;
 
-    #[tactic(auto, unfolding(crate::specs::Keys::transparent_symmetric_key_value))]
-    fn visit<V: Visitor>(&self, visitor: &mut V) -> Result<(), AllocError> {
-        writing::begin_structure(visitor, 0x420043)?;
-        writing::bytes(visitor, 0x42003F, &self.key)?;
-        writing::end_structure(visitor, 0x420043)?;
-        Ok(())
+impl<A: Allocator + Copy> Structure<A> for TransparentSymmetricKey<A> {
+    ghost item = { structure 0x420043 true (of (λ x. x.key) ⟦<TransparentSymmetricKeyParts<A> as PartList<A>>⟧.rules) refl
+        ⟦<TransparentSymmetricKey<A> as PartialEq>⟧.eq (λ x y e. e) };
+
+    fn number() -> u32 {
+        0x420043
     }
-}
 
-impl<A: Allocator + Copy> reader::ReadStructure<A> for TransparentSymmetricKey<A> {
-    ghost form = { transparent_symmetric_key_form };
-
-    ghost value = { transparent_symmetric_key_value };
-
-    ghost TAG = { 0x420043 };
-
-    ghost DENIES_UNKNOWN = { true };
-
-    type Fields = (reader::Leaf<Vec<u8, A>, 0x42003F>,);
-
-    const TAG: u32 = 0x420043;
-
-    const DENIES_UNKNOWN: bool = true;
-
-    fn has_form() {}
-
-    #[tactic(auto, unfolding(crate::specs::Keys::transparent_symmetric_key_value))]
-    fn from_fields(fields: (Vec<u8, A>,)) -> Self {
-        let (key,) = fields;
-        TransparentSymmetricKey { key }
+    fn read_nested<'b>(scope: &Scope<'b, A>, cursor: &mut Cursor<'b, A>) -> Step<Self, A> {
+        match read_parts::<TransparentSymmetricKeyParts<A>, A>(scope, 0x420043, true, cursor) {
+            Ok(parts) => {
+                let key = parts;
+                Ok(TransparentSymmetricKey { key })
+            }
+            Err(failure) => Err(failure),
+        }
     }
-}
 
-impl<A: Allocator + Copy> reader::ReadNested<A> for TransparentSymmetricKey<A> {
-    ghost form = { transparent_symmetric_key_form };
+    fn visit_parts<V: Visitor>(&self, visitor: &mut V) -> Result<(), AllocError> {
+        visit_structure_one::<Leaf<Vec<u8, A>, 0x42003F>, V, A>(visitor, 0x420043, &self.key)
+    }
 
-    ghost value = { transparent_symmetric_key_value };
-
-    ghost TAG = { 0x420043 };
+    fn is_whole(&self) -> bool {
+        are_whole_one::<Leaf<Vec<u8, A>, 0x42003F>, A>(&self.key)
+    }
 
     ghost structured = { (refl, refl) };
-
-    const TAG: u32 = 0x420043;
-
-    fn read_nested<'b>(
-        scope: &reader::Scope<'b, A>,
-        cursor: &mut reader::Cursor<'b, A>,
-    ) -> reader::Step<Self, A> {
-        reader::read_structure(scope, cursor)
-    }
 }
 
 /// The key itself: its bytes, or a structure.
@@ -542,40 +435,50 @@ impl<A: Allocator + Copy> reader::ReadNested<A> for TransparentSymmetricKey<A> {
 #[derive_where(PartialEq)]
 pub enum KeyMaterial<A: Allocator = Global> {
     /// Its bytes.
-    Bytes(KeyBytes<A>),
+    Bytes(Vec<u8, A>),
     /// A symmetric key as a structure.
     TransparentSymmetricKey(TransparentSymmetricKey<A>),
 }
 
-impl<A: Allocator> KeyMaterial<A> {
-    // Sends what it holds.
-    #[tactic(auto, unfolding(crate::specs::Keys::key_material_content))]
-    pub(crate) fn send<V: Visitor>(&self, visitor: &mut V) -> Result<(), AllocError>
-        ensures received { OnOk result (Receives V.knows V.step (key_material_content self.now) visitor.old visitor.new) }
-        ensures stopped { OnErr result (V.stopped visitor.new) }
-    {
+impl<A: Allocator + Copy> Choice<A> for KeyMaterial<A> {
+    ghost chosen = { key_material_choice ⟦<KeyMaterial<A> as PartialEq>⟧.eq record {
+      bytes = held ⟦<LeafItem<Vec<u8, A>, 0x420043> as Element<A>>⟧.rules refl refl (λ x y e. e);
+      transparent_symmetric_key = held ⟦<Of<TransparentSymmetricKey<A>> as Element<A>>⟧.rules refl refl (λ x y e. e);
+    } };
+
+    fn read_chosen<'b>(scope: &Scope<'b, A>, cursor: &mut Cursor<'b, A>) -> Step<Self, A> {
+        reader::read_choice(scope, cursor)
+    }
+
+    fn visit_chosen<V: Visitor>(&self, visitor: &mut V) -> Result<(), AllocError> {
         match self {
-            KeyMaterial::Bytes(inner) => inner.visit(visitor),
-            KeyMaterial::TransparentSymmetricKey(inner) => inner.visit(visitor),
+            KeyMaterial::Bytes(inner) => <LeafItem<Vec<u8, A>, 0x420043> as Element<A>>::visit_one(
+                inner, visitor,
+            ),
+            KeyMaterial::TransparentSymmetricKey(inner) => <Of<
+                TransparentSymmetricKey<A>,
+            > as Element<A>>::visit_one(inner, visitor),
         }
     }
-}
 
-impl<B: Allocator> Serialize for KeyMaterial<B> {
-    ghost stated = { written_key_material };
-
-    #[tactic(auto, unfolding(crate::specs::Keys::written_key_material))]
-    fn visit<V: Visitor>(&self, visitor: &mut V) -> Result<(), AllocError> {
-        writing::begin_newtype_variant(visitor, "Override:0x420043", "Transparent")?;
-        self.send(visitor)?;
-        writing::end_newtype_variant(visitor, "Override:0x420043", "Transparent")
+    fn is_whole(&self) -> bool {
+        match self {
+            KeyMaterial::Bytes(inner) => <LeafItem<Vec<u8, A>, 0x420043> as Element<A>>::is_whole(
+                inner,
+            ),
+            KeyMaterial::TransparentSymmetricKey(inner) => <Of<
+                TransparentSymmetricKey<A>,
+            > as Element<A>>::is_whole(inner),
+        }
     }
+
+    ghost plain = { (refl, refl) };
 }
 
 /// The rule that chooses `KeyMaterial::Bytes`.
 pub struct KeyMaterialBytesRule;
 
-impl reader::Rule for KeyMaterialBytesRule {
+impl Rule for KeyMaterialBytesRule {
     ghost condition = { codes "type==ByteString" };
 
     fn name() -> &'static str {
@@ -583,15 +486,15 @@ impl reader::Rule for KeyMaterialBytesRule {
     }
 
     #[tactic(auto, unfolding(kmip_ttlv_reader::specs::RuleParts::equal_sides))]
-    fn parts() -> Option<reader::RuleParts> {
-        Some(reader::RuleParts::Type(TtlvType::ByteString))
+    fn parts() -> Option<RuleParts> {
+        Some(RuleParts::Type(TtlvType::ByteString))
     }
 }
 
-impl<A: Allocator + Copy> reader::VariantOf<reader::ItemElement<KeyBytes<A>>, KeyMaterial<A>, A>
+impl<A: Allocator + Copy> VariantOf<AsElement<LeafItem<Vec<u8, A>, 0x420043>>, KeyMaterial<A>, A>
     for KeyMaterialBytesRule {
-    #[tactic(auto, unfolding(crate::specs::Keys::read_key_material))]
-    fn from_content(inner: KeyBytes<A>) -> KeyMaterial<A> {
+    #[tactic(auto, unfolding(crate::specs::Choices::key_material_by))]
+    fn from_content(inner: Vec<u8, A>) -> KeyMaterial<A> {
         KeyMaterial::Bytes(inner)
     }
 }
@@ -599,7 +502,7 @@ impl<A: Allocator + Copy> reader::VariantOf<reader::ItemElement<KeyBytes<A>>, Ke
 /// The rule that chooses `KeyMaterial::TransparentSymmetricKey`.
 pub struct KeyMaterialTransparentSymmetricKeyRule;
 
-impl reader::Rule for KeyMaterialTransparentSymmetricKeyRule {
+impl Rule for KeyMaterialTransparentSymmetricKeyRule {
     ghost condition = { codes "type==Structure" };
 
     fn name() -> &'static str {
@@ -607,58 +510,40 @@ impl reader::Rule for KeyMaterialTransparentSymmetricKeyRule {
     }
 
     #[tactic(auto, unfolding(kmip_ttlv_reader::specs::RuleParts::equal_sides))]
-    fn parts() -> Option<reader::RuleParts> {
-        Some(reader::RuleParts::Type(TtlvType::Structure))
+    fn parts() -> Option<RuleParts> {
+        Some(RuleParts::Type(TtlvType::Structure))
     }
 }
 
-impl<A: Allocator + Copy> reader::VariantOf<
-    reader::StructureElement<TransparentSymmetricKey<A>>,
-    KeyMaterial<A>,
-    A,
-> for KeyMaterialTransparentSymmetricKeyRule {
-    #[tactic(auto, unfolding(crate::specs::Keys::read_key_material))]
+impl<A: Allocator + Copy> VariantOf<AsElement<Of<TransparentSymmetricKey<A>>>, KeyMaterial<A>, A>
+    for KeyMaterialTransparentSymmetricKeyRule {
+    #[tactic(auto, unfolding(crate::specs::Choices::key_material_by))]
     fn from_content(inner: TransparentSymmetricKey<A>) -> KeyMaterial<A> {
         KeyMaterial::TransparentSymmetricKey(inner)
     }
 }
 
-impl<A: Allocator> reader::ChoiceValue for KeyMaterial<A> {
+impl<A: Allocator + Copy> ChoiceValue for KeyMaterial<A> {
     ghost own = { codes "material" };
 
-    ghost value = { read_key_material };
+    ghost value = { ⟦<KeyMaterial<A> as Choice<A>>⟧.chosen.value };
 }
 
 impl<A: Allocator + Copy> reader::Choice<A> for KeyMaterial<A> {
-    ghost form = { key_material_form };
+    ghost form = { ⟦<KeyMaterial<A> as Choice<A>>⟧.chosen.form };
 
     type Variants = (
-        reader::Variant<KeyMaterialBytesRule, reader::ItemElement<KeyBytes<A>>>,
+        Variant<KeyMaterialBytesRule, AsElement<LeafItem<Vec<u8, A>, 0x420043>>>,
         (
-            reader::Variant<
+            Variant<
                 KeyMaterialTransparentSymmetricKeyRule,
-                reader::StructureElement<TransparentSymmetricKey<A>>,
+                AsElement<Of<TransparentSymmetricKey<A>>>,
             >,
             (),
         ),
     );
 
     fn has_form() {}
-}
-
-impl<A: Allocator + Copy> reader::ReadItem<A> for KeyMaterial<A> {
-    ghost form = { key_material_form };
-
-    ghost value = { read_key_material };
-
-    ghost plain = { (refl, refl) };
-
-    fn read_item<'b>(
-        scope: &reader::Scope<'b, A>,
-        cursor: &mut reader::Cursor<'b, A>,
-    ) -> reader::Step<Self, A> {
-        reader::read_choice(scope, cursor)
-    }
 }
 
 /// A key that isn't wrapped, or of which only the bytes are (KMIP 1.0, section 2.1.4).
@@ -671,98 +556,49 @@ pub struct PlainKeyValue<A: Allocator = Global> {
     pub attributes: Vec<Attribute<A>, A>,
 }
 
-impl<B: Allocator> Serialize for PlainKeyValue<B> {
-    ghost stated = { written_plain_key_value };
+type PlainKeyValueParts<A> = (
+    OneOf<KeyMaterial<A>, 0x420043>,
+    Any<Of<Attribute<A>>, 0x420008>,
+);
 
-    #[tactic(auto, unfolding(crate::specs::Keys::written_plain_key_value))]
-    fn visit<V: Visitor>(&self, visitor: &mut V) -> Result<(), AllocError> {
-        writing::begin_structure(visitor, 0x420045)?;
-        self.key_material.visit(visitor)?;
-        writing::several(visitor, &self.attributes)?;
-        writing::end_structure(visitor, 0x420045)?;
-        Ok(())
+impl<A: Allocator + Copy> Structure<A> for PlainKeyValue<A> {
+    ghost item = { structure 0x420045 true (of (λ x. (x.key_material, x.attributes)) ⟦<PlainKeyValueParts<A> as PartList<A>>⟧.rules) refl
+        ⟦<PlainKeyValue<A> as PartialEq>⟧.eq (λ x y e. e) };
+
+    fn number() -> u32 {
+        0x420045
     }
-}
 
-impl<A: Allocator + Copy> reader::ReadStructure<A> for PlainKeyValue<A> {
-    ghost form = { plain_key_value_form };
-
-    ghost value = { read_plain_key_value };
-
-    ghost TAG = { 0x420045 };
-
-    ghost DENIES_UNKNOWN = { true };
-
-    type Fields = (
-        reader::Item<KeyMaterial<A>, 0x420043>,
-        reader::OptionalSeveral<Attribute<A>>,
-    );
-
-    const TAG: u32 = 0x420045;
-
-    const DENIES_UNKNOWN: bool = true;
-
-    fn has_form() {}
-
-    #[tactic(auto, unfolding(crate::specs::Keys::read_plain_key_value))]
-    fn from_fields(fields: (KeyMaterial<A>, Vec<Attribute<A>, A>)) -> Self {
-        let (key_material, attributes) = fields;
-        PlainKeyValue {
-            key_material,
-            attributes,
+    fn read_nested<'b>(scope: &Scope<'b, A>, cursor: &mut Cursor<'b, A>) -> Step<Self, A> {
+        match read_parts::<PlainKeyValueParts<A>, A>(scope, 0x420045, true, cursor) {
+            Ok(parts) => {
+                let (key_material, attributes) = parts;
+                Ok(PlainKeyValue {
+                    key_material,
+                    attributes,
+                })
+            }
+            Err(failure) => Err(failure),
         }
     }
-}
 
-impl<A: Allocator + Copy> reader::ReadNested<A> for PlainKeyValue<A> {
-    ghost form = { plain_key_value_form };
+    fn visit_parts<V: Visitor>(&self, visitor: &mut V) -> Result<(), AllocError> {
+        visit_structure_two::<
+            OneOf<KeyMaterial<A>, 0x420043>,
+            Any<Of<Attribute<A>>, 0x420008>,
+            V,
+            A,
+        >(visitor, 0x420045, &self.key_material, &self.attributes)
+    }
 
-    ghost value = { read_plain_key_value };
-
-    ghost TAG = { 0x420045 };
+    fn is_whole(&self) -> bool {
+        are_whole_two::<OneOf<KeyMaterial<A>, 0x420043>, Any<Of<Attribute<A>>, 0x420008>, A>(
+            &self.key_material,
+            &self.attributes,
+        )
+    }
 
     ghost structured = { (refl, refl) };
-
-    const TAG: u32 = 0x420045;
-
-    fn read_nested<'b>(
-        scope: &reader::Scope<'b, A>,
-        cursor: &mut reader::Cursor<'b, A>,
-    ) -> reader::Step<Self, A> {
-        reader::read_structure(scope, cursor)
-    }
-}
-
-/// A whole Key Value that is wrapped.
-#[derive(Drop)]
-#[derive_where(PartialEq)]
-pub struct WrappedKeyValue<A: Allocator = Global> {
-    /// What it holds.
-    pub bytes: Vec<u8, A>,
-}
-
-impl<B: Allocator> Serialize for WrappedKeyValue<B> {
-    ghost stated = { wrapped_key_value_value };
-
-    fn visit<V: Visitor>(&self, visitor: &mut V) -> Result<(), AllocError> {
-        writing::bytes(visitor, 0x420045, &self.bytes)
-    }
-}
-
-impl<A: Allocator + Copy> reader::ReadItem<A> for WrappedKeyValue<A> {
-    ghost form = { wrapped_key_value_form };
-
-    ghost value = { wrapped_key_value_value };
-
-    ghost plain = { (refl, refl) };
-
-    fn read_item<'b>(
-        scope: &reader::Scope<'b, A>,
-        cursor: &mut reader::Cursor<'b, A>,
-    ) -> reader::Step<Self, A> {
-        let bytes = cursor.wrapped_leaf(scope, 0x420045)?;
-        Ok(WrappedKeyValue { bytes })
-    }
 }
 
 /// The value of a key: plain, or wrapped as a whole.
@@ -772,38 +608,46 @@ pub enum KeyValue<A: Allocator = Global> {
     /// One that isn't wrapped, or of which only the bytes are.
     Plain(PlainKeyValue<A>),
     /// One that is wrapped as a whole.
-    Wrapped(WrappedKeyValue<A>),
+    Wrapped(Vec<u8, A>),
 }
 
-impl<A: Allocator> KeyValue<A> {
-    // Sends what it holds.
-    #[tactic(auto, unfolding(crate::specs::Keys::key_value_content))]
-    pub(crate) fn send<V: Visitor>(&self, visitor: &mut V) -> Result<(), AllocError>
-        ensures received { OnOk result (Receives V.knows V.step (key_value_content self.now) visitor.old visitor.new) }
-        ensures stopped { OnErr result (V.stopped visitor.new) }
-    {
+impl<A: Allocator + Copy> Choice<A> for KeyValue<A> {
+    ghost chosen = { key_value_choice ⟦<KeyValue<A> as PartialEq>⟧.eq record {
+      plain = held ⟦<Of<PlainKeyValue<A>> as Element<A>>⟧.rules refl refl (λ x y e. e);
+      wrapped = held ⟦<LeafItem<Vec<u8, A>, 0x420045> as Element<A>>⟧.rules refl refl (λ x y e. e);
+    } };
+
+    fn read_chosen<'b>(scope: &Scope<'b, A>, cursor: &mut Cursor<'b, A>) -> Step<Self, A> {
+        reader::read_choice(scope, cursor)
+    }
+
+    fn visit_chosen<V: Visitor>(&self, visitor: &mut V) -> Result<(), AllocError> {
         match self {
-            KeyValue::Plain(inner) => inner.visit(visitor),
-            KeyValue::Wrapped(inner) => inner.visit(visitor),
+            KeyValue::Plain(inner) => <Of<PlainKeyValue<A>> as Element<A>>::visit_one(
+                inner, visitor,
+            ),
+            KeyValue::Wrapped(inner) => <LeafItem<Vec<u8, A>, 0x420045> as Element<A>>::visit_one(
+                inner, visitor,
+            ),
         }
     }
-}
 
-impl<B: Allocator> Serialize for KeyValue<B> {
-    ghost stated = { written_key_value };
-
-    #[tactic(auto, unfolding(crate::specs::Keys::written_key_value))]
-    fn visit<V: Visitor>(&self, visitor: &mut V) -> Result<(), AllocError> {
-        writing::begin_newtype_variant(visitor, "Override:0x420045", "Transparent")?;
-        self.send(visitor)?;
-        writing::end_newtype_variant(visitor, "Override:0x420045", "Transparent")
+    fn is_whole(&self) -> bool {
+        match self {
+            KeyValue::Plain(inner) => <Of<PlainKeyValue<A>> as Element<A>>::is_whole(inner),
+            KeyValue::Wrapped(inner) => <LeafItem<Vec<u8, A>, 0x420045> as Element<A>>::is_whole(
+                inner,
+            ),
+        }
     }
+
+    ghost plain = { (refl, refl) };
 }
 
 /// The rule that chooses `KeyValue::Plain`.
 pub struct KeyValuePlainRule;
 
-impl reader::Rule for KeyValuePlainRule {
+impl Rule for KeyValuePlainRule {
     ghost condition = { codes "type==Structure" };
 
     fn name() -> &'static str {
@@ -811,17 +655,14 @@ impl reader::Rule for KeyValuePlainRule {
     }
 
     #[tactic(auto, unfolding(kmip_ttlv_reader::specs::RuleParts::equal_sides))]
-    fn parts() -> Option<reader::RuleParts> {
-        Some(reader::RuleParts::Type(TtlvType::Structure))
+    fn parts() -> Option<RuleParts> {
+        Some(RuleParts::Type(TtlvType::Structure))
     }
 }
 
-impl<A: Allocator + Copy> reader::VariantOf<
-    reader::StructureElement<PlainKeyValue<A>>,
-    KeyValue<A>,
-    A,
-> for KeyValuePlainRule {
-    #[tactic(auto, unfolding(crate::specs::Keys::read_key_value))]
+impl<A: Allocator + Copy> VariantOf<AsElement<Of<PlainKeyValue<A>>>, KeyValue<A>, A>
+    for KeyValuePlainRule {
+    #[tactic(auto, unfolding(crate::specs::Choices::key_value_by))]
     fn from_content(inner: PlainKeyValue<A>) -> KeyValue<A> {
         KeyValue::Plain(inner)
     }
@@ -830,7 +671,7 @@ impl<A: Allocator + Copy> reader::VariantOf<
 /// The rule that chooses `KeyValue::Wrapped`.
 pub struct KeyValueWrappedRule;
 
-impl reader::Rule for KeyValueWrappedRule {
+impl Rule for KeyValueWrappedRule {
     ghost condition = { codes "type==ByteString" };
 
     fn name() -> &'static str {
@@ -838,84 +679,37 @@ impl reader::Rule for KeyValueWrappedRule {
     }
 
     #[tactic(auto, unfolding(kmip_ttlv_reader::specs::RuleParts::equal_sides))]
-    fn parts() -> Option<reader::RuleParts> {
-        Some(reader::RuleParts::Type(TtlvType::ByteString))
+    fn parts() -> Option<RuleParts> {
+        Some(RuleParts::Type(TtlvType::ByteString))
     }
 }
 
-impl<A: Allocator + Copy> reader::VariantOf<reader::ItemElement<WrappedKeyValue<A>>, KeyValue<A>, A>
+impl<A: Allocator + Copy> VariantOf<AsElement<LeafItem<Vec<u8, A>, 0x420045>>, KeyValue<A>, A>
     for KeyValueWrappedRule {
-    #[tactic(auto, unfolding(crate::specs::Keys::read_key_value))]
-    fn from_content(inner: WrappedKeyValue<A>) -> KeyValue<A> {
+    #[tactic(auto, unfolding(crate::specs::Choices::key_value_by))]
+    fn from_content(inner: Vec<u8, A>) -> KeyValue<A> {
         KeyValue::Wrapped(inner)
     }
 }
 
-impl<A: Allocator> reader::ChoiceValue for KeyValue<A> {
+impl<A: Allocator + Copy> ChoiceValue for KeyValue<A> {
     ghost own = { codes "value" };
 
-    ghost value = { read_key_value };
+    ghost value = { ⟦<KeyValue<A> as Choice<A>>⟧.chosen.value };
 }
 
 impl<A: Allocator + Copy> reader::Choice<A> for KeyValue<A> {
-    ghost form = { key_value_form };
+    ghost form = { ⟦<KeyValue<A> as Choice<A>>⟧.chosen.form };
 
     type Variants = (
-        reader::Variant<KeyValuePlainRule, reader::StructureElement<PlainKeyValue<A>>>,
+        Variant<KeyValuePlainRule, AsElement<Of<PlainKeyValue<A>>>>,
         (
-            reader::Variant<KeyValueWrappedRule, reader::ItemElement<WrappedKeyValue<A>>>,
+            Variant<KeyValueWrappedRule, AsElement<LeafItem<Vec<u8, A>, 0x420045>>>,
             (),
         ),
     );
 
     fn has_form() {}
-}
-
-impl<A: Allocator + Copy> reader::ReadItem<A> for KeyValue<A> {
-    ghost form = { key_value_form };
-
-    ghost value = { read_key_value };
-
-    ghost plain = { (refl, refl) };
-
-    fn read_item<'b>(
-        scope: &reader::Scope<'b, A>,
-        cursor: &mut reader::Cursor<'b, A>,
-    ) -> reader::Step<Self, A> {
-        reader::read_choice(scope, cursor)
-    }
-}
-
-/// How long a key is.
-#[derive(Clone, Copy, PartialEq, Eq)]
-pub struct CryptographicLength {
-    /// What it holds.
-    pub bits: i32,
-}
-
-impl Serialize for CryptographicLength {
-    ghost stated = { cryptographic_length_value };
-
-    fn visit<V: Visitor>(&self, visitor: &mut V) -> Result<(), AllocError> {
-        writing::tagged(visitor, 0x42002A, Leaf::I32(self.bits))?;
-        Ok(())
-    }
-}
-
-impl<A: Allocator + Copy> reader::ReadItem<A> for CryptographicLength {
-    ghost form = { cryptographic_length_form };
-
-    ghost value = { cryptographic_length_value };
-
-    ghost plain = { (refl, refl) };
-
-    fn read_item<'b>(
-        scope: &reader::Scope<'b, A>,
-        cursor: &mut reader::Cursor<'b, A>,
-    ) -> reader::Step<Self, A> {
-        let bits = cursor.wrapped_leaf(scope, 0x42002A)?;
-        Ok(CryptographicLength { bits })
-    }
 }
 
 /// A key, and what is known of its value (KMIP 1.0, section 2.1.3).
@@ -931,99 +725,100 @@ pub struct KeyBlock<A: Allocator = Global> {
     /// What it is for.
     pub cryptographic_algorithm: Option<CryptographicAlgorithm>,
     /// How long it is.
-    pub cryptographic_length: Option<CryptographicLength>,
+    pub cryptographic_length: Option<i32>,
     /// How it is wrapped, if it is.
     pub key_wrapping_data: Option<Boxed<KeyWrappingData<A>, A>>,
 }
 
-impl<B: Allocator> Serialize for KeyBlock<B> {
-    ghost stated = { written_key_block };
+type KeyBlockParts<A> = Four<
+    One<KeyFormatType>,
+    Maybe<KeyCompressionType, 0x420041>,
+    OneOf<KeyValue<A>, 0x420045>,
+    Maybe<CryptographicAlgorithm, 0x420028>,
+    (
+        MaybeLeaf<i32, 0x42002A>,
+        Maybe<Of<Boxed<KeyWrappingData<A>, A>>, 0x420046>,
+    ),
+>;
 
-    fn visit<V: Visitor>(&self, visitor: &mut V) -> Result<(), AllocError> {
+impl<A: Allocator + Copy> Structure<A> for KeyBlock<A> {
+    ghost item = { structure 0x420040 true (of (λ x. (x.key_format_type, x.key_compression_type, x.key_value, x.cryptographic_algorithm, (x.cryptographic_length, x.key_wrapping_data))) ⟦<KeyBlockParts<A> as PartList<A>>⟧.rules) refl
+        ⟦<KeyBlock<A> as PartialEq>⟧.eq (λ x y e. e) };
+
+    fn number() -> u32 {
+        0x420040
+    }
+
+    fn read_nested<'b>(scope: &Scope<'b, A>, cursor: &mut Cursor<'b, A>) -> Step<Self, A> {
+        match read_parts::<KeyBlockParts<A>, A>(scope, 0x420040, true, cursor) {
+            Ok(parts) => {
+                let (
+                    key_format_type,
+                    key_compression_type,
+                    key_value,
+                    cryptographic_algorithm,
+                    others,
+                ) = parts;
+                let (cryptographic_length, key_wrapping_data) = others;
+                Ok(KeyBlock {
+                    key_format_type,
+                    key_compression_type,
+                    key_value,
+                    cryptographic_algorithm,
+                    cryptographic_length,
+                    key_wrapping_data,
+                })
+            }
+            Err(failure) => Err(failure),
+        }
+    }
+
+    fn visit_parts<V: Visitor>(&self, visitor: &mut V) -> Result<(), AllocError> {
         writing::begin_structure(visitor, 0x420040)?;
-        self.key_format_type.visit(visitor)?;
-        writing::option(visitor, &self.key_compression_type)?;
-        self.key_value.visit(visitor)?;
-        writing::option(visitor, &self.cryptographic_algorithm)?;
-        writing::option(visitor, &self.cryptographic_length)?;
-        writing::option(visitor, &self.key_wrapping_data)?;
+        visit_four::<
+            One<KeyFormatType>,
+            Maybe<KeyCompressionType, 0x420041>,
+            OneOf<KeyValue<A>, 0x420045>,
+            Maybe<CryptographicAlgorithm, 0x420028>,
+            V,
+            A,
+        >(
+            visitor,
+            &self.key_format_type,
+            &self.key_compression_type,
+            &self.key_value,
+            &self.cryptographic_algorithm,
+        )?;
+        visit_two::<
+            MaybeLeaf<i32, 0x42002A>,
+            Maybe<Of<Boxed<KeyWrappingData<A>, A>>, 0x420046>,
+            V,
+            A,
+        >(visitor, &self.cryptographic_length, &self.key_wrapping_data)?;
         writing::end_structure(visitor, 0x420040)?;
         Ok(())
     }
-}
 
-impl<A: Allocator + Copy> reader::ReadStructure<A> for KeyBlock<A> {
-    ghost form = { key_block_form };
-
-    ghost value = { read_key_block };
-
-    ghost TAG = { 0x420040 };
-
-    ghost DENIES_UNKNOWN = { true };
-
-    type Fields = reader::Four<
-        reader::Item<KeyFormatType, 0x420042>,
-        reader::OptionalItem<KeyCompressionType, 0x420041>,
-        reader::Item<KeyValue<A>, 0x420045>,
-        reader::OptionalItem<CryptographicAlgorithm, 0x420028>,
-        (
-            reader::OptionalItem<CryptographicLength, 0x42002A>,
-            reader::OptionalNested<Boxed<KeyWrappingData<A>, A>>,
-        ),
-    >;
-
-    const TAG: u32 = 0x420040;
-
-    const DENIES_UNKNOWN: bool = true;
-
-    fn has_form() {}
-
-    #[tactic(auto, unfolding(crate::specs::Keys::read_key_block))]
-    fn from_fields(
-        fields: (
-            KeyFormatType,
-            Option<KeyCompressionType>,
-            KeyValue<A>,
-            Option<CryptographicAlgorithm>,
-            (
-                Option<CryptographicLength>,
-                Option<Boxed<KeyWrappingData<A>, A>>,
-            ),
-        ),
-    ) -> Self {
-        let (
-            key_format_type,
-            key_compression_type,
-            key_value,
-            cryptographic_algorithm,
-            (cryptographic_length, key_wrapping_data),
-        ) = fields;
-        KeyBlock {
-            key_format_type,
-            key_compression_type,
-            key_value,
-            cryptographic_algorithm,
-            cryptographic_length,
-            key_wrapping_data,
-        }
+    fn is_whole(&self) -> bool {
+        let first_four = are_whole_four::<
+            One<KeyFormatType>,
+            Maybe<KeyCompressionType, 0x420041>,
+            OneOf<KeyValue<A>, 0x420045>,
+            Maybe<CryptographicAlgorithm, 0x420028>,
+            A,
+        >(
+            &self.key_format_type,
+            &self.key_compression_type,
+            &self.key_value,
+            &self.cryptographic_algorithm,
+        );
+        let others = are_whole_two::<
+            MaybeLeaf<i32, 0x42002A>,
+            Maybe<Of<Boxed<KeyWrappingData<A>, A>>, 0x420046>,
+            A,
+        >(&self.cryptographic_length, &self.key_wrapping_data);
+        both(first_four, others)
     }
-}
-
-impl<A: Allocator + Copy> reader::ReadNested<A> for KeyBlock<A> {
-    ghost form = { key_block_form };
-
-    ghost value = { read_key_block };
-
-    ghost TAG = { 0x420040 };
 
     ghost structured = { (refl, refl) };
-
-    const TAG: u32 = 0x420040;
-
-    fn read_nested<'b>(
-        scope: &reader::Scope<'b, A>,
-        cursor: &mut reader::Cursor<'b, A>,
-    ) -> reader::Step<Self, A> {
-        reader::read_structure(scope, cursor)
-    }
 }

@@ -2,6 +2,5 @@
 #![tactic(auto)]
 
 pub mod key;
-pub mod laws;
 pub mod object;
 pub mod template;

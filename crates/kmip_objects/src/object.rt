@@ -2,15 +2,20 @@
 //! What a server keeps (KMIP 1.0, section 2.2).
 
 ghost use Rattle.std.specs.Prelude.{refl, true};
-ghost use Rattle.kmip_objects.specs.Objects.{certificate_form, certificate_value, symmetric_key_form, written_symmetric_key, read_symmetric_key, public_key_form, written_public_key, read_public_key, private_key_form, written_private_key, read_private_key, split_key_parts_form, split_key_parts_value, key_part_identifier_form, key_part_identifier_value, split_key_threshold_form, split_key_threshold_value, split_key_form, written_split_key, read_split_key, template_form, written_template, read_template, secret_data_form, written_secret_data, read_secret_data, opaque_object_form, opaque_object_value};
+ghost use Rattle.kmip_ttlv_kinds.specs.Parts.{of, structure};
 
 use crate::key::KeyBlock;
 use kmip_attributes::attribute::Attribute;
 use kmip_attributes::values::CertificateType;
+use kmip_ttlv_kinds::{
+    Alone, BigNumber, Four, Leaf, MaybeLeaf, Of, One, PartList, Several, Structure, are_whole_four,
+    are_whole_one, are_whole_two, both, read_parts, visit_four, visit_structure_one,
+    visit_structure_two, visit_two,
+};
+use kmip_ttlv_parts::Enumeration;
 use kmip_ttlv_parts::messages::writing;
-use kmip_ttlv_parts::shape::Serialize;
-use kmip_ttlv_parts::visit::{Leaf, Visitor};
-use kmip_ttlv_parts::{Enumeration, reader};
+use kmip_ttlv_parts::reader::{Cursor, Scope, Step};
+use kmip_ttlv_parts::visit::Visitor;
 use std::alloc::{AllocError, Allocator, Global};
 
 /// A certificate.
@@ -23,66 +28,46 @@ pub struct Certificate<A: Allocator = Global> {
     pub certificate_value: Vec<u8, A>,
 }
 
-impl<B: Allocator> Serialize for Certificate<B> {
-    ghost stated = { certificate_value };
+type CertificateParts<A> = (One<CertificateType>, Leaf<Vec<u8, A>, 0x42001E>);
 
-    #[tactic(auto, unfolding(crate::specs::Objects::certificate_value))]
-    fn visit<V: Visitor>(&self, visitor: &mut V) -> Result<(), AllocError> {
-        writing::begin_structure(visitor, 0x420013)?;
-        self.certificate_type.visit(visitor)?;
-        writing::bytes(visitor, 0x42001E, &self.certificate_value)?;
-        writing::end_structure(visitor, 0x420013)?;
-        Ok(())
+impl<A: Allocator + Copy> Structure<A> for Certificate<A> {
+    ghost item = { structure 0x420013 true (of (λ x. (x.certificate_type, x.certificate_value)) ⟦<CertificateParts<A> as PartList<A>>⟧.rules) refl
+        ⟦<Certificate<A> as PartialEq>⟧.eq (λ x y e. e) };
+
+    fn number() -> u32 {
+        0x420013
     }
-}
 
-impl<A: Allocator + Copy> reader::ReadStructure<A> for Certificate<A> {
-    ghost form = { certificate_form };
-
-    ghost value = { certificate_value };
-
-    ghost TAG = { 0x420013 };
-
-    ghost DENIES_UNKNOWN = { true };
-
-    type Fields = (
-        reader::Item<CertificateType, 0x42001D>,
-        reader::Leaf<Vec<u8, A>, 0x42001E>,
-    );
-
-    const TAG: u32 = 0x420013;
-
-    const DENIES_UNKNOWN: bool = true;
-
-    fn has_form() {}
-
-    #[tactic(auto, unfolding(crate::specs::Objects::certificate_value))]
-    fn from_fields(fields: (CertificateType, Vec<u8, A>)) -> Self {
-        let (certificate_type, certificate_value) = fields;
-        Certificate {
-            certificate_type,
-            certificate_value,
+    fn read_nested<'b>(scope: &Scope<'b, A>, cursor: &mut Cursor<'b, A>) -> Step<Self, A> {
+        match read_parts::<CertificateParts<A>, A>(scope, 0x420013, true, cursor) {
+            Ok(parts) => {
+                let (certificate_type, certificate_value) = parts;
+                Ok(Certificate {
+                    certificate_type,
+                    certificate_value,
+                })
+            }
+            Err(failure) => Err(failure),
         }
     }
-}
 
-impl<A: Allocator + Copy> reader::ReadNested<A> for Certificate<A> {
-    ghost form = { certificate_form };
+    fn visit_parts<V: Visitor>(&self, visitor: &mut V) -> Result<(), AllocError> {
+        visit_structure_two::<One<CertificateType>, Leaf<Vec<u8, A>, 0x42001E>, V, A>(
+            visitor,
+            0x420013,
+            &self.certificate_type,
+            &self.certificate_value,
+        )
+    }
 
-    ghost value = { certificate_value };
-
-    ghost TAG = { 0x420013 };
+    fn is_whole(&self) -> bool {
+        are_whole_two::<One<CertificateType>, Leaf<Vec<u8, A>, 0x42001E>, A>(
+            &self.certificate_type,
+            &self.certificate_value,
+        )
+    }
 
     ghost structured = { (refl, refl) };
-
-    const TAG: u32 = 0x420013;
-
-    fn read_nested<'b>(
-        scope: &reader::Scope<'b, A>,
-        cursor: &mut reader::Cursor<'b, A>,
-    ) -> reader::Step<Self, A> {
-        reader::read_structure(scope, cursor)
-    }
 }
 
 /// A symmetric key.
@@ -93,59 +78,35 @@ pub struct SymmetricKey<A: Allocator = Global> {
     pub key_block: KeyBlock<A>,
 }
 
-impl<B: Allocator> Serialize for SymmetricKey<B> {
-    ghost stated = { written_symmetric_key };
+type SymmetricKeyParts<A> = Alone<One<Of<KeyBlock<A>>>>;
 
-    #[tactic(auto, unfolding(crate::specs::Objects::written_symmetric_key))]
-    fn visit<V: Visitor>(&self, visitor: &mut V) -> Result<(), AllocError> {
-        writing::begin_structure(visitor, 0x42008F)?;
-        self.key_block.visit(visitor)?;
-        writing::end_structure(visitor, 0x42008F)?;
-        Ok(())
+impl<A: Allocator + Copy> Structure<A> for SymmetricKey<A> {
+    ghost item = { structure 0x42008F true (of (λ x. x.key_block) ⟦<SymmetricKeyParts<A> as PartList<A>>⟧.rules) refl
+        ⟦<SymmetricKey<A> as PartialEq>⟧.eq (λ x y e. e) };
+
+    fn number() -> u32 {
+        0x42008F
     }
-}
 
-impl<A: Allocator + Copy> reader::ReadStructure<A> for SymmetricKey<A> {
-    ghost form = { symmetric_key_form };
-
-    ghost value = { read_symmetric_key };
-
-    ghost TAG = { 0x42008F };
-
-    ghost DENIES_UNKNOWN = { true };
-
-    type Fields = (reader::Nested<KeyBlock<A>>,);
-
-    const TAG: u32 = 0x42008F;
-
-    const DENIES_UNKNOWN: bool = true;
-
-    fn has_form() {}
-
-    #[tactic(auto, unfolding(crate::specs::Objects::read_symmetric_key))]
-    fn from_fields(fields: (KeyBlock<A>,)) -> Self {
-        let (key_block,) = fields;
-        SymmetricKey { key_block }
+    fn read_nested<'b>(scope: &Scope<'b, A>, cursor: &mut Cursor<'b, A>) -> Step<Self, A> {
+        match read_parts::<SymmetricKeyParts<A>, A>(scope, 0x42008F, true, cursor) {
+            Ok(parts) => {
+                let key_block = parts;
+                Ok(SymmetricKey { key_block })
+            }
+            Err(failure) => Err(failure),
+        }
     }
-}
 
-impl<A: Allocator + Copy> reader::ReadNested<A> for SymmetricKey<A> {
-    ghost form = { symmetric_key_form };
+    fn visit_parts<V: Visitor>(&self, visitor: &mut V) -> Result<(), AllocError> {
+        visit_structure_one::<One<Of<KeyBlock<A>>>, V, A>(visitor, 0x42008F, &self.key_block)
+    }
 
-    ghost value = { read_symmetric_key };
-
-    ghost TAG = { 0x42008F };
+    fn is_whole(&self) -> bool {
+        are_whole_one::<One<Of<KeyBlock<A>>>, A>(&self.key_block)
+    }
 
     ghost structured = { (refl, refl) };
-
-    const TAG: u32 = 0x42008F;
-
-    fn read_nested<'b>(
-        scope: &reader::Scope<'b, A>,
-        cursor: &mut reader::Cursor<'b, A>,
-    ) -> reader::Step<Self, A> {
-        reader::read_structure(scope, cursor)
-    }
 }
 
 /// A public key.
@@ -156,59 +117,35 @@ pub struct PublicKey<A: Allocator = Global> {
     pub key_block: KeyBlock<A>,
 }
 
-impl<B: Allocator> Serialize for PublicKey<B> {
-    ghost stated = { written_public_key };
+type PublicKeyParts<A> = Alone<One<Of<KeyBlock<A>>>>;
 
-    #[tactic(auto, unfolding(crate::specs::Objects::written_public_key))]
-    fn visit<V: Visitor>(&self, visitor: &mut V) -> Result<(), AllocError> {
-        writing::begin_structure(visitor, 0x42006D)?;
-        self.key_block.visit(visitor)?;
-        writing::end_structure(visitor, 0x42006D)?;
-        Ok(())
+impl<A: Allocator + Copy> Structure<A> for PublicKey<A> {
+    ghost item = { structure 0x42006D true (of (λ x. x.key_block) ⟦<PublicKeyParts<A> as PartList<A>>⟧.rules) refl
+        ⟦<PublicKey<A> as PartialEq>⟧.eq (λ x y e. e) };
+
+    fn number() -> u32 {
+        0x42006D
     }
-}
 
-impl<A: Allocator + Copy> reader::ReadStructure<A> for PublicKey<A> {
-    ghost form = { public_key_form };
-
-    ghost value = { read_public_key };
-
-    ghost TAG = { 0x42006D };
-
-    ghost DENIES_UNKNOWN = { true };
-
-    type Fields = (reader::Nested<KeyBlock<A>>,);
-
-    const TAG: u32 = 0x42006D;
-
-    const DENIES_UNKNOWN: bool = true;
-
-    fn has_form() {}
-
-    #[tactic(auto, unfolding(crate::specs::Objects::read_public_key))]
-    fn from_fields(fields: (KeyBlock<A>,)) -> Self {
-        let (key_block,) = fields;
-        PublicKey { key_block }
+    fn read_nested<'b>(scope: &Scope<'b, A>, cursor: &mut Cursor<'b, A>) -> Step<Self, A> {
+        match read_parts::<PublicKeyParts<A>, A>(scope, 0x42006D, true, cursor) {
+            Ok(parts) => {
+                let key_block = parts;
+                Ok(PublicKey { key_block })
+            }
+            Err(failure) => Err(failure),
+        }
     }
-}
 
-impl<A: Allocator + Copy> reader::ReadNested<A> for PublicKey<A> {
-    ghost form = { public_key_form };
+    fn visit_parts<V: Visitor>(&self, visitor: &mut V) -> Result<(), AllocError> {
+        visit_structure_one::<One<Of<KeyBlock<A>>>, V, A>(visitor, 0x42006D, &self.key_block)
+    }
 
-    ghost value = { read_public_key };
-
-    ghost TAG = { 0x42006D };
+    fn is_whole(&self) -> bool {
+        are_whole_one::<One<Of<KeyBlock<A>>>, A>(&self.key_block)
+    }
 
     ghost structured = { (refl, refl) };
-
-    const TAG: u32 = 0x42006D;
-
-    fn read_nested<'b>(
-        scope: &reader::Scope<'b, A>,
-        cursor: &mut reader::Cursor<'b, A>,
-    ) -> reader::Step<Self, A> {
-        reader::read_structure(scope, cursor)
-    }
 }
 
 /// A private key.
@@ -219,59 +156,35 @@ pub struct PrivateKey<A: Allocator = Global> {
     pub key_block: KeyBlock<A>,
 }
 
-impl<B: Allocator> Serialize for PrivateKey<B> {
-    ghost stated = { written_private_key };
+type PrivateKeyParts<A> = Alone<One<Of<KeyBlock<A>>>>;
 
-    #[tactic(auto, unfolding(crate::specs::Objects::written_private_key))]
-    fn visit<V: Visitor>(&self, visitor: &mut V) -> Result<(), AllocError> {
-        writing::begin_structure(visitor, 0x420064)?;
-        self.key_block.visit(visitor)?;
-        writing::end_structure(visitor, 0x420064)?;
-        Ok(())
+impl<A: Allocator + Copy> Structure<A> for PrivateKey<A> {
+    ghost item = { structure 0x420064 true (of (λ x. x.key_block) ⟦<PrivateKeyParts<A> as PartList<A>>⟧.rules) refl
+        ⟦<PrivateKey<A> as PartialEq>⟧.eq (λ x y e. e) };
+
+    fn number() -> u32 {
+        0x420064
     }
-}
 
-impl<A: Allocator + Copy> reader::ReadStructure<A> for PrivateKey<A> {
-    ghost form = { private_key_form };
-
-    ghost value = { read_private_key };
-
-    ghost TAG = { 0x420064 };
-
-    ghost DENIES_UNKNOWN = { true };
-
-    type Fields = (reader::Nested<KeyBlock<A>>,);
-
-    const TAG: u32 = 0x420064;
-
-    const DENIES_UNKNOWN: bool = true;
-
-    fn has_form() {}
-
-    #[tactic(auto, unfolding(crate::specs::Objects::read_private_key))]
-    fn from_fields(fields: (KeyBlock<A>,)) -> Self {
-        let (key_block,) = fields;
-        PrivateKey { key_block }
+    fn read_nested<'b>(scope: &Scope<'b, A>, cursor: &mut Cursor<'b, A>) -> Step<Self, A> {
+        match read_parts::<PrivateKeyParts<A>, A>(scope, 0x420064, true, cursor) {
+            Ok(parts) => {
+                let key_block = parts;
+                Ok(PrivateKey { key_block })
+            }
+            Err(failure) => Err(failure),
+        }
     }
-}
 
-impl<A: Allocator + Copy> reader::ReadNested<A> for PrivateKey<A> {
-    ghost form = { private_key_form };
+    fn visit_parts<V: Visitor>(&self, visitor: &mut V) -> Result<(), AllocError> {
+        visit_structure_one::<One<Of<KeyBlock<A>>>, V, A>(visitor, 0x420064, &self.key_block)
+    }
 
-    ghost value = { read_private_key };
-
-    ghost TAG = { 0x420064 };
+    fn is_whole(&self) -> bool {
+        are_whole_one::<One<Of<KeyBlock<A>>>, A>(&self.key_block)
+    }
 
     ghost structured = { (refl, refl) };
-
-    const TAG: u32 = 0x420064;
-
-    fn read_nested<'b>(
-        scope: &reader::Scope<'b, A>,
-        cursor: &mut reader::Cursor<'b, A>,
-    ) -> reader::Step<Self, A> {
-        reader::read_structure(scope, cursor)
-    }
 }
 
 /// How a key was split (KMIP 1.0, section 9.1.3.2.7).
@@ -291,210 +204,110 @@ pub mod split_key_method {
     };
 }
 
-/// How many parts a key was split into.
-#[derive(Clone, Copy, PartialEq, Eq)]
-pub struct SplitKeyParts {
-    /// What it holds.
-    pub count: i32,
-}
-
-impl Serialize for SplitKeyParts {
-    ghost stated = { split_key_parts_value };
-
-    fn visit<V: Visitor>(&self, visitor: &mut V) -> Result<(), AllocError> {
-        writing::tagged(visitor, 0x42008B, Leaf::I32(self.count))?;
-        Ok(())
-    }
-}
-
-impl<A: Allocator + Copy> reader::ReadItem<A> for SplitKeyParts {
-    ghost form = { split_key_parts_form };
-
-    ghost value = { split_key_parts_value };
-
-    ghost plain = { (refl, refl) };
-
-    fn read_item<'b>(
-        scope: &reader::Scope<'b, A>,
-        cursor: &mut reader::Cursor<'b, A>,
-    ) -> reader::Step<Self, A> {
-        let count = cursor.wrapped_leaf(scope, 0x42008B)?;
-        Ok(SplitKeyParts { count })
-    }
-}
-
-/// Which of them one is.
-#[derive(Clone, Copy, PartialEq, Eq)]
-pub struct KeyPartIdentifier {
-    /// What it holds.
-    pub number: i32,
-}
-
-impl Serialize for KeyPartIdentifier {
-    ghost stated = { key_part_identifier_value };
-
-    fn visit<V: Visitor>(&self, visitor: &mut V) -> Result<(), AllocError> {
-        writing::tagged(visitor, 0x420044, Leaf::I32(self.number))?;
-        Ok(())
-    }
-}
-
-impl<A: Allocator + Copy> reader::ReadItem<A> for KeyPartIdentifier {
-    ghost form = { key_part_identifier_form };
-
-    ghost value = { key_part_identifier_value };
-
-    ghost plain = { (refl, refl) };
-
-    fn read_item<'b>(
-        scope: &reader::Scope<'b, A>,
-        cursor: &mut reader::Cursor<'b, A>,
-    ) -> reader::Step<Self, A> {
-        let number = cursor.wrapped_leaf(scope, 0x420044)?;
-        Ok(KeyPartIdentifier { number })
-    }
-}
-
-/// How many of them make the key.
-#[derive(Clone, Copy, PartialEq, Eq)]
-pub struct SplitKeyThreshold {
-    /// What it holds.
-    pub count: i32,
-}
-
-impl Serialize for SplitKeyThreshold {
-    ghost stated = { split_key_threshold_value };
-
-    fn visit<V: Visitor>(&self, visitor: &mut V) -> Result<(), AllocError> {
-        writing::tagged(visitor, 0x42008C, Leaf::I32(self.count))?;
-        Ok(())
-    }
-}
-
-impl<A: Allocator + Copy> reader::ReadItem<A> for SplitKeyThreshold {
-    ghost form = { split_key_threshold_form };
-
-    ghost value = { split_key_threshold_value };
-
-    ghost plain = { (refl, refl) };
-
-    fn read_item<'b>(
-        scope: &reader::Scope<'b, A>,
-        cursor: &mut reader::Cursor<'b, A>,
-    ) -> reader::Step<Self, A> {
-        let count = cursor.wrapped_leaf(scope, 0x42008C)?;
-        Ok(SplitKeyThreshold { count })
-    }
-}
-
 /// One of the parts that a key was split into.
 #[derive(Drop)]
 #[derive_where(PartialEq)]
 pub struct SplitKey<A: Allocator = Global> {
     /// How many parts there are.
-    pub split_key_parts: SplitKeyParts,
+    pub split_key_parts: i32,
     /// Which of them it is.
-    pub key_part_identifier: KeyPartIdentifier,
+    pub key_part_identifier: i32,
     /// How many of them make the key.
-    pub split_key_threshold: SplitKeyThreshold,
+    pub split_key_threshold: i32,
     /// How the key was split.
     pub split_key_method: SplitKeyMethod,
     /// The prime, if it was by a prime field.
-    pub prime_field_size: Option<Vec<u8, A>>,
+    pub prime_field_size: Option<BigNumber<A>>,
     /// The part.
     pub key_block: KeyBlock<A>,
 }
 
-impl<B: Allocator> Serialize for SplitKey<B> {
-    ghost stated = { written_split_key };
+type SplitKeyParts<A> = Four<
+    Leaf<i32, 0x42008B>,
+    Leaf<i32, 0x420044>,
+    Leaf<i32, 0x42008C>,
+    One<SplitKeyMethod>,
+    (MaybeLeaf<BigNumber<A>, 0x420062>, One<Of<KeyBlock<A>>>),
+>;
 
-    fn visit<V: Visitor>(&self, visitor: &mut V) -> Result<(), AllocError> {
+impl<A: Allocator + Copy> Structure<A> for SplitKey<A> {
+    ghost item = { structure 0x420089 true (of (λ x. (x.split_key_parts, x.key_part_identifier, x.split_key_threshold, x.split_key_method, (x.prime_field_size, x.key_block))) ⟦<SplitKeyParts<A> as PartList<A>>⟧.rules) refl
+        ⟦<SplitKey<A> as PartialEq>⟧.eq (λ x y e. e) };
+
+    fn number() -> u32 {
+        0x420089
+    }
+
+    fn read_nested<'b>(scope: &Scope<'b, A>, cursor: &mut Cursor<'b, A>) -> Step<Self, A> {
+        match read_parts::<SplitKeyParts<A>, A>(scope, 0x420089, true, cursor) {
+            Ok(parts) => {
+                let (
+                    split_key_parts,
+                    key_part_identifier,
+                    split_key_threshold,
+                    split_key_method,
+                    others,
+                ) = parts;
+                let (prime_field_size, key_block) = others;
+                Ok(SplitKey {
+                    split_key_parts,
+                    key_part_identifier,
+                    split_key_threshold,
+                    split_key_method,
+                    prime_field_size,
+                    key_block,
+                })
+            }
+            Err(failure) => Err(failure),
+        }
+    }
+
+    fn visit_parts<V: Visitor>(&self, visitor: &mut V) -> Result<(), AllocError> {
         writing::begin_structure(visitor, 0x420089)?;
-        self.split_key_parts.visit(visitor)?;
-        self.key_part_identifier.visit(visitor)?;
-        self.split_key_threshold.visit(visitor)?;
-        self.split_key_method.visit(visitor)?;
-        writing::optional_big_integer(visitor, 0x420062, &self.prime_field_size)?;
-        self.key_block.visit(visitor)?;
+        visit_four::<
+            Leaf<i32, 0x42008B>,
+            Leaf<i32, 0x420044>,
+            Leaf<i32, 0x42008C>,
+            One<SplitKeyMethod>,
+            V,
+            A,
+        >(
+            visitor,
+            &self.split_key_parts,
+            &self.key_part_identifier,
+            &self.split_key_threshold,
+            &self.split_key_method,
+        )?;
+        visit_two::<MaybeLeaf<BigNumber<A>, 0x420062>, One<Of<KeyBlock<A>>>, V, A>(
+            visitor,
+            &self.prime_field_size,
+            &self.key_block,
+        )?;
         writing::end_structure(visitor, 0x420089)?;
         Ok(())
     }
-}
 
-impl<A: Allocator + Copy> reader::ReadStructure<A> for SplitKey<A> {
-    ghost form = { split_key_form };
-
-    ghost value = { read_split_key };
-
-    ghost TAG = { 0x420089 };
-
-    ghost DENIES_UNKNOWN = { true };
-
-    type Fields = reader::Four<
-        reader::Item<SplitKeyParts, 0x42008B>,
-        reader::Item<KeyPartIdentifier, 0x420044>,
-        reader::Item<SplitKeyThreshold, 0x42008C>,
-        reader::Item<SplitKeyMethod, 0x42008A>,
-        (
-            reader::OptionalLeaf<reader::BigInteger<A>, 0x420062>,
-            reader::Nested<KeyBlock<A>>,
-        ),
-    >;
-
-    const TAG: u32 = 0x420089;
-
-    const DENIES_UNKNOWN: bool = true;
-
-    fn has_form() {}
-
-    #[tactic(auto, unfolding(crate::specs::Objects::read_split_key))]
-    fn from_fields(
-        fields: (
-            SplitKeyParts,
-            KeyPartIdentifier,
-            SplitKeyThreshold,
-            SplitKeyMethod,
-            (Option<reader::BigInteger<A>>, KeyBlock<A>),
-        ),
-    ) -> Self {
-        let (
-            split_key_parts,
-            key_part_identifier,
-            split_key_threshold,
-            split_key_method,
-            (prime_field_size, key_block),
-        ) = fields;
-        SplitKey {
-            split_key_parts,
-            key_part_identifier,
-            split_key_threshold,
-            split_key_method,
-            prime_field_size: match prime_field_size {
-                Some(inner) => Some(inner.0),
-                None => None
-            },
-            key_block,
-        }
+    fn is_whole(&self) -> bool {
+        let first_four = are_whole_four::<
+            Leaf<i32, 0x42008B>,
+            Leaf<i32, 0x420044>,
+            Leaf<i32, 0x42008C>,
+            One<SplitKeyMethod>,
+            A,
+        >(
+            &self.split_key_parts,
+            &self.key_part_identifier,
+            &self.split_key_threshold,
+            &self.split_key_method,
+        );
+        let others = are_whole_two::<MaybeLeaf<BigNumber<A>, 0x420062>, One<Of<KeyBlock<A>>>, A>(
+            &self.prime_field_size,
+            &self.key_block,
+        );
+        both(first_four, others)
     }
-}
-
-impl<A: Allocator + Copy> reader::ReadNested<A> for SplitKey<A> {
-    ghost form = { split_key_form };
-
-    ghost value = { read_split_key };
-
-    ghost TAG = { 0x420089 };
 
     ghost structured = { (refl, refl) };
-
-    const TAG: u32 = 0x420089;
-
-    fn read_nested<'b>(
-        scope: &reader::Scope<'b, A>,
-        cursor: &mut reader::Cursor<'b, A>,
-    ) -> reader::Step<Self, A> {
-        reader::read_structure(scope, cursor)
-    }
 }
 
 /// Attributes that other objects are made with.
@@ -505,59 +318,39 @@ pub struct Template<A: Allocator = Global> {
     pub attributes: Vec<Attribute<A>, A>,
 }
 
-impl<B: Allocator> Serialize for Template<B> {
-    ghost stated = { written_template };
+type TemplateParts<A> = Alone<Several<Of<Attribute<A>>, 0x420008>>;
 
-    #[tactic(auto, unfolding(crate::specs::Objects::written_template))]
-    fn visit<V: Visitor>(&self, visitor: &mut V) -> Result<(), AllocError> {
-        writing::begin_structure(visitor, 0x420090)?;
-        writing::several(visitor, &self.attributes)?;
-        writing::end_structure(visitor, 0x420090)?;
-        Ok(())
+impl<A: Allocator + Copy> Structure<A> for Template<A> {
+    ghost item = { structure 0x420090 true (of (λ x. x.attributes) ⟦<TemplateParts<A> as PartList<A>>⟧.rules) refl
+        ⟦<Template<A> as PartialEq>⟧.eq (λ x y e. e) };
+
+    fn number() -> u32 {
+        0x420090
     }
-}
 
-impl<A: Allocator + Copy> reader::ReadStructure<A> for Template<A> {
-    ghost form = { template_form };
-
-    ghost value = { read_template };
-
-    ghost TAG = { 0x420090 };
-
-    ghost DENIES_UNKNOWN = { true };
-
-    type Fields = (reader::Several<Attribute<A>>,);
-
-    const TAG: u32 = 0x420090;
-
-    const DENIES_UNKNOWN: bool = true;
-
-    fn has_form() {}
-
-    #[tactic(auto, unfolding(crate::specs::Objects::read_template))]
-    fn from_fields(fields: (Vec<Attribute<A>, A>,)) -> Self {
-        let (attributes,) = fields;
-        Template { attributes }
+    fn read_nested<'b>(scope: &Scope<'b, A>, cursor: &mut Cursor<'b, A>) -> Step<Self, A> {
+        match read_parts::<TemplateParts<A>, A>(scope, 0x420090, true, cursor) {
+            Ok(parts) => {
+                let attributes = parts;
+                Ok(Template { attributes })
+            }
+            Err(failure) => Err(failure),
+        }
     }
-}
 
-impl<A: Allocator + Copy> reader::ReadNested<A> for Template<A> {
-    ghost form = { template_form };
+    fn visit_parts<V: Visitor>(&self, visitor: &mut V) -> Result<(), AllocError> {
+        visit_structure_one::<Several<Of<Attribute<A>>, 0x420008>, V, A>(
+            visitor,
+            0x420090,
+            &self.attributes,
+        )
+    }
 
-    ghost value = { read_template };
-
-    ghost TAG = { 0x420090 };
+    fn is_whole(&self) -> bool {
+        are_whole_one::<Several<Of<Attribute<A>>, 0x420008>, A>(&self.attributes)
+    }
 
     ghost structured = { (refl, refl) };
-
-    const TAG: u32 = 0x420090;
-
-    fn read_nested<'b>(
-        scope: &reader::Scope<'b, A>,
-        cursor: &mut reader::Cursor<'b, A>,
-    ) -> reader::Step<Self, A> {
-        reader::read_structure(scope, cursor)
-    }
 }
 
 /// What a secret is (KMIP 1.0, section 9.1.3.2.8).
@@ -583,66 +376,46 @@ pub struct SecretData<A: Allocator = Global> {
     pub key_block: KeyBlock<A>,
 }
 
-impl<B: Allocator> Serialize for SecretData<B> {
-    ghost stated = { written_secret_data };
+type SecretDataParts<A> = (One<SecretDataType>, One<Of<KeyBlock<A>>>);
 
-    #[tactic(auto, unfolding(crate::specs::Objects::written_secret_data))]
-    fn visit<V: Visitor>(&self, visitor: &mut V) -> Result<(), AllocError> {
-        writing::begin_structure(visitor, 0x420085)?;
-        self.secret_data_type.visit(visitor)?;
-        self.key_block.visit(visitor)?;
-        writing::end_structure(visitor, 0x420085)?;
-        Ok(())
+impl<A: Allocator + Copy> Structure<A> for SecretData<A> {
+    ghost item = { structure 0x420085 true (of (λ x. (x.secret_data_type, x.key_block)) ⟦<SecretDataParts<A> as PartList<A>>⟧.rules) refl
+        ⟦<SecretData<A> as PartialEq>⟧.eq (λ x y e. e) };
+
+    fn number() -> u32 {
+        0x420085
     }
-}
 
-impl<A: Allocator + Copy> reader::ReadStructure<A> for SecretData<A> {
-    ghost form = { secret_data_form };
-
-    ghost value = { read_secret_data };
-
-    ghost TAG = { 0x420085 };
-
-    ghost DENIES_UNKNOWN = { true };
-
-    type Fields = (
-        reader::Item<SecretDataType, 0x420086>,
-        reader::Nested<KeyBlock<A>>,
-    );
-
-    const TAG: u32 = 0x420085;
-
-    const DENIES_UNKNOWN: bool = true;
-
-    fn has_form() {}
-
-    #[tactic(auto, unfolding(crate::specs::Objects::read_secret_data))]
-    fn from_fields(fields: (SecretDataType, KeyBlock<A>)) -> Self {
-        let (secret_data_type, key_block) = fields;
-        SecretData {
-            secret_data_type,
-            key_block,
+    fn read_nested<'b>(scope: &Scope<'b, A>, cursor: &mut Cursor<'b, A>) -> Step<Self, A> {
+        match read_parts::<SecretDataParts<A>, A>(scope, 0x420085, true, cursor) {
+            Ok(parts) => {
+                let (secret_data_type, key_block) = parts;
+                Ok(SecretData {
+                    secret_data_type,
+                    key_block,
+                })
+            }
+            Err(failure) => Err(failure),
         }
     }
-}
 
-impl<A: Allocator + Copy> reader::ReadNested<A> for SecretData<A> {
-    ghost form = { secret_data_form };
+    fn visit_parts<V: Visitor>(&self, visitor: &mut V) -> Result<(), AllocError> {
+        visit_structure_two::<One<SecretDataType>, One<Of<KeyBlock<A>>>, V, A>(
+            visitor,
+            0x420085,
+            &self.secret_data_type,
+            &self.key_block,
+        )
+    }
 
-    ghost value = { read_secret_data };
-
-    ghost TAG = { 0x420085 };
+    fn is_whole(&self) -> bool {
+        are_whole_two::<One<SecretDataType>, One<Of<KeyBlock<A>>>, A>(
+            &self.secret_data_type,
+            &self.key_block,
+        )
+    }
 
     ghost structured = { (refl, refl) };
-
-    const TAG: u32 = 0x420085;
-
-    fn read_nested<'b>(
-        scope: &reader::Scope<'b, A>,
-        cursor: &mut reader::Cursor<'b, A>,
-    ) -> reader::Step<Self, A> {
-        reader::read_structure(scope, cursor)
-    }
 }
 
 /// What bytes are that the server doesn't interpret: the standard names nothing.
@@ -666,66 +439,46 @@ pub struct OpaqueObject<A: Allocator = Global> {
     pub opaque_data_value: Vec<u8, A>,
 }
 
-impl<B: Allocator> Serialize for OpaqueObject<B> {
-    ghost stated = { opaque_object_value };
+type OpaqueObjectParts<A> = (One<OpaqueDataType>, Leaf<Vec<u8, A>, 0x42005A>);
 
-    #[tactic(auto, unfolding(crate::specs::Objects::opaque_object_value))]
-    fn visit<V: Visitor>(&self, visitor: &mut V) -> Result<(), AllocError> {
-        writing::begin_structure(visitor, 0x42005B)?;
-        self.opaque_data_type.visit(visitor)?;
-        writing::bytes(visitor, 0x42005A, &self.opaque_data_value)?;
-        writing::end_structure(visitor, 0x42005B)?;
-        Ok(())
+impl<A: Allocator + Copy> Structure<A> for OpaqueObject<A> {
+    ghost item = { structure 0x42005B true (of (λ x. (x.opaque_data_type, x.opaque_data_value)) ⟦<OpaqueObjectParts<A> as PartList<A>>⟧.rules) refl
+        ⟦<OpaqueObject<A> as PartialEq>⟧.eq (λ x y e. e) };
+
+    fn number() -> u32 {
+        0x42005B
     }
-}
 
-impl<A: Allocator + Copy> reader::ReadStructure<A> for OpaqueObject<A> {
-    ghost form = { opaque_object_form };
-
-    ghost value = { opaque_object_value };
-
-    ghost TAG = { 0x42005B };
-
-    ghost DENIES_UNKNOWN = { true };
-
-    type Fields = (
-        reader::Item<OpaqueDataType, 0x420059>,
-        reader::Leaf<Vec<u8, A>, 0x42005A>,
-    );
-
-    const TAG: u32 = 0x42005B;
-
-    const DENIES_UNKNOWN: bool = true;
-
-    fn has_form() {}
-
-    #[tactic(auto, unfolding(crate::specs::Objects::opaque_object_value))]
-    fn from_fields(fields: (OpaqueDataType, Vec<u8, A>)) -> Self {
-        let (opaque_data_type, opaque_data_value) = fields;
-        OpaqueObject {
-            opaque_data_type,
-            opaque_data_value,
+    fn read_nested<'b>(scope: &Scope<'b, A>, cursor: &mut Cursor<'b, A>) -> Step<Self, A> {
+        match read_parts::<OpaqueObjectParts<A>, A>(scope, 0x42005B, true, cursor) {
+            Ok(parts) => {
+                let (opaque_data_type, opaque_data_value) = parts;
+                Ok(OpaqueObject {
+                    opaque_data_type,
+                    opaque_data_value,
+                })
+            }
+            Err(failure) => Err(failure),
         }
     }
-}
 
-impl<A: Allocator + Copy> reader::ReadNested<A> for OpaqueObject<A> {
-    ghost form = { opaque_object_form };
+    fn visit_parts<V: Visitor>(&self, visitor: &mut V) -> Result<(), AllocError> {
+        visit_structure_two::<One<OpaqueDataType>, Leaf<Vec<u8, A>, 0x42005A>, V, A>(
+            visitor,
+            0x42005B,
+            &self.opaque_data_type,
+            &self.opaque_data_value,
+        )
+    }
 
-    ghost value = { opaque_object_value };
-
-    ghost TAG = { 0x42005B };
+    fn is_whole(&self) -> bool {
+        are_whole_two::<One<OpaqueDataType>, Leaf<Vec<u8, A>, 0x42005A>, A>(
+            &self.opaque_data_type,
+            &self.opaque_data_value,
+        )
+    }
 
     ghost structured = { (refl, refl) };
-
-    const TAG: u32 = 0x42005B;
-
-    fn read_nested<'b>(
-        scope: &reader::Scope<'b, A>,
-        cursor: &mut reader::Cursor<'b, A>,
-    ) -> reader::Step<Self, A> {
-        reader::read_structure(scope, cursor)
-    }
 }
 
 /// What a server keeps.

@@ -2,13 +2,14 @@
 //! What objects are made with (KMIP 1.0, section 2.1.8).
 
 ghost use Rattle.std.specs.Prelude.{refl, true};
-ghost use Rattle.kmip_objects.specs.Templates.{template_name_form, template_name_value, template_attribute_form, written_template_attribute, read_template_attribute, common_template_attribute_form, written_common_template_attribute, read_common_template_attribute, private_key_template_attribute_form, written_private_key_template_attribute, read_private_key_template_attribute, public_key_template_attribute_form, written_public_key_template_attribute, read_public_key_template_attribute};
+ghost use Rattle.kmip_ttlv_kinds.specs.Parts.{of, structure};
 
 use kmip_attributes::attribute::Attribute;
 use kmip_attributes::values::NameType;
-use kmip_ttlv_parts::messages::writing;
-use kmip_ttlv_parts::reader;
-use kmip_ttlv_parts::shape::Serialize;
+use kmip_ttlv_kinds::{
+    Any, Leaf, Of, One, PartList, Structure, are_whole_two, read_parts, visit_structure_two,
+};
+use kmip_ttlv_parts::reader::{Cursor, Scope, Step};
 use kmip_ttlv_parts::visit::Visitor;
 use std::alloc::{AllocError, Allocator, Global};
 
@@ -22,63 +23,40 @@ pub struct TemplateName<A: Allocator = Global> {
     pub name_type: NameType,
 }
 
-impl<B: Allocator> Serialize for TemplateName<B> {
-    ghost stated = { template_name_value };
+type TemplateNameParts<A> = (Leaf<String<A>, 0x420055>, One<NameType>);
 
-    #[tactic(auto, unfolding(crate::specs::Templates::template_name_value))]
-    fn visit<V: Visitor>(&self, visitor: &mut V) -> Result<(), AllocError> {
-        writing::begin_structure(visitor, 0x420053)?;
-        writing::string(visitor, 0x420055, &self.value)?;
-        self.name_type.visit(visitor)?;
-        writing::end_structure(visitor, 0x420053)?;
-        Ok(())
+impl<A: Allocator + Copy> Structure<A> for TemplateName<A> {
+    ghost item = { structure 0x420053 true (of (λ x. (x.value, x.name_type)) ⟦<TemplateNameParts<A> as PartList<A>>⟧.rules) refl
+        ⟦<TemplateName<A> as PartialEq>⟧.eq (λ x y e. e) };
+
+    fn number() -> u32 {
+        0x420053
     }
-}
 
-impl<A: Allocator + Copy> reader::ReadStructure<A> for TemplateName<A> {
-    ghost form = { template_name_form };
-
-    ghost value = { template_name_value };
-
-    ghost TAG = { 0x420053 };
-
-    ghost DENIES_UNKNOWN = { true };
-
-    type Fields = (
-        reader::Leaf<String<A>, 0x420055>,
-        reader::Item<NameType, 0x420054>,
-    );
-
-    const TAG: u32 = 0x420053;
-
-    const DENIES_UNKNOWN: bool = true;
-
-    fn has_form() {}
-
-    #[tactic(auto, unfolding(crate::specs::Templates::template_name_value))]
-    fn from_fields(fields: (String<A>, NameType)) -> Self {
-        let (value, name_type) = fields;
-        TemplateName { value, name_type }
+    fn read_nested<'b>(scope: &Scope<'b, A>, cursor: &mut Cursor<'b, A>) -> Step<Self, A> {
+        match read_parts::<TemplateNameParts<A>, A>(scope, 0x420053, true, cursor) {
+            Ok(parts) => {
+                let (value, name_type) = parts;
+                Ok(TemplateName { value, name_type })
+            }
+            Err(failure) => Err(failure),
+        }
     }
-}
 
-impl<A: Allocator + Copy> reader::ReadNested<A> for TemplateName<A> {
-    ghost form = { template_name_form };
+    fn visit_parts<V: Visitor>(&self, visitor: &mut V) -> Result<(), AllocError> {
+        visit_structure_two::<Leaf<String<A>, 0x420055>, One<NameType>, V, A>(
+            visitor,
+            0x420053,
+            &self.value,
+            &self.name_type,
+        )
+    }
 
-    ghost value = { template_name_value };
-
-    ghost TAG = { 0x420053 };
+    fn is_whole(&self) -> bool {
+        are_whole_two::<Leaf<String<A>, 0x420055>, One<NameType>, A>(&self.value, &self.name_type)
+    }
 
     ghost structured = { (refl, refl) };
-
-    const TAG: u32 = 0x420053;
-
-    fn read_nested<'b>(
-        scope: &reader::Scope<'b, A>,
-        cursor: &mut reader::Cursor<'b, A>,
-    ) -> reader::Step<Self, A> {
-        reader::read_structure(scope, cursor)
-    }
 }
 
 /// Templates and attributes.
@@ -91,63 +69,46 @@ pub struct TemplateAttribute<A: Allocator = Global> {
     pub attributes: Vec<Attribute<A>, A>,
 }
 
-impl<B: Allocator> Serialize for TemplateAttribute<B> {
-    ghost stated = { written_template_attribute };
+type TemplateAttributeParts<A> = (
+    Any<Of<TemplateName<A>>, 0x420053>,
+    Any<Of<Attribute<A>>, 0x420008>,
+);
 
-    #[tactic(auto, unfolding(crate::specs::Templates::written_template_attribute))]
-    fn visit<V: Visitor>(&self, visitor: &mut V) -> Result<(), AllocError> {
-        writing::begin_structure(visitor, 0x420091)?;
-        writing::several(visitor, &self.names)?;
-        writing::several(visitor, &self.attributes)?;
-        writing::end_structure(visitor, 0x420091)?;
-        Ok(())
+impl<A: Allocator + Copy> Structure<A> for TemplateAttribute<A> {
+    ghost item = { structure 0x420091 true (of (λ x. (x.names, x.attributes)) ⟦<TemplateAttributeParts<A> as PartList<A>>⟧.rules) refl
+        ⟦<TemplateAttribute<A> as PartialEq>⟧.eq (λ x y e. e) };
+
+    fn number() -> u32 {
+        0x420091
     }
-}
 
-impl<A: Allocator + Copy> reader::ReadStructure<A> for TemplateAttribute<A> {
-    ghost form = { template_attribute_form };
-
-    ghost value = { read_template_attribute };
-
-    ghost TAG = { 0x420091 };
-
-    ghost DENIES_UNKNOWN = { true };
-
-    type Fields = (
-        reader::OptionalSeveral<TemplateName<A>>,
-        reader::OptionalSeveral<Attribute<A>>,
-    );
-
-    const TAG: u32 = 0x420091;
-
-    const DENIES_UNKNOWN: bool = true;
-
-    fn has_form() {}
-
-    #[tactic(auto, unfolding(crate::specs::Templates::read_template_attribute))]
-    fn from_fields(fields: (Vec<TemplateName<A>, A>, Vec<Attribute<A>, A>)) -> Self {
-        let (names, attributes) = fields;
-        TemplateAttribute { names, attributes }
+    fn read_nested<'b>(scope: &Scope<'b, A>, cursor: &mut Cursor<'b, A>) -> Step<Self, A> {
+        match read_parts::<TemplateAttributeParts<A>, A>(scope, 0x420091, true, cursor) {
+            Ok(parts) => {
+                let (names, attributes) = parts;
+                Ok(TemplateAttribute { names, attributes })
+            }
+            Err(failure) => Err(failure),
+        }
     }
-}
 
-impl<A: Allocator + Copy> reader::ReadNested<A> for TemplateAttribute<A> {
-    ghost form = { template_attribute_form };
+    fn visit_parts<V: Visitor>(&self, visitor: &mut V) -> Result<(), AllocError> {
+        visit_structure_two::<
+            Any<Of<TemplateName<A>>, 0x420053>,
+            Any<Of<Attribute<A>>, 0x420008>,
+            V,
+            A,
+        >(visitor, 0x420091, &self.names, &self.attributes)
+    }
 
-    ghost value = { read_template_attribute };
-
-    ghost TAG = { 0x420091 };
+    fn is_whole(&self) -> bool {
+        are_whole_two::<Any<Of<TemplateName<A>>, 0x420053>, Any<Of<Attribute<A>>, 0x420008>, A>(
+            &self.names,
+            &self.attributes,
+        )
+    }
 
     ghost structured = { (refl, refl) };
-
-    const TAG: u32 = 0x420091;
-
-    fn read_nested<'b>(
-        scope: &reader::Scope<'b, A>,
-        cursor: &mut reader::Cursor<'b, A>,
-    ) -> reader::Step<Self, A> {
-        reader::read_structure(scope, cursor)
-    }
 }
 
 /// What both keys of a pair are made with.
@@ -160,63 +121,46 @@ pub struct CommonTemplateAttribute<A: Allocator = Global> {
     pub attributes: Vec<Attribute<A>, A>,
 }
 
-impl<B: Allocator> Serialize for CommonTemplateAttribute<B> {
-    ghost stated = { written_common_template_attribute };
+type CommonTemplateAttributeParts<A> = (
+    Any<Of<TemplateName<A>>, 0x420053>,
+    Any<Of<Attribute<A>>, 0x420008>,
+);
 
-    #[tactic(auto, unfolding(crate::specs::Templates::written_common_template_attribute))]
-    fn visit<V: Visitor>(&self, visitor: &mut V) -> Result<(), AllocError> {
-        writing::begin_structure(visitor, 0x42001F)?;
-        writing::several(visitor, &self.names)?;
-        writing::several(visitor, &self.attributes)?;
-        writing::end_structure(visitor, 0x42001F)?;
-        Ok(())
+impl<A: Allocator + Copy> Structure<A> for CommonTemplateAttribute<A> {
+    ghost item = { structure 0x42001F true (of (λ x. (x.names, x.attributes)) ⟦<CommonTemplateAttributeParts<A> as PartList<A>>⟧.rules) refl
+        ⟦<CommonTemplateAttribute<A> as PartialEq>⟧.eq (λ x y e. e) };
+
+    fn number() -> u32 {
+        0x42001F
     }
-}
 
-impl<A: Allocator + Copy> reader::ReadStructure<A> for CommonTemplateAttribute<A> {
-    ghost form = { common_template_attribute_form };
-
-    ghost value = { read_common_template_attribute };
-
-    ghost TAG = { 0x42001F };
-
-    ghost DENIES_UNKNOWN = { true };
-
-    type Fields = (
-        reader::OptionalSeveral<TemplateName<A>>,
-        reader::OptionalSeveral<Attribute<A>>,
-    );
-
-    const TAG: u32 = 0x42001F;
-
-    const DENIES_UNKNOWN: bool = true;
-
-    fn has_form() {}
-
-    #[tactic(auto, unfolding(crate::specs::Templates::read_common_template_attribute))]
-    fn from_fields(fields: (Vec<TemplateName<A>, A>, Vec<Attribute<A>, A>)) -> Self {
-        let (names, attributes) = fields;
-        CommonTemplateAttribute { names, attributes }
+    fn read_nested<'b>(scope: &Scope<'b, A>, cursor: &mut Cursor<'b, A>) -> Step<Self, A> {
+        match read_parts::<CommonTemplateAttributeParts<A>, A>(scope, 0x42001F, true, cursor) {
+            Ok(parts) => {
+                let (names, attributes) = parts;
+                Ok(CommonTemplateAttribute { names, attributes })
+            }
+            Err(failure) => Err(failure),
+        }
     }
-}
 
-impl<A: Allocator + Copy> reader::ReadNested<A> for CommonTemplateAttribute<A> {
-    ghost form = { common_template_attribute_form };
+    fn visit_parts<V: Visitor>(&self, visitor: &mut V) -> Result<(), AllocError> {
+        visit_structure_two::<
+            Any<Of<TemplateName<A>>, 0x420053>,
+            Any<Of<Attribute<A>>, 0x420008>,
+            V,
+            A,
+        >(visitor, 0x42001F, &self.names, &self.attributes)
+    }
 
-    ghost value = { read_common_template_attribute };
-
-    ghost TAG = { 0x42001F };
+    fn is_whole(&self) -> bool {
+        are_whole_two::<Any<Of<TemplateName<A>>, 0x420053>, Any<Of<Attribute<A>>, 0x420008>, A>(
+            &self.names,
+            &self.attributes,
+        )
+    }
 
     ghost structured = { (refl, refl) };
-
-    const TAG: u32 = 0x42001F;
-
-    fn read_nested<'b>(
-        scope: &reader::Scope<'b, A>,
-        cursor: &mut reader::Cursor<'b, A>,
-    ) -> reader::Step<Self, A> {
-        reader::read_structure(scope, cursor)
-    }
 }
 
 /// What a private key is made with.
@@ -229,63 +173,46 @@ pub struct PrivateKeyTemplateAttribute<A: Allocator = Global> {
     pub attributes: Vec<Attribute<A>, A>,
 }
 
-impl<B: Allocator> Serialize for PrivateKeyTemplateAttribute<B> {
-    ghost stated = { written_private_key_template_attribute };
+type PrivateKeyTemplateAttributeParts<A> = (
+    Any<Of<TemplateName<A>>, 0x420053>,
+    Any<Of<Attribute<A>>, 0x420008>,
+);
 
-    #[tactic(auto, unfolding(crate::specs::Templates::written_private_key_template_attribute))]
-    fn visit<V: Visitor>(&self, visitor: &mut V) -> Result<(), AllocError> {
-        writing::begin_structure(visitor, 0x420065)?;
-        writing::several(visitor, &self.names)?;
-        writing::several(visitor, &self.attributes)?;
-        writing::end_structure(visitor, 0x420065)?;
-        Ok(())
+impl<A: Allocator + Copy> Structure<A> for PrivateKeyTemplateAttribute<A> {
+    ghost item = { structure 0x420065 true (of (λ x. (x.names, x.attributes)) ⟦<PrivateKeyTemplateAttributeParts<A> as PartList<A>>⟧.rules) refl
+        ⟦<PrivateKeyTemplateAttribute<A> as PartialEq>⟧.eq (λ x y e. e) };
+
+    fn number() -> u32 {
+        0x420065
     }
-}
 
-impl<A: Allocator + Copy> reader::ReadStructure<A> for PrivateKeyTemplateAttribute<A> {
-    ghost form = { private_key_template_attribute_form };
-
-    ghost value = { read_private_key_template_attribute };
-
-    ghost TAG = { 0x420065 };
-
-    ghost DENIES_UNKNOWN = { true };
-
-    type Fields = (
-        reader::OptionalSeveral<TemplateName<A>>,
-        reader::OptionalSeveral<Attribute<A>>,
-    );
-
-    const TAG: u32 = 0x420065;
-
-    const DENIES_UNKNOWN: bool = true;
-
-    fn has_form() {}
-
-    #[tactic(auto, unfolding(crate::specs::Templates::read_private_key_template_attribute))]
-    fn from_fields(fields: (Vec<TemplateName<A>, A>, Vec<Attribute<A>, A>)) -> Self {
-        let (names, attributes) = fields;
-        PrivateKeyTemplateAttribute { names, attributes }
+    fn read_nested<'b>(scope: &Scope<'b, A>, cursor: &mut Cursor<'b, A>) -> Step<Self, A> {
+        match read_parts::<PrivateKeyTemplateAttributeParts<A>, A>(scope, 0x420065, true, cursor) {
+            Ok(parts) => {
+                let (names, attributes) = parts;
+                Ok(PrivateKeyTemplateAttribute { names, attributes })
+            }
+            Err(failure) => Err(failure),
+        }
     }
-}
 
-impl<A: Allocator + Copy> reader::ReadNested<A> for PrivateKeyTemplateAttribute<A> {
-    ghost form = { private_key_template_attribute_form };
+    fn visit_parts<V: Visitor>(&self, visitor: &mut V) -> Result<(), AllocError> {
+        visit_structure_two::<
+            Any<Of<TemplateName<A>>, 0x420053>,
+            Any<Of<Attribute<A>>, 0x420008>,
+            V,
+            A,
+        >(visitor, 0x420065, &self.names, &self.attributes)
+    }
 
-    ghost value = { read_private_key_template_attribute };
-
-    ghost TAG = { 0x420065 };
+    fn is_whole(&self) -> bool {
+        are_whole_two::<Any<Of<TemplateName<A>>, 0x420053>, Any<Of<Attribute<A>>, 0x420008>, A>(
+            &self.names,
+            &self.attributes,
+        )
+    }
 
     ghost structured = { (refl, refl) };
-
-    const TAG: u32 = 0x420065;
-
-    fn read_nested<'b>(
-        scope: &reader::Scope<'b, A>,
-        cursor: &mut reader::Cursor<'b, A>,
-    ) -> reader::Step<Self, A> {
-        reader::read_structure(scope, cursor)
-    }
 }
 
 /// What a public key is made with.
@@ -298,61 +225,44 @@ pub struct PublicKeyTemplateAttribute<A: Allocator = Global> {
     pub attributes: Vec<Attribute<A>, A>,
 }
 
-impl<B: Allocator> Serialize for PublicKeyTemplateAttribute<B> {
-    ghost stated = { written_public_key_template_attribute };
+type PublicKeyTemplateAttributeParts<A> = (
+    Any<Of<TemplateName<A>>, 0x420053>,
+    Any<Of<Attribute<A>>, 0x420008>,
+);
 
-    #[tactic(auto, unfolding(crate::specs::Templates::written_public_key_template_attribute))]
-    fn visit<V: Visitor>(&self, visitor: &mut V) -> Result<(), AllocError> {
-        writing::begin_structure(visitor, 0x42006E)?;
-        writing::several(visitor, &self.names)?;
-        writing::several(visitor, &self.attributes)?;
-        writing::end_structure(visitor, 0x42006E)?;
-        Ok(())
+impl<A: Allocator + Copy> Structure<A> for PublicKeyTemplateAttribute<A> {
+    ghost item = { structure 0x42006E true (of (λ x. (x.names, x.attributes)) ⟦<PublicKeyTemplateAttributeParts<A> as PartList<A>>⟧.rules) refl
+        ⟦<PublicKeyTemplateAttribute<A> as PartialEq>⟧.eq (λ x y e. e) };
+
+    fn number() -> u32 {
+        0x42006E
     }
-}
 
-impl<A: Allocator + Copy> reader::ReadStructure<A> for PublicKeyTemplateAttribute<A> {
-    ghost form = { public_key_template_attribute_form };
-
-    ghost value = { read_public_key_template_attribute };
-
-    ghost TAG = { 0x42006E };
-
-    ghost DENIES_UNKNOWN = { true };
-
-    type Fields = (
-        reader::OptionalSeveral<TemplateName<A>>,
-        reader::OptionalSeveral<Attribute<A>>,
-    );
-
-    const TAG: u32 = 0x42006E;
-
-    const DENIES_UNKNOWN: bool = true;
-
-    fn has_form() {}
-
-    #[tactic(auto, unfolding(crate::specs::Templates::read_public_key_template_attribute))]
-    fn from_fields(fields: (Vec<TemplateName<A>, A>, Vec<Attribute<A>, A>)) -> Self {
-        let (names, attributes) = fields;
-        PublicKeyTemplateAttribute { names, attributes }
+    fn read_nested<'b>(scope: &Scope<'b, A>, cursor: &mut Cursor<'b, A>) -> Step<Self, A> {
+        match read_parts::<PublicKeyTemplateAttributeParts<A>, A>(scope, 0x42006E, true, cursor) {
+            Ok(parts) => {
+                let (names, attributes) = parts;
+                Ok(PublicKeyTemplateAttribute { names, attributes })
+            }
+            Err(failure) => Err(failure),
+        }
     }
-}
 
-impl<A: Allocator + Copy> reader::ReadNested<A> for PublicKeyTemplateAttribute<A> {
-    ghost form = { public_key_template_attribute_form };
+    fn visit_parts<V: Visitor>(&self, visitor: &mut V) -> Result<(), AllocError> {
+        visit_structure_two::<
+            Any<Of<TemplateName<A>>, 0x420053>,
+            Any<Of<Attribute<A>>, 0x420008>,
+            V,
+            A,
+        >(visitor, 0x42006E, &self.names, &self.attributes)
+    }
 
-    ghost value = { read_public_key_template_attribute };
-
-    ghost TAG = { 0x42006E };
+    fn is_whole(&self) -> bool {
+        are_whole_two::<Any<Of<TemplateName<A>>, 0x420053>, Any<Of<Attribute<A>>, 0x420008>, A>(
+            &self.names,
+            &self.attributes,
+        )
+    }
 
     ghost structured = { (refl, refl) };
-
-    const TAG: u32 = 0x42006E;
-
-    fn read_nested<'b>(
-        scope: &reader::Scope<'b, A>,
-        cursor: &mut reader::Cursor<'b, A>,
-    ) -> reader::Step<Self, A> {
-        reader::read_structure(scope, cursor)
-    }
 }

@@ -1,2 +1,1 @@
-pub mod RequestPayloads
-pub mod Soundness
+pub mod Choices

@@ -2,5 +2,4 @@
 //! `types.table`.
 #![tactic(auto)]
 
-pub mod laws;
 pub mod request_payload;

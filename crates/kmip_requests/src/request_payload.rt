@@ -1,10 +1,13 @@
 // Written by codegen from types.table: change that, and run codegen/codegen.
 //! What is asked for (KMIP 1.0, section 4).
 
-ghost use Rattle.std.specs.Prelude.{◌↔◌, refl, IsTrue, codes, true};
-ghost use Rattle.kmip_requests.specs.RequestPayloads.{create_request_form, written_create_request, read_create_request, create_key_pair_request_form, written_create_key_pair_request, read_create_key_pair_request, register_request_form, written_register_request, read_register_request, IsRegisterRequestObject, maximum_items_form, maximum_items_value, storage_status_mask_form, storage_status_mask_value, locate_request_form, written_locate_request, read_locate_request, key_wrapping_specification_form, written_key_wrapping_specification, read_key_wrapping_specification, get_request_form, written_get_request, read_get_request, get_attributes_request_form, written_get_attributes_request, read_get_attributes_request, attribute_request_form, written_attribute_request, read_attribute_request, delete_attribute_request_form, written_delete_attribute_request, read_delete_attribute_request, object_request_form, written_object_request, read_object_request, revocation_reason_given_form, written_revocation_reason_given, read_revocation_reason_given, compromise_occurrence_date_form, compromise_occurrence_date_value, revoke_request_form, written_revoke_request, read_revoke_request, query_request_form, query_request_value, discover_versions_request_form, written_discover_versions_request, read_discover_versions_request, request_payload_form, written_request_payload, read_request_payload, ChoosesRequestPayload, request_payload_variants_4, request_payload_variants_8, request_payload_variants_12, ChoosesRequestPayloadNumber};
+ghost use Rattle.std.specs.Prelude.{◌≡◌, ◌↔◌, ◌+◌, None, IsTrue, Some, codes, refl, true};
+ghost use Rattle.kmip_ttlv_kinds.specs.Parts.{of, structure, structure_where};
+ghost use Rattle.kmip_ttlv_kinds.specs.Choices.{held};
+ghost use Rattle.kmip_ttlv_parts.specs.MessageParts.{there};
+ghost use Rattle.kmip_requests.specs.Choices.{IsRegisterRequestObject, request_payload_choice, ChoosesRequestPayload, ChoosesRequestPayloadNumber};
 
-use kmip_attributes::attribute::{Attribute, AttributeIndex, AttributeName};
+use kmip_attributes::attribute::Attribute;
 use kmip_attributes::values::{KeyFormatType, ObjectType, RevocationReasonCode};
 use kmip_headers::header::ProtocolVersion;
 use kmip_objects::key::{
@@ -19,10 +22,18 @@ use kmip_objects::template::{
     CommonTemplateAttribute, PrivateKeyTemplateAttribute, PublicKeyTemplateAttribute,
     TemplateAttribute,
 };
+use kmip_ttlv_kinds::{
+    Alone, Any, AsElement, Choice, Element, Four, Leaf, LeafItem, Maybe, MaybeLeaf, Of, One,
+    PartList, Several, Structure, are_whole_four, are_whole_one, are_whole_three, are_whole_two,
+    both, read_parts, visit_four, visit_one, visit_structure_four, visit_structure_one,
+    visit_structure_three, visit_structure_two, visit_two,
+};
 use kmip_ttlv_parts::messages::writing;
-use kmip_ttlv_parts::shape::Serialize;
+use kmip_ttlv_parts::reader::{
+    ChoiceValue, Cursor, DateTime, Rule, RuleParts, Scope, Step, Variant, VariantList, VariantOf,
+};
 use kmip_ttlv_parts::types::TtlvType;
-use kmip_ttlv_parts::visit::{Leaf, Visitor};
+use kmip_ttlv_parts::visit::Visitor;
 use kmip_ttlv_parts::{Boxed, Enumeration, reader};
 use std::alloc::{AllocError, Allocator, Global};
 
@@ -36,66 +47,46 @@ pub struct CreateRequest<A: Allocator = Global> {
     pub template_attribute: TemplateAttribute<A>,
 }
 
-impl<B: Allocator> Serialize for CreateRequest<B> {
-    ghost stated = { written_create_request };
+type CreateRequestParts<A> = (One<ObjectType>, One<Of<TemplateAttribute<A>>>);
 
-    #[tactic(auto, unfolding(crate::specs::RequestPayloads::written_create_request))]
-    fn visit<V: Visitor>(&self, visitor: &mut V) -> Result<(), AllocError> {
-        writing::begin_structure(visitor, 0x420079)?;
-        self.object_type.visit(visitor)?;
-        self.template_attribute.visit(visitor)?;
-        writing::end_structure(visitor, 0x420079)?;
-        Ok(())
+impl<A: Allocator + Copy> Structure<A> for CreateRequest<A> {
+    ghost item = { structure 0x420079 true (of (λ x. (x.object_type, x.template_attribute)) ⟦<CreateRequestParts<A> as PartList<A>>⟧.rules) refl
+        ⟦<CreateRequest<A> as PartialEq>⟧.eq (λ x y e. e) };
+
+    fn number() -> u32 {
+        0x420079
     }
-}
 
-impl<A: Allocator + Copy> reader::ReadStructure<A> for CreateRequest<A> {
-    ghost form = { create_request_form };
-
-    ghost value = { read_create_request };
-
-    ghost TAG = { 0x420079 };
-
-    ghost DENIES_UNKNOWN = { true };
-
-    type Fields = (
-        reader::Item<ObjectType, 0x420057>,
-        reader::Nested<TemplateAttribute<A>>,
-    );
-
-    const TAG: u32 = 0x420079;
-
-    const DENIES_UNKNOWN: bool = true;
-
-    fn has_form() {}
-
-    #[tactic(auto, unfolding(crate::specs::RequestPayloads::read_create_request))]
-    fn from_fields(fields: (ObjectType, TemplateAttribute<A>)) -> Self {
-        let (object_type, template_attribute) = fields;
-        CreateRequest {
-            object_type,
-            template_attribute,
+    fn read_nested<'b>(scope: &Scope<'b, A>, cursor: &mut Cursor<'b, A>) -> Step<Self, A> {
+        match read_parts::<CreateRequestParts<A>, A>(scope, 0x420079, true, cursor) {
+            Ok(parts) => {
+                let (object_type, template_attribute) = parts;
+                Ok(CreateRequest {
+                    object_type,
+                    template_attribute,
+                })
+            }
+            Err(failure) => Err(failure),
         }
     }
-}
 
-impl<A: Allocator + Copy> reader::ReadNested<A> for CreateRequest<A> {
-    ghost form = { create_request_form };
+    fn visit_parts<V: Visitor>(&self, visitor: &mut V) -> Result<(), AllocError> {
+        visit_structure_two::<One<ObjectType>, One<Of<TemplateAttribute<A>>>, V, A>(
+            visitor,
+            0x420079,
+            &self.object_type,
+            &self.template_attribute,
+        )
+    }
 
-    ghost value = { read_create_request };
-
-    ghost TAG = { 0x420079 };
+    fn is_whole(&self) -> bool {
+        are_whole_two::<One<ObjectType>, One<Of<TemplateAttribute<A>>>, A>(
+            &self.object_type,
+            &self.template_attribute,
+        )
+    }
 
     ghost structured = { (refl, refl) };
-
-    const TAG: u32 = 0x420079;
-
-    fn read_nested<'b>(
-        scope: &reader::Scope<'b, A>,
-        cursor: &mut reader::Cursor<'b, A>,
-    ) -> reader::Step<Self, A> {
-        reader::read_structure(scope, cursor)
-    }
 }
 
 /// A public and a private key are to be made (section 4.2).
@@ -110,74 +101,60 @@ pub struct CreateKeyPairRequest<A: Allocator = Global> {
     pub public_key: Option<PublicKeyTemplateAttribute<A>>,
 }
 
-impl<B: Allocator> Serialize for CreateKeyPairRequest<B> {
-    ghost stated = { written_create_key_pair_request };
+type CreateKeyPairRequestParts<A> = (
+    Maybe<Of<CommonTemplateAttribute<A>>, 0x42001F>,
+    Maybe<Of<PrivateKeyTemplateAttribute<A>>, 0x420065>,
+    Maybe<Of<PublicKeyTemplateAttribute<A>>, 0x42006E>,
+);
 
-    fn visit<V: Visitor>(&self, visitor: &mut V) -> Result<(), AllocError> {
-        writing::begin_structure(visitor, 0x420079)?;
-        writing::option(visitor, &self.common)?;
-        writing::option(visitor, &self.private_key)?;
-        writing::option(visitor, &self.public_key)?;
-        writing::end_structure(visitor, 0x420079)?;
-        Ok(())
+impl<A: Allocator + Copy> Structure<A> for CreateKeyPairRequest<A> {
+    ghost item = { structure 0x420079 true (of (λ x. (x.common, x.private_key, x.public_key)) ⟦<CreateKeyPairRequestParts<A> as PartList<A>>⟧.rules) refl
+        ⟦<CreateKeyPairRequest<A> as PartialEq>⟧.eq (λ x y e. e) };
+
+    fn number() -> u32 {
+        0x420079
     }
-}
 
-impl<A: Allocator + Copy> reader::ReadStructure<A> for CreateKeyPairRequest<A> {
-    ghost form = { create_key_pair_request_form };
-
-    ghost value = { read_create_key_pair_request };
-
-    ghost TAG = { 0x420079 };
-
-    ghost DENIES_UNKNOWN = { true };
-
-    type Fields = (
-        reader::OptionalNested<CommonTemplateAttribute<A>>,
-        reader::OptionalNested<PrivateKeyTemplateAttribute<A>>,
-        reader::OptionalNested<PublicKeyTemplateAttribute<A>>,
-    );
-
-    const TAG: u32 = 0x420079;
-
-    const DENIES_UNKNOWN: bool = true;
-
-    fn has_form() {}
-
-    #[tactic(auto, unfolding(crate::specs::RequestPayloads::read_create_key_pair_request))]
-    fn from_fields(
-        fields: (
-            Option<CommonTemplateAttribute<A>>,
-            Option<PrivateKeyTemplateAttribute<A>>,
-            Option<PublicKeyTemplateAttribute<A>>,
-        ),
-    ) -> Self {
-        let (common, private_key, public_key) = fields;
-        CreateKeyPairRequest {
-            common,
-            private_key,
-            public_key,
+    fn read_nested<'b>(scope: &Scope<'b, A>, cursor: &mut Cursor<'b, A>) -> Step<Self, A> {
+        match read_parts::<CreateKeyPairRequestParts<A>, A>(scope, 0x420079, true, cursor) {
+            Ok(parts) => {
+                let (common, private_key, public_key) = parts;
+                Ok(CreateKeyPairRequest {
+                    common,
+                    private_key,
+                    public_key,
+                })
+            }
+            Err(failure) => Err(failure),
         }
     }
-}
 
-impl<A: Allocator + Copy> reader::ReadNested<A> for CreateKeyPairRequest<A> {
-    ghost form = { create_key_pair_request_form };
+    fn visit_parts<V: Visitor>(&self, visitor: &mut V) -> Result<(), AllocError> {
+        visit_structure_three::<
+            Maybe<Of<CommonTemplateAttribute<A>>, 0x42001F>,
+            Maybe<Of<PrivateKeyTemplateAttribute<A>>, 0x420065>,
+            Maybe<Of<PublicKeyTemplateAttribute<A>>, 0x42006E>,
+            V,
+            A,
+        >(
+            visitor,
+            0x420079,
+            &self.common,
+            &self.private_key,
+            &self.public_key,
+        )
+    }
 
-    ghost value = { read_create_key_pair_request };
-
-    ghost TAG = { 0x420079 };
+    fn is_whole(&self) -> bool {
+        are_whole_three::<
+            Maybe<Of<CommonTemplateAttribute<A>>, 0x42001F>,
+            Maybe<Of<PrivateKeyTemplateAttribute<A>>, 0x420065>,
+            Maybe<Of<PublicKeyTemplateAttribute<A>>, 0x42006E>,
+            A,
+        >(&self.common, &self.private_key, &self.public_key)
+    }
 
     ghost structured = { (refl, refl) };
-
-    const TAG: u32 = 0x420079;
-
-    fn read_nested<'b>(
-        scope: &reader::Scope<'b, A>,
-        cursor: &mut reader::Cursor<'b, A>,
-    ) -> reader::Step<Self, A> {
-        reader::read_structure(scope, cursor)
-    }
 }
 
 /// An object is to be kept (section 4.3).
@@ -248,179 +225,141 @@ impl<A: Allocator> RegisterRequest<A> {
             _ => None,
         }
     }
+
+    // Whether exactly one is there.
+    fn has_object(&self) -> bool
+        ensures { IsTrue result ↔ there self.now.certificate + (there self.now.symmetric_key + (there self.now.public_key + (there self.now.private_key + (there self.now.split_key + (there self.now.template + (there self.now.secret_data + there self.now.opaque_object)))))) ≡ 1 }
+    {
+        self.object().is_some()
+    }
 }
 
-impl<B: Allocator> Serialize for RegisterRequest<B> {
-    ghost stated = { written_register_request };
+type RegisterRequestParts<A> = Four<
+    One<ObjectType>,
+    One<Of<TemplateAttribute<A>>>,
+    Maybe<Of<Certificate<A>>, 0x420013>,
+    Maybe<Of<Boxed<SymmetricKey<A>, A>>, 0x42008F>,
+    Four<
+        Maybe<Of<Boxed<PublicKey<A>, A>>, 0x42006D>,
+        Maybe<Of<Boxed<PrivateKey<A>, A>>, 0x420064>,
+        Maybe<Of<Boxed<SplitKey<A>, A>>, 0x420089>,
+        Maybe<Of<Template<A>>, 0x420090>,
+        (
+            Maybe<Of<Boxed<SecretData<A>, A>>, 0x420085>,
+            Maybe<Of<OpaqueObject<A>>, 0x42005B>,
+        ),
+    >,
+>;
 
-    fn visit<V: Visitor>(&self, visitor: &mut V) -> Result<(), AllocError> {
+impl<A: Allocator + Copy> Structure<A> for RegisterRequest<A> {
+    ghost item = { structure_where 0x420079 true (of (λ x. (x.object_type, x.template_attribute, x.certificate, x.symmetric_key, (x.public_key, x.private_key, x.split_key, x.template, (x.secret_data, x.opaque_object)))) ⟦<RegisterRequestParts<A> as PartList<A>>⟧.rules) refl
+        (λ x. (there x.certificate + (there x.symmetric_key + (there x.public_key + (there x.private_key + (there x.split_key + (there x.template + (there x.secret_data + there x.opaque_object)))))) ≡ 1)) (λ x d. (tt, (tt, (tt, (tt, (tt, (tt, (tt, (tt, (tt, (tt)))))))))))
+        ⟦<RegisterRequest<A> as PartialEq>⟧.eq (λ x y e. e) };
+
+    fn number() -> u32 {
+        0x420079
+    }
+
+    fn read_nested<'b>(scope: &Scope<'b, A>, cursor: &mut Cursor<'b, A>) -> Step<Self, A> {
+        match read_parts::<RegisterRequestParts<A>, A>(scope, 0x420079, true, cursor) {
+            Ok(parts) => {
+                let (object_type, template_attribute, certificate, symmetric_key, others_6) = parts;
+                let (public_key, private_key, split_key, template, others) = others_6;
+                let (secret_data, opaque_object) = others;
+                Ok(RegisterRequest {
+                    object_type,
+                    template_attribute,
+                    certificate,
+                    symmetric_key,
+                    public_key,
+                    private_key,
+                    split_key,
+                    template,
+                    secret_data,
+                    opaque_object,
+                })
+            }
+            Err(failure) => Err(failure),
+        }
+    }
+
+    fn visit_parts<V: Visitor>(&self, visitor: &mut V) -> Result<(), AllocError> {
         writing::begin_structure(visitor, 0x420079)?;
-        self.object_type.visit(visitor)?;
-        self.template_attribute.visit(visitor)?;
-        writing::option(visitor, &self.certificate)?;
-        writing::option(visitor, &self.symmetric_key)?;
-        writing::option(visitor, &self.public_key)?;
-        writing::option(visitor, &self.private_key)?;
-        writing::option(visitor, &self.split_key)?;
-        writing::option(visitor, &self.template)?;
-        writing::option(visitor, &self.secret_data)?;
-        writing::option(visitor, &self.opaque_object)?;
+        visit_four::<
+            One<ObjectType>,
+            One<Of<TemplateAttribute<A>>>,
+            Maybe<Of<Certificate<A>>, 0x420013>,
+            Maybe<Of<Boxed<SymmetricKey<A>, A>>, 0x42008F>,
+            V,
+            A,
+        >(
+            visitor,
+            &self.object_type,
+            &self.template_attribute,
+            &self.certificate,
+            &self.symmetric_key,
+        )?;
+        visit_four::<
+            Maybe<Of<Boxed<PublicKey<A>, A>>, 0x42006D>,
+            Maybe<Of<Boxed<PrivateKey<A>, A>>, 0x420064>,
+            Maybe<Of<Boxed<SplitKey<A>, A>>, 0x420089>,
+            Maybe<Of<Template<A>>, 0x420090>,
+            V,
+            A,
+        >(
+            visitor,
+            &self.public_key,
+            &self.private_key,
+            &self.split_key,
+            &self.template,
+        )?;
+        visit_two::<
+            Maybe<Of<Boxed<SecretData<A>, A>>, 0x420085>,
+            Maybe<Of<OpaqueObject<A>>, 0x42005B>,
+            V,
+            A,
+        >(visitor, &self.secret_data, &self.opaque_object)?;
         writing::end_structure(visitor, 0x420079)?;
         Ok(())
     }
-}
 
-impl<A: Allocator + Copy> reader::ReadStructure<A> for RegisterRequest<A> {
-    ghost form = { register_request_form };
-
-    ghost value = { read_register_request };
-
-    ghost TAG = { 0x420079 };
-
-    ghost DENIES_UNKNOWN = { true };
-
-    type Fields = reader::Four<
-        reader::Item<ObjectType, 0x420057>,
-        reader::Nested<TemplateAttribute<A>>,
-        reader::OptionalNested<Certificate<A>>,
-        reader::OptionalNested<Boxed<SymmetricKey<A>, A>>,
-        reader::Four<
-            reader::OptionalNested<Boxed<PublicKey<A>, A>>,
-            reader::OptionalNested<Boxed<PrivateKey<A>, A>>,
-            reader::OptionalNested<Boxed<SplitKey<A>, A>>,
-            reader::OptionalNested<Template<A>>,
-            (
-                reader::OptionalNested<Boxed<SecretData<A>, A>>,
-                reader::OptionalNested<OpaqueObject<A>>,
-            ),
-        >,
-    >;
-
-    const TAG: u32 = 0x420079;
-
-    const DENIES_UNKNOWN: bool = true;
-
-    fn has_form() {}
-
-    #[tactic(auto, unfolding(crate::specs::RequestPayloads::read_register_request))]
-    fn from_fields(
-        fields: (
-            ObjectType,
-            TemplateAttribute<A>,
-            Option<Certificate<A>>,
-            Option<Boxed<SymmetricKey<A>, A>>,
-            (
-                Option<Boxed<PublicKey<A>, A>>,
-                Option<Boxed<PrivateKey<A>, A>>,
-                Option<Boxed<SplitKey<A>, A>>,
-                Option<Template<A>>,
-                (Option<Boxed<SecretData<A>, A>>, Option<OpaqueObject<A>>),
-            ),
-        ),
-    ) -> Self {
-        let (
-            object_type,
-            template_attribute,
-            certificate,
-            symmetric_key,
-            (public_key, private_key, split_key, template, (secret_data, opaque_object)),
-        ) = fields;
-        RegisterRequest {
-            object_type,
-            template_attribute,
-            certificate,
-            symmetric_key,
-            public_key,
-            private_key,
-            split_key,
-            template,
-            secret_data,
-            opaque_object,
-        }
+    fn is_whole(&self) -> bool {
+        let first_four = are_whole_four::<
+            One<ObjectType>,
+            One<Of<TemplateAttribute<A>>>,
+            Maybe<Of<Certificate<A>>, 0x420013>,
+            Maybe<Of<Boxed<SymmetricKey<A>, A>>, 0x42008F>,
+            A,
+        >(
+            &self.object_type,
+            &self.template_attribute,
+            &self.certificate,
+            &self.symmetric_key,
+        );
+        let next_four = are_whole_four::<
+            Maybe<Of<Boxed<PublicKey<A>, A>>, 0x42006D>,
+            Maybe<Of<Boxed<PrivateKey<A>, A>>, 0x420064>,
+            Maybe<Of<Boxed<SplitKey<A>, A>>, 0x420089>,
+            Maybe<Of<Template<A>>, 0x420090>,
+            A,
+        >(
+            &self.public_key,
+            &self.private_key,
+            &self.split_key,
+            &self.template,
+        );
+        let others = are_whole_two::<
+            Maybe<Of<Boxed<SecretData<A>, A>>, 0x420085>,
+            Maybe<Of<OpaqueObject<A>>, 0x42005B>,
+            A,
+        >(&self.secret_data, &self.opaque_object);
+        let others_1 = both(next_four, others);
+        let parts = both(first_four, others_1);
+        let chosen = self.has_object();
+        both(parts, chosen)
     }
-}
-
-impl<A: Allocator + Copy> reader::ReadNested<A> for RegisterRequest<A> {
-    ghost form = { register_request_form };
-
-    ghost value = { read_register_request };
-
-    ghost TAG = { 0x420079 };
 
     ghost structured = { (refl, refl) };
-
-    const TAG: u32 = 0x420079;
-
-    fn read_nested<'b>(
-        scope: &reader::Scope<'b, A>,
-        cursor: &mut reader::Cursor<'b, A>,
-    ) -> reader::Step<Self, A> {
-        reader::read_structure(scope, cursor)
-    }
-}
-
-/// How many objects are named at most.
-#[derive(Clone, Copy, PartialEq, Eq)]
-pub struct MaximumItems {
-    /// What it holds.
-    pub count: i32,
-}
-
-impl Serialize for MaximumItems {
-    ghost stated = { maximum_items_value };
-
-    fn visit<V: Visitor>(&self, visitor: &mut V) -> Result<(), AllocError> {
-        writing::tagged(visitor, 0x42004F, Leaf::I32(self.count))?;
-        Ok(())
-    }
-}
-
-impl<A: Allocator + Copy> reader::ReadItem<A> for MaximumItems {
-    ghost form = { maximum_items_form };
-
-    ghost value = { maximum_items_value };
-
-    ghost plain = { (refl, refl) };
-
-    fn read_item<'b>(
-        scope: &reader::Scope<'b, A>,
-        cursor: &mut reader::Cursor<'b, A>,
-    ) -> reader::Step<Self, A> {
-        let count = cursor.wrapped_leaf(scope, 0x42004F)?;
-        Ok(MaximumItems { count })
-    }
-}
-
-/// Where objects are kept, by flags: online, archived, destroyed.
-#[derive(Clone, Copy, PartialEq, Eq)]
-pub struct StorageStatusMask {
-    /// What it holds.
-    pub mask: i32,
-}
-
-impl Serialize for StorageStatusMask {
-    ghost stated = { storage_status_mask_value };
-
-    fn visit<V: Visitor>(&self, visitor: &mut V) -> Result<(), AllocError> {
-        writing::tagged(visitor, 0x42008E, Leaf::I32(self.mask))?;
-        Ok(())
-    }
-}
-
-impl<A: Allocator + Copy> reader::ReadItem<A> for StorageStatusMask {
-    ghost form = { storage_status_mask_form };
-
-    ghost value = { storage_status_mask_value };
-
-    ghost plain = { (refl, refl) };
-
-    fn read_item<'b>(
-        scope: &reader::Scope<'b, A>,
-        cursor: &mut reader::Cursor<'b, A>,
-    ) -> reader::Step<Self, A> {
-        let mask = cursor.wrapped_leaf(scope, 0x42008E)?;
-        Ok(StorageStatusMask { mask })
-    }
 }
 
 /// Which objects are sought (section 4.8).
@@ -428,81 +367,71 @@ impl<A: Allocator + Copy> reader::ReadItem<A> for StorageStatusMask {
 #[derive_where(PartialEq)]
 pub struct LocateRequest<A: Allocator = Global> {
     /// How many at most.
-    pub maximum_items: Option<MaximumItems>,
+    pub maximum_items: Option<i32>,
     /// Where they are kept.
-    pub storage_status_mask: Option<StorageStatusMask>,
+    pub storage_status_mask: Option<i32>,
     /// What each of them has; without any, all objects are sought.
     pub attributes: Vec<Attribute<A>, A>,
 }
 
-impl<B: Allocator> Serialize for LocateRequest<B> {
-    ghost stated = { written_locate_request };
+type LocateRequestParts<A> = (
+    MaybeLeaf<i32, 0x42004F>,
+    MaybeLeaf<i32, 0x42008E>,
+    Any<Of<Attribute<A>>, 0x420008>,
+);
 
-    fn visit<V: Visitor>(&self, visitor: &mut V) -> Result<(), AllocError> {
-        writing::begin_structure(visitor, 0x420079)?;
-        writing::option(visitor, &self.maximum_items)?;
-        writing::option(visitor, &self.storage_status_mask)?;
-        writing::several(visitor, &self.attributes)?;
-        writing::end_structure(visitor, 0x420079)?;
-        Ok(())
+impl<A: Allocator + Copy> Structure<A> for LocateRequest<A> {
+    ghost item = { structure 0x420079 true (of (λ x. (x.maximum_items, x.storage_status_mask, x.attributes)) ⟦<LocateRequestParts<A> as PartList<A>>⟧.rules) refl
+        ⟦<LocateRequest<A> as PartialEq>⟧.eq (λ x y e. e) };
+
+    fn number() -> u32 {
+        0x420079
     }
-}
 
-impl<A: Allocator + Copy> reader::ReadStructure<A> for LocateRequest<A> {
-    ghost form = { locate_request_form };
-
-    ghost value = { read_locate_request };
-
-    ghost TAG = { 0x420079 };
-
-    ghost DENIES_UNKNOWN = { true };
-
-    type Fields = (
-        reader::OptionalItem<MaximumItems, 0x42004F>,
-        reader::OptionalItem<StorageStatusMask, 0x42008E>,
-        reader::OptionalSeveral<Attribute<A>>,
-    );
-
-    const TAG: u32 = 0x420079;
-
-    const DENIES_UNKNOWN: bool = true;
-
-    fn has_form() {}
-
-    #[tactic(auto, unfolding(crate::specs::RequestPayloads::read_locate_request))]
-    fn from_fields(
-        fields: (
-            Option<MaximumItems>,
-            Option<StorageStatusMask>,
-            Vec<Attribute<A>, A>,
-        ),
-    ) -> Self {
-        let (maximum_items, storage_status_mask, attributes) = fields;
-        LocateRequest {
-            maximum_items,
-            storage_status_mask,
-            attributes,
+    fn read_nested<'b>(scope: &Scope<'b, A>, cursor: &mut Cursor<'b, A>) -> Step<Self, A> {
+        match read_parts::<LocateRequestParts<A>, A>(scope, 0x420079, true, cursor) {
+            Ok(parts) => {
+                let (maximum_items, storage_status_mask, attributes) = parts;
+                Ok(LocateRequest {
+                    maximum_items,
+                    storage_status_mask,
+                    attributes,
+                })
+            }
+            Err(failure) => Err(failure),
         }
     }
-}
 
-impl<A: Allocator + Copy> reader::ReadNested<A> for LocateRequest<A> {
-    ghost form = { locate_request_form };
+    fn visit_parts<V: Visitor>(&self, visitor: &mut V) -> Result<(), AllocError> {
+        visit_structure_three::<
+            MaybeLeaf<i32, 0x42004F>,
+            MaybeLeaf<i32, 0x42008E>,
+            Any<Of<Attribute<A>>, 0x420008>,
+            V,
+            A,
+        >(
+            visitor,
+            0x420079,
+            &self.maximum_items,
+            &self.storage_status_mask,
+            &self.attributes,
+        )
+    }
 
-    ghost value = { read_locate_request };
-
-    ghost TAG = { 0x420079 };
+    fn is_whole(&self) -> bool {
+        are_whole_three::<
+            MaybeLeaf<i32, 0x42004F>,
+            MaybeLeaf<i32, 0x42008E>,
+            Any<Of<Attribute<A>>, 0x420008>,
+            A,
+        >(
+            &self.maximum_items,
+            &self.storage_status_mask,
+            &self.attributes,
+        )
+    }
 
     ghost structured = { (refl, refl) };
-
-    const TAG: u32 = 0x420079;
-
-    fn read_nested<'b>(
-        scope: &reader::Scope<'b, A>,
-        cursor: &mut reader::Cursor<'b, A>,
-    ) -> reader::Step<Self, A> {
-        reader::read_structure(scope, cursor)
-    }
 }
 
 /// How a key is to be wrapped (section 2.1.6).
@@ -516,93 +445,89 @@ pub struct KeyWrappingSpecification<A: Allocator = Global> {
     /// What is to make the MAC or the signature.
     pub mac_signature_key_information: Option<MacSignatureKeyInformation<A>>,
     /// Which attributes are wrapped with it.
-    pub attribute_names: Vec<AttributeName<A>, A>,
+    pub attribute_names: Vec<String<A>, A>,
     /// What is encrypted (KMIP 1.1).
     pub encoding_option: Option<EncodingOption>,
 }
 
-impl<B: Allocator> Serialize for KeyWrappingSpecification<B> {
-    ghost stated = { written_key_wrapping_specification };
+type KeyWrappingSpecificationParts<A> = Four<
+    One<WrappingMethod>,
+    Maybe<Of<EncryptionKeyInformation<A>>, 0x420036>,
+    Maybe<Of<MacSignatureKeyInformation<A>>, 0x42004E>,
+    Any<LeafItem<String<A>, 0x42000A>, 0x42000A>,
+    Alone<Maybe<EncodingOption, 0x4200A3>>,
+>;
 
-    fn visit<V: Visitor>(&self, visitor: &mut V) -> Result<(), AllocError> {
+impl<A: Allocator + Copy> Structure<A> for KeyWrappingSpecification<A> {
+    ghost item = { structure 0x420047 true (of (λ x. (x.wrapping_method, x.encryption_key_information, x.mac_signature_key_information, x.attribute_names, x.encoding_option)) ⟦<KeyWrappingSpecificationParts<A> as PartList<A>>⟧.rules) refl
+        ⟦<KeyWrappingSpecification<A> as PartialEq>⟧.eq (λ x y e. e) };
+
+    fn number() -> u32 {
+        0x420047
+    }
+
+    fn read_nested<'b>(scope: &Scope<'b, A>, cursor: &mut Cursor<'b, A>) -> Step<Self, A> {
+        match read_parts::<KeyWrappingSpecificationParts<A>, A>(scope, 0x420047, true, cursor) {
+            Ok(parts) => {
+                let (
+                    wrapping_method,
+                    encryption_key_information,
+                    mac_signature_key_information,
+                    attribute_names,
+                    others,
+                ) = parts;
+                let encoding_option = others;
+                Ok(KeyWrappingSpecification {
+                    wrapping_method,
+                    encryption_key_information,
+                    mac_signature_key_information,
+                    attribute_names,
+                    encoding_option,
+                })
+            }
+            Err(failure) => Err(failure),
+        }
+    }
+
+    fn visit_parts<V: Visitor>(&self, visitor: &mut V) -> Result<(), AllocError> {
         writing::begin_structure(visitor, 0x420047)?;
-        self.wrapping_method.visit(visitor)?;
-        writing::option(visitor, &self.encryption_key_information)?;
-        writing::option(visitor, &self.mac_signature_key_information)?;
-        writing::several(visitor, &self.attribute_names)?;
-        writing::option(visitor, &self.encoding_option)?;
+        visit_four::<
+            One<WrappingMethod>,
+            Maybe<Of<EncryptionKeyInformation<A>>, 0x420036>,
+            Maybe<Of<MacSignatureKeyInformation<A>>, 0x42004E>,
+            Any<LeafItem<String<A>, 0x42000A>, 0x42000A>,
+            V,
+            A,
+        >(
+            visitor,
+            &self.wrapping_method,
+            &self.encryption_key_information,
+            &self.mac_signature_key_information,
+            &self.attribute_names,
+        )?;
+        visit_one::<Maybe<EncodingOption, 0x4200A3>, V, A>(visitor, &self.encoding_option)?;
         writing::end_structure(visitor, 0x420047)?;
         Ok(())
     }
-}
 
-impl<A: Allocator + Copy> reader::ReadStructure<A> for KeyWrappingSpecification<A> {
-    ghost form = { key_wrapping_specification_form };
-
-    ghost value = { read_key_wrapping_specification };
-
-    ghost TAG = { 0x420047 };
-
-    ghost DENIES_UNKNOWN = { true };
-
-    type Fields = reader::Four<
-        reader::Item<WrappingMethod, 0x42009E>,
-        reader::OptionalNested<EncryptionKeyInformation<A>>,
-        reader::OptionalNested<MacSignatureKeyInformation<A>>,
-        reader::OptionalSeveralItems<AttributeName<A>, 0x42000A>,
-        (reader::OptionalItem<EncodingOption, 0x4200A3>,),
-    >;
-
-    const TAG: u32 = 0x420047;
-
-    const DENIES_UNKNOWN: bool = true;
-
-    fn has_form() {}
-
-    #[tactic(auto, unfolding(crate::specs::RequestPayloads::read_key_wrapping_specification))]
-    fn from_fields(
-        fields: (
-            WrappingMethod,
-            Option<EncryptionKeyInformation<A>>,
-            Option<MacSignatureKeyInformation<A>>,
-            Vec<AttributeName<A>, A>,
-            (Option<EncodingOption>,),
-        ),
-    ) -> Self {
-        let (
-            wrapping_method,
-            encryption_key_information,
-            mac_signature_key_information,
-            attribute_names,
-            (encoding_option,),
-        ) = fields;
-        KeyWrappingSpecification {
-            wrapping_method,
-            encryption_key_information,
-            mac_signature_key_information,
-            attribute_names,
-            encoding_option,
-        }
+    fn is_whole(&self) -> bool {
+        let first_four = are_whole_four::<
+            One<WrappingMethod>,
+            Maybe<Of<EncryptionKeyInformation<A>>, 0x420036>,
+            Maybe<Of<MacSignatureKeyInformation<A>>, 0x42004E>,
+            Any<LeafItem<String<A>, 0x42000A>, 0x42000A>,
+            A,
+        >(
+            &self.wrapping_method,
+            &self.encryption_key_information,
+            &self.mac_signature_key_information,
+            &self.attribute_names,
+        );
+        let others = are_whole_one::<Maybe<EncodingOption, 0x4200A3>, A>(&self.encoding_option);
+        both(first_four, others)
     }
-}
-
-impl<A: Allocator + Copy> reader::ReadNested<A> for KeyWrappingSpecification<A> {
-    ghost form = { key_wrapping_specification_form };
-
-    ghost value = { read_key_wrapping_specification };
-
-    ghost TAG = { 0x420047 };
 
     ghost structured = { (refl, refl) };
-
-    const TAG: u32 = 0x420047;
-
-    fn read_nested<'b>(
-        scope: &reader::Scope<'b, A>,
-        cursor: &mut reader::Cursor<'b, A>,
-    ) -> reader::Step<Self, A> {
-        reader::read_structure(scope, cursor)
-    }
 }
 
 /// Which object is asked for (section 4.10).
@@ -619,79 +544,75 @@ pub struct GetRequest<A: Allocator = Global> {
     pub key_wrapping_specification: Option<Boxed<KeyWrappingSpecification<A>, A>>,
 }
 
-impl<B: Allocator> Serialize for GetRequest<B> {
-    ghost stated = { written_get_request };
+type GetRequestParts<A> = (
+    MaybeLeaf<String<A>, 0x420094>,
+    Maybe<KeyFormatType, 0x420042>,
+    Maybe<KeyCompressionType, 0x420041>,
+    Maybe<Of<Boxed<KeyWrappingSpecification<A>, A>>, 0x420047>,
+);
 
-    fn visit<V: Visitor>(&self, visitor: &mut V) -> Result<(), AllocError> {
-        writing::begin_structure(visitor, 0x420079)?;
-        writing::optional_text_string(visitor, 0x420094, &self.unique_identifier)?;
-        writing::option(visitor, &self.key_format_type)?;
-        writing::option(visitor, &self.key_compression_type)?;
-        writing::option(visitor, &self.key_wrapping_specification)?;
-        writing::end_structure(visitor, 0x420079)?;
-        Ok(())
+impl<A: Allocator + Copy> Structure<A> for GetRequest<A> {
+    ghost item = { structure 0x420079 true (of (λ x. (x.unique_identifier, x.key_format_type, x.key_compression_type, x.key_wrapping_specification)) ⟦<GetRequestParts<A> as PartList<A>>⟧.rules) refl
+        ⟦<GetRequest<A> as PartialEq>⟧.eq (λ x y e. e) };
+
+    fn number() -> u32 {
+        0x420079
     }
-}
 
-impl<A: Allocator + Copy> reader::ReadStructure<A> for GetRequest<A> {
-    ghost form = { get_request_form };
-
-    ghost value = { read_get_request };
-
-    ghost TAG = { 0x420079 };
-
-    ghost DENIES_UNKNOWN = { true };
-
-    type Fields = (
-        reader::OptionalLeaf<String<A>, 0x420094>,
-        reader::OptionalItem<KeyFormatType, 0x420042>,
-        reader::OptionalItem<KeyCompressionType, 0x420041>,
-        reader::OptionalNested<Boxed<KeyWrappingSpecification<A>, A>>,
-    );
-
-    const TAG: u32 = 0x420079;
-
-    const DENIES_UNKNOWN: bool = true;
-
-    fn has_form() {}
-
-    #[tactic(auto, unfolding(crate::specs::RequestPayloads::read_get_request))]
-    fn from_fields(
-        fields: (
-            Option<String<A>>,
-            Option<KeyFormatType>,
-            Option<KeyCompressionType>,
-            Option<Boxed<KeyWrappingSpecification<A>, A>>,
-        ),
-    ) -> Self {
-        let (unique_identifier, key_format_type, key_compression_type, key_wrapping_specification) =
-            fields;
-        GetRequest {
-            unique_identifier,
-            key_format_type,
-            key_compression_type,
-            key_wrapping_specification,
+    fn read_nested<'b>(scope: &Scope<'b, A>, cursor: &mut Cursor<'b, A>) -> Step<Self, A> {
+        match read_parts::<GetRequestParts<A>, A>(scope, 0x420079, true, cursor) {
+            Ok(parts) => {
+                let (
+                    unique_identifier,
+                    key_format_type,
+                    key_compression_type,
+                    key_wrapping_specification,
+                ) = parts;
+                Ok(GetRequest {
+                    unique_identifier,
+                    key_format_type,
+                    key_compression_type,
+                    key_wrapping_specification,
+                })
+            }
+            Err(failure) => Err(failure),
         }
     }
-}
 
-impl<A: Allocator + Copy> reader::ReadNested<A> for GetRequest<A> {
-    ghost form = { get_request_form };
+    fn visit_parts<V: Visitor>(&self, visitor: &mut V) -> Result<(), AllocError> {
+        visit_structure_four::<
+            MaybeLeaf<String<A>, 0x420094>,
+            Maybe<KeyFormatType, 0x420042>,
+            Maybe<KeyCompressionType, 0x420041>,
+            Maybe<Of<Boxed<KeyWrappingSpecification<A>, A>>, 0x420047>,
+            V,
+            A,
+        >(
+            visitor,
+            0x420079,
+            &self.unique_identifier,
+            &self.key_format_type,
+            &self.key_compression_type,
+            &self.key_wrapping_specification,
+        )
+    }
 
-    ghost value = { read_get_request };
-
-    ghost TAG = { 0x420079 };
+    fn is_whole(&self) -> bool {
+        are_whole_four::<
+            MaybeLeaf<String<A>, 0x420094>,
+            Maybe<KeyFormatType, 0x420042>,
+            Maybe<KeyCompressionType, 0x420041>,
+            Maybe<Of<Boxed<KeyWrappingSpecification<A>, A>>, 0x420047>,
+            A,
+        >(
+            &self.unique_identifier,
+            &self.key_format_type,
+            &self.key_compression_type,
+            &self.key_wrapping_specification,
+        )
+    }
 
     ghost structured = { (refl, refl) };
-
-    const TAG: u32 = 0x420079;
-
-    fn read_nested<'b>(
-        scope: &reader::Scope<'b, A>,
-        cursor: &mut reader::Cursor<'b, A>,
-    ) -> reader::Step<Self, A> {
-        reader::read_structure(scope, cursor)
-    }
 }
 
 /// Which attributes are asked for (section 4.11).
@@ -701,68 +622,58 @@ pub struct GetAttributesRequest<A: Allocator = Global> {
     /// Of which object: the last one, if it is absent.
     pub unique_identifier: Option<String<A>>,
     /// Which; all of them, if none is named.
-    pub attribute_names: Vec<AttributeName<A>, A>,
+    pub attribute_names: Vec<String<A>, A>,
 }
 
-impl<B: Allocator> Serialize for GetAttributesRequest<B> {
-    ghost stated = { written_get_attributes_request };
+type GetAttributesRequestParts<A> = (
+    MaybeLeaf<String<A>, 0x420094>,
+    Any<LeafItem<String<A>, 0x42000A>, 0x42000A>,
+);
 
-    fn visit<V: Visitor>(&self, visitor: &mut V) -> Result<(), AllocError> {
-        writing::begin_structure(visitor, 0x420079)?;
-        writing::optional_text_string(visitor, 0x420094, &self.unique_identifier)?;
-        writing::several(visitor, &self.attribute_names)?;
-        writing::end_structure(visitor, 0x420079)?;
-        Ok(())
+impl<A: Allocator + Copy> Structure<A> for GetAttributesRequest<A> {
+    ghost item = { structure 0x420079 true (of (λ x. (x.unique_identifier, x.attribute_names)) ⟦<GetAttributesRequestParts<A> as PartList<A>>⟧.rules) refl
+        ⟦<GetAttributesRequest<A> as PartialEq>⟧.eq (λ x y e. e) };
+
+    fn number() -> u32 {
+        0x420079
     }
-}
 
-impl<A: Allocator + Copy> reader::ReadStructure<A> for GetAttributesRequest<A> {
-    ghost form = { get_attributes_request_form };
-
-    ghost value = { read_get_attributes_request };
-
-    ghost TAG = { 0x420079 };
-
-    ghost DENIES_UNKNOWN = { true };
-
-    type Fields = (
-        reader::OptionalLeaf<String<A>, 0x420094>,
-        reader::OptionalSeveralItems<AttributeName<A>, 0x42000A>,
-    );
-
-    const TAG: u32 = 0x420079;
-
-    const DENIES_UNKNOWN: bool = true;
-
-    fn has_form() {}
-
-    #[tactic(auto, unfolding(crate::specs::RequestPayloads::read_get_attributes_request))]
-    fn from_fields(fields: (Option<String<A>>, Vec<AttributeName<A>, A>)) -> Self {
-        let (unique_identifier, attribute_names) = fields;
-        GetAttributesRequest {
-            unique_identifier,
-            attribute_names,
+    fn read_nested<'b>(scope: &Scope<'b, A>, cursor: &mut Cursor<'b, A>) -> Step<Self, A> {
+        match read_parts::<GetAttributesRequestParts<A>, A>(scope, 0x420079, true, cursor) {
+            Ok(parts) => {
+                let (unique_identifier, attribute_names) = parts;
+                Ok(GetAttributesRequest {
+                    unique_identifier,
+                    attribute_names,
+                })
+            }
+            Err(failure) => Err(failure),
         }
     }
-}
 
-impl<A: Allocator + Copy> reader::ReadNested<A> for GetAttributesRequest<A> {
-    ghost form = { get_attributes_request_form };
+    fn visit_parts<V: Visitor>(&self, visitor: &mut V) -> Result<(), AllocError> {
+        visit_structure_two::<
+            MaybeLeaf<String<A>, 0x420094>,
+            Any<LeafItem<String<A>, 0x42000A>, 0x42000A>,
+            V,
+            A,
+        >(
+            visitor,
+            0x420079,
+            &self.unique_identifier,
+            &self.attribute_names,
+        )
+    }
 
-    ghost value = { read_get_attributes_request };
-
-    ghost TAG = { 0x420079 };
+    fn is_whole(&self) -> bool {
+        are_whole_two::<
+            MaybeLeaf<String<A>, 0x420094>,
+            Any<LeafItem<String<A>, 0x42000A>, 0x42000A>,
+            A,
+        >(&self.unique_identifier, &self.attribute_names)
+    }
 
     ghost structured = { (refl, refl) };
-
-    const TAG: u32 = 0x420079;
-
-    fn read_nested<'b>(
-        scope: &reader::Scope<'b, A>,
-        cursor: &mut reader::Cursor<'b, A>,
-    ) -> reader::Step<Self, A> {
-        reader::read_structure(scope, cursor)
-    }
 }
 
 /// An attribute is to be added or changed (sections 4.13 and 4.14).
@@ -775,65 +686,46 @@ pub struct AttributeRequest<A: Allocator = Global> {
     pub attribute: Attribute<A>,
 }
 
-impl<B: Allocator> Serialize for AttributeRequest<B> {
-    ghost stated = { written_attribute_request };
+type AttributeRequestParts<A> = (MaybeLeaf<String<A>, 0x420094>, One<Of<Attribute<A>>>);
 
-    fn visit<V: Visitor>(&self, visitor: &mut V) -> Result<(), AllocError> {
-        writing::begin_structure(visitor, 0x420079)?;
-        writing::optional_text_string(visitor, 0x420094, &self.unique_identifier)?;
-        self.attribute.visit(visitor)?;
-        writing::end_structure(visitor, 0x420079)?;
-        Ok(())
+impl<A: Allocator + Copy> Structure<A> for AttributeRequest<A> {
+    ghost item = { structure 0x420079 true (of (λ x. (x.unique_identifier, x.attribute)) ⟦<AttributeRequestParts<A> as PartList<A>>⟧.rules) refl
+        ⟦<AttributeRequest<A> as PartialEq>⟧.eq (λ x y e. e) };
+
+    fn number() -> u32 {
+        0x420079
     }
-}
 
-impl<A: Allocator + Copy> reader::ReadStructure<A> for AttributeRequest<A> {
-    ghost form = { attribute_request_form };
-
-    ghost value = { read_attribute_request };
-
-    ghost TAG = { 0x420079 };
-
-    ghost DENIES_UNKNOWN = { true };
-
-    type Fields = (
-        reader::OptionalLeaf<String<A>, 0x420094>,
-        reader::Nested<Attribute<A>>,
-    );
-
-    const TAG: u32 = 0x420079;
-
-    const DENIES_UNKNOWN: bool = true;
-
-    fn has_form() {}
-
-    #[tactic(auto, unfolding(crate::specs::RequestPayloads::read_attribute_request))]
-    fn from_fields(fields: (Option<String<A>>, Attribute<A>)) -> Self {
-        let (unique_identifier, attribute) = fields;
-        AttributeRequest {
-            unique_identifier,
-            attribute,
+    fn read_nested<'b>(scope: &Scope<'b, A>, cursor: &mut Cursor<'b, A>) -> Step<Self, A> {
+        match read_parts::<AttributeRequestParts<A>, A>(scope, 0x420079, true, cursor) {
+            Ok(parts) => {
+                let (unique_identifier, attribute) = parts;
+                Ok(AttributeRequest {
+                    unique_identifier,
+                    attribute,
+                })
+            }
+            Err(failure) => Err(failure),
         }
     }
-}
 
-impl<A: Allocator + Copy> reader::ReadNested<A> for AttributeRequest<A> {
-    ghost form = { attribute_request_form };
+    fn visit_parts<V: Visitor>(&self, visitor: &mut V) -> Result<(), AllocError> {
+        visit_structure_two::<MaybeLeaf<String<A>, 0x420094>, One<Of<Attribute<A>>>, V, A>(
+            visitor,
+            0x420079,
+            &self.unique_identifier,
+            &self.attribute,
+        )
+    }
 
-    ghost value = { read_attribute_request };
-
-    ghost TAG = { 0x420079 };
+    fn is_whole(&self) -> bool {
+        are_whole_two::<MaybeLeaf<String<A>, 0x420094>, One<Of<Attribute<A>>>, A>(
+            &self.unique_identifier,
+            &self.attribute,
+        )
+    }
 
     ghost structured = { (refl, refl) };
-
-    const TAG: u32 = 0x420079;
-
-    fn read_nested<'b>(
-        scope: &reader::Scope<'b, A>,
-        cursor: &mut reader::Cursor<'b, A>,
-    ) -> reader::Step<Self, A> {
-        reader::read_structure(scope, cursor)
-    }
 }
 
 /// An attribute is to be deleted (section 4.15).
@@ -845,71 +737,67 @@ pub struct DeleteAttributeRequest<A: Allocator = Global> {
     /// The attribute's name.
     pub attribute_name: String<A>,
     /// Which of this name; the first, if it is absent.
-    pub attribute_index: Option<AttributeIndex>,
+    pub attribute_index: Option<i32>,
 }
 
-impl<B: Allocator> Serialize for DeleteAttributeRequest<B> {
-    ghost stated = { written_delete_attribute_request };
+type DeleteAttributeRequestParts<A> = (
+    MaybeLeaf<String<A>, 0x420094>,
+    Leaf<String<A>, 0x42000A>,
+    MaybeLeaf<i32, 0x420009>,
+);
 
-    fn visit<V: Visitor>(&self, visitor: &mut V) -> Result<(), AllocError> {
-        writing::begin_structure(visitor, 0x420079)?;
-        writing::optional_text_string(visitor, 0x420094, &self.unique_identifier)?;
-        writing::string(visitor, 0x42000A, &self.attribute_name)?;
-        writing::option(visitor, &self.attribute_index)?;
-        writing::end_structure(visitor, 0x420079)?;
-        Ok(())
+impl<A: Allocator + Copy> Structure<A> for DeleteAttributeRequest<A> {
+    ghost item = { structure 0x420079 true (of (λ x. (x.unique_identifier, x.attribute_name, x.attribute_index)) ⟦<DeleteAttributeRequestParts<A> as PartList<A>>⟧.rules) refl
+        ⟦<DeleteAttributeRequest<A> as PartialEq>⟧.eq (λ x y e. e) };
+
+    fn number() -> u32 {
+        0x420079
     }
-}
 
-impl<A: Allocator + Copy> reader::ReadStructure<A> for DeleteAttributeRequest<A> {
-    ghost form = { delete_attribute_request_form };
-
-    ghost value = { read_delete_attribute_request };
-
-    ghost TAG = { 0x420079 };
-
-    ghost DENIES_UNKNOWN = { true };
-
-    type Fields = (
-        reader::OptionalLeaf<String<A>, 0x420094>,
-        reader::Leaf<String<A>, 0x42000A>,
-        reader::OptionalItem<AttributeIndex, 0x420009>,
-    );
-
-    const TAG: u32 = 0x420079;
-
-    const DENIES_UNKNOWN: bool = true;
-
-    fn has_form() {}
-
-    #[tactic(auto, unfolding(crate::specs::RequestPayloads::read_delete_attribute_request))]
-    fn from_fields(fields: (Option<String<A>>, String<A>, Option<AttributeIndex>)) -> Self {
-        let (unique_identifier, attribute_name, attribute_index) = fields;
-        DeleteAttributeRequest {
-            unique_identifier,
-            attribute_name,
-            attribute_index,
+    fn read_nested<'b>(scope: &Scope<'b, A>, cursor: &mut Cursor<'b, A>) -> Step<Self, A> {
+        match read_parts::<DeleteAttributeRequestParts<A>, A>(scope, 0x420079, true, cursor) {
+            Ok(parts) => {
+                let (unique_identifier, attribute_name, attribute_index) = parts;
+                Ok(DeleteAttributeRequest {
+                    unique_identifier,
+                    attribute_name,
+                    attribute_index,
+                })
+            }
+            Err(failure) => Err(failure),
         }
     }
-}
 
-impl<A: Allocator + Copy> reader::ReadNested<A> for DeleteAttributeRequest<A> {
-    ghost form = { delete_attribute_request_form };
+    fn visit_parts<V: Visitor>(&self, visitor: &mut V) -> Result<(), AllocError> {
+        visit_structure_three::<
+            MaybeLeaf<String<A>, 0x420094>,
+            Leaf<String<A>, 0x42000A>,
+            MaybeLeaf<i32, 0x420009>,
+            V,
+            A,
+        >(
+            visitor,
+            0x420079,
+            &self.unique_identifier,
+            &self.attribute_name,
+            &self.attribute_index,
+        )
+    }
 
-    ghost value = { read_delete_attribute_request };
-
-    ghost TAG = { 0x420079 };
+    fn is_whole(&self) -> bool {
+        are_whole_three::<
+            MaybeLeaf<String<A>, 0x420094>,
+            Leaf<String<A>, 0x42000A>,
+            MaybeLeaf<i32, 0x420009>,
+            A,
+        >(
+            &self.unique_identifier,
+            &self.attribute_name,
+            &self.attribute_index,
+        )
+    }
 
     ghost structured = { (refl, refl) };
-
-    const TAG: u32 = 0x420079;
-
-    fn read_nested<'b>(
-        scope: &reader::Scope<'b, A>,
-        cursor: &mut reader::Cursor<'b, A>,
-    ) -> reader::Step<Self, A> {
-        reader::read_structure(scope, cursor)
-    }
 }
 
 /// Which object is meant: to get the names of its attributes, to activate or to destroy it.
@@ -920,58 +808,39 @@ pub struct ObjectRequest<A: Allocator = Global> {
     pub unique_identifier: Option<String<A>>,
 }
 
-impl<B: Allocator> Serialize for ObjectRequest<B> {
-    ghost stated = { written_object_request };
+type ObjectRequestParts<A> = Alone<MaybeLeaf<String<A>, 0x420094>>;
 
-    fn visit<V: Visitor>(&self, visitor: &mut V) -> Result<(), AllocError> {
-        writing::begin_structure(visitor, 0x420079)?;
-        writing::optional_text_string(visitor, 0x420094, &self.unique_identifier)?;
-        writing::end_structure(visitor, 0x420079)?;
-        Ok(())
+impl<A: Allocator + Copy> Structure<A> for ObjectRequest<A> {
+    ghost item = { structure 0x420079 true (of (λ x. x.unique_identifier) ⟦<ObjectRequestParts<A> as PartList<A>>⟧.rules) refl
+        ⟦<ObjectRequest<A> as PartialEq>⟧.eq (λ x y e. e) };
+
+    fn number() -> u32 {
+        0x420079
     }
-}
 
-impl<A: Allocator + Copy> reader::ReadStructure<A> for ObjectRequest<A> {
-    ghost form = { object_request_form };
-
-    ghost value = { read_object_request };
-
-    ghost TAG = { 0x420079 };
-
-    ghost DENIES_UNKNOWN = { true };
-
-    type Fields = (reader::OptionalLeaf<String<A>, 0x420094>,);
-
-    const TAG: u32 = 0x420079;
-
-    const DENIES_UNKNOWN: bool = true;
-
-    fn has_form() {}
-
-    #[tactic(auto, unfolding(crate::specs::RequestPayloads::read_object_request))]
-    fn from_fields(fields: (Option<String<A>>,)) -> Self {
-        let (unique_identifier,) = fields;
-        ObjectRequest { unique_identifier }
+    fn read_nested<'b>(scope: &Scope<'b, A>, cursor: &mut Cursor<'b, A>) -> Step<Self, A> {
+        match read_parts::<ObjectRequestParts<A>, A>(scope, 0x420079, true, cursor) {
+            Ok(parts) => {
+                let unique_identifier = parts;
+                Ok(ObjectRequest { unique_identifier })
+            }
+            Err(failure) => Err(failure),
+        }
     }
-}
 
-impl<A: Allocator + Copy> reader::ReadNested<A> for ObjectRequest<A> {
-    ghost form = { object_request_form };
+    fn visit_parts<V: Visitor>(&self, visitor: &mut V) -> Result<(), AllocError> {
+        visit_structure_one::<MaybeLeaf<String<A>, 0x420094>, V, A>(
+            visitor,
+            0x420079,
+            &self.unique_identifier,
+        )
+    }
 
-    ghost value = { read_object_request };
-
-    ghost TAG = { 0x420079 };
+    fn is_whole(&self) -> bool {
+        are_whole_one::<MaybeLeaf<String<A>, 0x420094>, A>(&self.unique_identifier)
+    }
 
     ghost structured = { (refl, refl) };
-
-    const TAG: u32 = 0x420079;
-
-    fn read_nested<'b>(
-        scope: &reader::Scope<'b, A>,
-        cursor: &mut reader::Cursor<'b, A>,
-    ) -> reader::Step<Self, A> {
-        reader::read_structure(scope, cursor)
-    }
 }
 
 /// Why an object is revoked (section 3.26).
@@ -984,94 +853,43 @@ pub struct RevocationReasonGiven<A: Allocator = Global> {
     pub message: Option<String<A>>,
 }
 
-impl<B: Allocator> Serialize for RevocationReasonGiven<B> {
-    ghost stated = { written_revocation_reason_given };
+type RevocationReasonGivenParts<A> = (One<RevocationReasonCode>, MaybeLeaf<String<A>, 0x420080>);
 
-    fn visit<V: Visitor>(&self, visitor: &mut V) -> Result<(), AllocError> {
-        writing::begin_structure(visitor, 0x420081)?;
-        self.code.visit(visitor)?;
-        writing::optional_text_string(visitor, 0x420080, &self.message)?;
-        writing::end_structure(visitor, 0x420081)?;
-        Ok(())
+impl<A: Allocator + Copy> Structure<A> for RevocationReasonGiven<A> {
+    ghost item = { structure 0x420081 true (of (λ x. (x.code, x.message)) ⟦<RevocationReasonGivenParts<A> as PartList<A>>⟧.rules) refl
+        ⟦<RevocationReasonGiven<A> as PartialEq>⟧.eq (λ x y e. e) };
+
+    fn number() -> u32 {
+        0x420081
     }
-}
 
-impl<A: Allocator + Copy> reader::ReadStructure<A> for RevocationReasonGiven<A> {
-    ghost form = { revocation_reason_given_form };
-
-    ghost value = { read_revocation_reason_given };
-
-    ghost TAG = { 0x420081 };
-
-    ghost DENIES_UNKNOWN = { true };
-
-    type Fields = (
-        reader::Item<RevocationReasonCode, 0x420082>,
-        reader::OptionalLeaf<String<A>, 0x420080>,
-    );
-
-    const TAG: u32 = 0x420081;
-
-    const DENIES_UNKNOWN: bool = true;
-
-    fn has_form() {}
-
-    #[tactic(auto, unfolding(crate::specs::RequestPayloads::read_revocation_reason_given))]
-    fn from_fields(fields: (RevocationReasonCode, Option<String<A>>)) -> Self {
-        let (code, message) = fields;
-        RevocationReasonGiven { code, message }
+    fn read_nested<'b>(scope: &Scope<'b, A>, cursor: &mut Cursor<'b, A>) -> Step<Self, A> {
+        match read_parts::<RevocationReasonGivenParts<A>, A>(scope, 0x420081, true, cursor) {
+            Ok(parts) => {
+                let (code, message) = parts;
+                Ok(RevocationReasonGiven { code, message })
+            }
+            Err(failure) => Err(failure),
+        }
     }
-}
 
-impl<A: Allocator + Copy> reader::ReadNested<A> for RevocationReasonGiven<A> {
-    ghost form = { revocation_reason_given_form };
+    fn visit_parts<V: Visitor>(&self, visitor: &mut V) -> Result<(), AllocError> {
+        visit_structure_two::<One<RevocationReasonCode>, MaybeLeaf<String<A>, 0x420080>, V, A>(
+            visitor,
+            0x420081,
+            &self.code,
+            &self.message,
+        )
+    }
 
-    ghost value = { read_revocation_reason_given };
-
-    ghost TAG = { 0x420081 };
+    fn is_whole(&self) -> bool {
+        are_whole_two::<One<RevocationReasonCode>, MaybeLeaf<String<A>, 0x420080>, A>(
+            &self.code,
+            &self.message,
+        )
+    }
 
     ghost structured = { (refl, refl) };
-
-    const TAG: u32 = 0x420081;
-
-    fn read_nested<'b>(
-        scope: &reader::Scope<'b, A>,
-        cursor: &mut reader::Cursor<'b, A>,
-    ) -> reader::Step<Self, A> {
-        reader::read_structure(scope, cursor)
-    }
-}
-
-/// When others may first have known an object, in seconds since 1970.
-#[derive(Clone, Copy, PartialEq, Eq)]
-pub struct CompromiseOccurrenceDate {
-    /// What it holds.
-    pub seconds: i64,
-}
-
-impl Serialize for CompromiseOccurrenceDate {
-    ghost stated = { compromise_occurrence_date_value };
-
-    fn visit<V: Visitor>(&self, visitor: &mut V) -> Result<(), AllocError> {
-        writing::tagged(visitor, 0x420021, Leaf::DateTime(self.seconds))?;
-        Ok(())
-    }
-}
-
-impl<A: Allocator + Copy> reader::ReadItem<A> for CompromiseOccurrenceDate {
-    ghost form = { compromise_occurrence_date_form };
-
-    ghost value = { compromise_occurrence_date_value };
-
-    ghost plain = { (refl, refl) };
-
-    fn read_item<'b>(
-        scope: &reader::Scope<'b, A>,
-        cursor: &mut reader::Cursor<'b, A>,
-    ) -> reader::Step<Self, A> {
-        let seconds: reader::DateTime = cursor.wrapped_leaf(scope, 0x420021)?;
-        Ok(CompromiseOccurrenceDate { seconds: seconds.0 })
-    }
 }
 
 /// An object is no longer to be used (section 4.19).
@@ -1083,77 +901,67 @@ pub struct RevokeRequest<A: Allocator = Global> {
     /// Why.
     pub revocation_reason: RevocationReasonGiven<A>,
     /// When others may first have known it.
-    pub compromise_occurrence_date: Option<CompromiseOccurrenceDate>,
+    pub compromise_occurrence_date: Option<DateTime>,
 }
 
-impl<B: Allocator> Serialize for RevokeRequest<B> {
-    ghost stated = { written_revoke_request };
+type RevokeRequestParts<A> = (
+    MaybeLeaf<String<A>, 0x420094>,
+    One<Of<RevocationReasonGiven<A>>>,
+    MaybeLeaf<DateTime, 0x420021>,
+);
 
-    fn visit<V: Visitor>(&self, visitor: &mut V) -> Result<(), AllocError> {
-        writing::begin_structure(visitor, 0x420079)?;
-        writing::optional_text_string(visitor, 0x420094, &self.unique_identifier)?;
-        self.revocation_reason.visit(visitor)?;
-        writing::option(visitor, &self.compromise_occurrence_date)?;
-        writing::end_structure(visitor, 0x420079)?;
-        Ok(())
+impl<A: Allocator + Copy> Structure<A> for RevokeRequest<A> {
+    ghost item = { structure 0x420079 true (of (λ x. (x.unique_identifier, x.revocation_reason, x.compromise_occurrence_date)) ⟦<RevokeRequestParts<A> as PartList<A>>⟧.rules) refl
+        ⟦<RevokeRequest<A> as PartialEq>⟧.eq (λ x y e. e) };
+
+    fn number() -> u32 {
+        0x420079
     }
-}
 
-impl<A: Allocator + Copy> reader::ReadStructure<A> for RevokeRequest<A> {
-    ghost form = { revoke_request_form };
-
-    ghost value = { read_revoke_request };
-
-    ghost TAG = { 0x420079 };
-
-    ghost DENIES_UNKNOWN = { true };
-
-    type Fields = (
-        reader::OptionalLeaf<String<A>, 0x420094>,
-        reader::Nested<RevocationReasonGiven<A>>,
-        reader::OptionalItem<CompromiseOccurrenceDate, 0x420021>,
-    );
-
-    const TAG: u32 = 0x420079;
-
-    const DENIES_UNKNOWN: bool = true;
-
-    fn has_form() {}
-
-    #[tactic(auto, unfolding(crate::specs::RequestPayloads::read_revoke_request))]
-    fn from_fields(
-        fields: (
-            Option<String<A>>,
-            RevocationReasonGiven<A>,
-            Option<CompromiseOccurrenceDate>,
-        ),
-    ) -> Self {
-        let (unique_identifier, revocation_reason, compromise_occurrence_date) = fields;
-        RevokeRequest {
-            unique_identifier,
-            revocation_reason,
-            compromise_occurrence_date,
+    fn read_nested<'b>(scope: &Scope<'b, A>, cursor: &mut Cursor<'b, A>) -> Step<Self, A> {
+        match read_parts::<RevokeRequestParts<A>, A>(scope, 0x420079, true, cursor) {
+            Ok(parts) => {
+                let (unique_identifier, revocation_reason, compromise_occurrence_date) = parts;
+                Ok(RevokeRequest {
+                    unique_identifier,
+                    revocation_reason,
+                    compromise_occurrence_date,
+                })
+            }
+            Err(failure) => Err(failure),
         }
     }
-}
 
-impl<A: Allocator + Copy> reader::ReadNested<A> for RevokeRequest<A> {
-    ghost form = { revoke_request_form };
+    fn visit_parts<V: Visitor>(&self, visitor: &mut V) -> Result<(), AllocError> {
+        visit_structure_three::<
+            MaybeLeaf<String<A>, 0x420094>,
+            One<Of<RevocationReasonGiven<A>>>,
+            MaybeLeaf<DateTime, 0x420021>,
+            V,
+            A,
+        >(
+            visitor,
+            0x420079,
+            &self.unique_identifier,
+            &self.revocation_reason,
+            &self.compromise_occurrence_date,
+        )
+    }
 
-    ghost value = { read_revoke_request };
-
-    ghost TAG = { 0x420079 };
+    fn is_whole(&self) -> bool {
+        are_whole_three::<
+            MaybeLeaf<String<A>, 0x420094>,
+            One<Of<RevocationReasonGiven<A>>>,
+            MaybeLeaf<DateTime, 0x420021>,
+            A,
+        >(
+            &self.unique_identifier,
+            &self.revocation_reason,
+            &self.compromise_occurrence_date,
+        )
+    }
 
     ghost structured = { (refl, refl) };
-
-    const TAG: u32 = 0x420079;
-
-    fn read_nested<'b>(
-        scope: &reader::Scope<'b, A>,
-        cursor: &mut reader::Cursor<'b, A>,
-    ) -> reader::Step<Self, A> {
-        reader::read_structure(scope, cursor)
-    }
 }
 
 /// What is asked about a server (section 9.1.3.2.23).
@@ -1181,59 +989,39 @@ pub struct QueryRequest<A: Allocator = Global> {
     pub functions: Vec<QueryFunction, A>,
 }
 
-impl<B: Allocator> Serialize for QueryRequest<B> {
-    ghost stated = { query_request_value };
+type QueryRequestParts = Alone<Several<QueryFunction, 0x420074>>;
 
-    #[tactic(auto, unfolding(crate::specs::RequestPayloads::query_request_value))]
-    fn visit<V: Visitor>(&self, visitor: &mut V) -> Result<(), AllocError> {
-        writing::begin_structure(visitor, 0x420079)?;
-        writing::several(visitor, &self.functions)?;
-        writing::end_structure(visitor, 0x420079)?;
-        Ok(())
+impl<A: Allocator + Copy> Structure<A> for QueryRequest<A> {
+    ghost item = { structure 0x420079 true (of (λ x. x.functions) ⟦<QueryRequestParts as PartList<A>>⟧.rules) refl
+        ⟦<QueryRequest<A> as PartialEq>⟧.eq (λ x y e. e) };
+
+    fn number() -> u32 {
+        0x420079
     }
-}
 
-impl<A: Allocator + Copy> reader::ReadStructure<A> for QueryRequest<A> {
-    ghost form = { query_request_form };
-
-    ghost value = { query_request_value };
-
-    ghost TAG = { 0x420079 };
-
-    ghost DENIES_UNKNOWN = { true };
-
-    type Fields = (reader::SeveralItems<QueryFunction, 0x420074>,);
-
-    const TAG: u32 = 0x420079;
-
-    const DENIES_UNKNOWN: bool = true;
-
-    fn has_form() {}
-
-    #[tactic(auto, unfolding(crate::specs::RequestPayloads::query_request_value))]
-    fn from_fields(fields: (Vec<QueryFunction, A>,)) -> Self {
-        let (functions,) = fields;
-        QueryRequest { functions }
+    fn read_nested<'b>(scope: &Scope<'b, A>, cursor: &mut Cursor<'b, A>) -> Step<Self, A> {
+        match read_parts::<QueryRequestParts, A>(scope, 0x420079, true, cursor) {
+            Ok(parts) => {
+                let functions = parts;
+                Ok(QueryRequest { functions })
+            }
+            Err(failure) => Err(failure),
+        }
     }
-}
 
-impl<A: Allocator + Copy> reader::ReadNested<A> for QueryRequest<A> {
-    ghost form = { query_request_form };
+    fn visit_parts<V: Visitor>(&self, visitor: &mut V) -> Result<(), AllocError> {
+        visit_structure_one::<Several<QueryFunction, 0x420074>, V, A>(
+            visitor,
+            0x420079,
+            &self.functions,
+        )
+    }
 
-    ghost value = { query_request_value };
-
-    ghost TAG = { 0x420079 };
+    fn is_whole(&self) -> bool {
+        are_whole_one::<Several<QueryFunction, 0x420074>, A>(&self.functions)
+    }
 
     ghost structured = { (refl, refl) };
-
-    const TAG: u32 = 0x420079;
-
-    fn read_nested<'b>(
-        scope: &reader::Scope<'b, A>,
-        cursor: &mut reader::Cursor<'b, A>,
-    ) -> reader::Step<Self, A> {
-        reader::read_structure(scope, cursor)
-    }
 }
 
 /// Which versions a client has (KMIP 1.1, section 4.26).
@@ -1244,59 +1032,39 @@ pub struct DiscoverVersionsRequest<A: Allocator = Global> {
     pub versions: Vec<ProtocolVersion, A>,
 }
 
-impl<B: Allocator> Serialize for DiscoverVersionsRequest<B> {
-    ghost stated = { written_discover_versions_request };
+type DiscoverVersionsRequestParts = Alone<Any<Of<ProtocolVersion>, 0x420069>>;
 
-    #[tactic(auto, unfolding(crate::specs::RequestPayloads::written_discover_versions_request))]
-    fn visit<V: Visitor>(&self, visitor: &mut V) -> Result<(), AllocError> {
-        writing::begin_structure(visitor, 0x420079)?;
-        writing::several(visitor, &self.versions)?;
-        writing::end_structure(visitor, 0x420079)?;
-        Ok(())
+impl<A: Allocator + Copy> Structure<A> for DiscoverVersionsRequest<A> {
+    ghost item = { structure 0x420079 true (of (λ x. x.versions) ⟦<DiscoverVersionsRequestParts as PartList<A>>⟧.rules) refl
+        ⟦<DiscoverVersionsRequest<A> as PartialEq>⟧.eq (λ x y e. e) };
+
+    fn number() -> u32 {
+        0x420079
     }
-}
 
-impl<A: Allocator + Copy> reader::ReadStructure<A> for DiscoverVersionsRequest<A> {
-    ghost form = { discover_versions_request_form };
-
-    ghost value = { read_discover_versions_request };
-
-    ghost TAG = { 0x420079 };
-
-    ghost DENIES_UNKNOWN = { true };
-
-    type Fields = (reader::OptionalSeveral<ProtocolVersion>,);
-
-    const TAG: u32 = 0x420079;
-
-    const DENIES_UNKNOWN: bool = true;
-
-    fn has_form() {}
-
-    #[tactic(auto, unfolding(crate::specs::RequestPayloads::read_discover_versions_request))]
-    fn from_fields(fields: (Vec<ProtocolVersion, A>,)) -> Self {
-        let (versions,) = fields;
-        DiscoverVersionsRequest { versions }
+    fn read_nested<'b>(scope: &Scope<'b, A>, cursor: &mut Cursor<'b, A>) -> Step<Self, A> {
+        match read_parts::<DiscoverVersionsRequestParts, A>(scope, 0x420079, true, cursor) {
+            Ok(parts) => {
+                let versions = parts;
+                Ok(DiscoverVersionsRequest { versions })
+            }
+            Err(failure) => Err(failure),
+        }
     }
-}
 
-impl<A: Allocator + Copy> reader::ReadNested<A> for DiscoverVersionsRequest<A> {
-    ghost form = { discover_versions_request_form };
+    fn visit_parts<V: Visitor>(&self, visitor: &mut V) -> Result<(), AllocError> {
+        visit_structure_one::<Any<Of<ProtocolVersion>, 0x420069>, V, A>(
+            visitor,
+            0x420079,
+            &self.versions,
+        )
+    }
 
-    ghost value = { read_discover_versions_request };
-
-    ghost TAG = { 0x420079 };
+    fn is_whole(&self) -> bool {
+        are_whole_one::<Any<Of<ProtocolVersion>, 0x420069>, A>(&self.versions)
+    }
 
     ghost structured = { (refl, refl) };
-
-    const TAG: u32 = 0x420079;
-
-    fn read_nested<'b>(
-        scope: &reader::Scope<'b, A>,
-        cursor: &mut reader::Cursor<'b, A>,
-    ) -> reader::Step<Self, A> {
-        reader::read_structure(scope, cursor)
-    }
 }
 
 /// What an operation needs.
@@ -1383,35 +1151,124 @@ impl<A: Allocator> RequestPayload<A> {
     }
 }
 
-impl<B: Allocator> Serialize for RequestPayload<B> {
-    ghost stated = { written_request_payload };
+impl<A: Allocator + Copy> Choice<A> for RequestPayload<A> {
+    ghost chosen = { request_payload_choice ⟦<RequestPayload<A> as PartialEq>⟧.eq record {
+      create = held ⟦<Of<CreateRequest<A>> as Element<A>>⟧.rules refl refl (λ x y e. e);
+      create_key_pair = held ⟦<Of<CreateKeyPairRequest<A>> as Element<A>>⟧.rules refl refl (λ x y e. e);
+      register = held ⟦<Of<RegisterRequest<A>> as Element<A>>⟧.rules refl refl (λ x y e. e);
+      locate = held ⟦<Of<LocateRequest<A>> as Element<A>>⟧.rules refl refl (λ x y e. e);
+      get = held ⟦<Of<GetRequest<A>> as Element<A>>⟧.rules refl refl (λ x y e. e);
+      get_attributes = held ⟦<Of<GetAttributesRequest<A>> as Element<A>>⟧.rules refl refl (λ x y e. e);
+      get_attribute_list = held ⟦<Of<ObjectRequest<A>> as Element<A>>⟧.rules refl refl (λ x y e. e);
+      add_attribute = held ⟦<Of<AttributeRequest<A>> as Element<A>>⟧.rules refl refl (λ x y e. e);
+      modify_attribute = held ⟦<Of<AttributeRequest<A>> as Element<A>>⟧.rules refl refl (λ x y e. e);
+      delete_attribute = held ⟦<Of<DeleteAttributeRequest<A>> as Element<A>>⟧.rules refl refl (λ x y e. e);
+      activate = held ⟦<Of<ObjectRequest<A>> as Element<A>>⟧.rules refl refl (λ x y e. e);
+      revoke = held ⟦<Of<RevokeRequest<A>> as Element<A>>⟧.rules refl refl (λ x y e. e);
+      destroy = held ⟦<Of<ObjectRequest<A>> as Element<A>>⟧.rules refl refl (λ x y e. e);
+      query = held ⟦<Of<QueryRequest<A>> as Element<A>>⟧.rules refl refl (λ x y e. e);
+      discover_versions = held ⟦<Of<DiscoverVersionsRequest<A>> as Element<A>>⟧.rules refl refl (λ x y e. e);
+    } };
 
-    #[tactic(auto, unfolding(crate::specs::RequestPayloads::written_request_payload))]
-    fn visit<V: Visitor>(&self, visitor: &mut V) -> Result<(), AllocError> {
+    fn read_chosen<'b>(scope: &Scope<'b, A>, cursor: &mut Cursor<'b, A>) -> Step<Self, A> {
+        reader::read_choice(scope, cursor)
+    }
+
+    fn visit_chosen<V: Visitor>(&self, visitor: &mut V) -> Result<(), AllocError> {
         match self {
-            RequestPayload::Create(inner) => inner.visit(visitor),
-            RequestPayload::CreateKeyPair(inner) => inner.visit(visitor),
-            RequestPayload::Register(inner) => inner.visit(visitor),
-            RequestPayload::Locate(inner) => inner.visit(visitor),
-            RequestPayload::Get(inner) => inner.visit(visitor),
-            RequestPayload::GetAttributes(inner) => inner.visit(visitor),
-            RequestPayload::GetAttributeList(inner) => inner.visit(visitor),
-            RequestPayload::AddAttribute(inner) => inner.visit(visitor),
-            RequestPayload::ModifyAttribute(inner) => inner.visit(visitor),
-            RequestPayload::DeleteAttribute(inner) => inner.visit(visitor),
-            RequestPayload::Activate(inner) => inner.visit(visitor),
-            RequestPayload::Revoke(inner) => inner.visit(visitor),
-            RequestPayload::Destroy(inner) => inner.visit(visitor),
-            RequestPayload::Query(inner) => inner.visit(visitor),
-            RequestPayload::DiscoverVersions(inner) => inner.visit(visitor),
+            RequestPayload::Create(inner) => <Of<CreateRequest<A>> as Element<A>>::visit_one(
+                inner, visitor,
+            ),
+            RequestPayload::CreateKeyPair(inner) => <Of<CreateKeyPairRequest<A>> as Element<
+                A,
+            >>::visit_one(inner, visitor),
+            RequestPayload::Register(inner) => <Of<RegisterRequest<A>> as Element<A>>::visit_one(
+                inner, visitor,
+            ),
+            RequestPayload::Locate(inner) => <Of<LocateRequest<A>> as Element<A>>::visit_one(
+                inner, visitor,
+            ),
+            RequestPayload::Get(inner) => <Of<GetRequest<A>> as Element<A>>::visit_one(
+                inner, visitor,
+            ),
+            RequestPayload::GetAttributes(inner) => <Of<GetAttributesRequest<A>> as Element<
+                A,
+            >>::visit_one(inner, visitor),
+            RequestPayload::GetAttributeList(inner) => <Of<ObjectRequest<A>> as Element<
+                A,
+            >>::visit_one(inner, visitor),
+            RequestPayload::AddAttribute(inner) => <Of<AttributeRequest<A>> as Element<
+                A,
+            >>::visit_one(inner, visitor),
+            RequestPayload::ModifyAttribute(inner) => <Of<AttributeRequest<A>> as Element<
+                A,
+            >>::visit_one(inner, visitor),
+            RequestPayload::DeleteAttribute(inner) => <Of<DeleteAttributeRequest<A>> as Element<
+                A,
+            >>::visit_one(inner, visitor),
+            RequestPayload::Activate(inner) => <Of<ObjectRequest<A>> as Element<A>>::visit_one(
+                inner, visitor,
+            ),
+            RequestPayload::Revoke(inner) => <Of<RevokeRequest<A>> as Element<A>>::visit_one(
+                inner, visitor,
+            ),
+            RequestPayload::Destroy(inner) => <Of<ObjectRequest<A>> as Element<A>>::visit_one(
+                inner, visitor,
+            ),
+            RequestPayload::Query(inner) => <Of<QueryRequest<A>> as Element<A>>::visit_one(
+                inner, visitor,
+            ),
+            RequestPayload::DiscoverVersions(inner) => <Of<DiscoverVersionsRequest<A>> as Element<
+                A,
+            >>::visit_one(inner, visitor),
         }
     }
+
+    fn is_whole(&self) -> bool {
+        match self {
+            RequestPayload::Create(inner) => <Of<CreateRequest<A>> as Element<A>>::is_whole(inner),
+            RequestPayload::CreateKeyPair(inner) => <Of<CreateKeyPairRequest<A>> as Element<
+                A,
+            >>::is_whole(inner),
+            RequestPayload::Register(inner) => <Of<RegisterRequest<A>> as Element<A>>::is_whole(
+                inner,
+            ),
+            RequestPayload::Locate(inner) => <Of<LocateRequest<A>> as Element<A>>::is_whole(inner),
+            RequestPayload::Get(inner) => <Of<GetRequest<A>> as Element<A>>::is_whole(inner),
+            RequestPayload::GetAttributes(inner) => <Of<GetAttributesRequest<A>> as Element<
+                A,
+            >>::is_whole(inner),
+            RequestPayload::GetAttributeList(inner) => <Of<ObjectRequest<A>> as Element<
+                A,
+            >>::is_whole(inner),
+            RequestPayload::AddAttribute(inner) => <Of<AttributeRequest<A>> as Element<
+                A,
+            >>::is_whole(inner),
+            RequestPayload::ModifyAttribute(inner) => <Of<AttributeRequest<A>> as Element<
+                A,
+            >>::is_whole(inner),
+            RequestPayload::DeleteAttribute(inner) => <Of<DeleteAttributeRequest<A>> as Element<
+                A,
+            >>::is_whole(inner),
+            RequestPayload::Activate(inner) => <Of<ObjectRequest<A>> as Element<A>>::is_whole(
+                inner,
+            ),
+            RequestPayload::Revoke(inner) => <Of<RevokeRequest<A>> as Element<A>>::is_whole(inner),
+            RequestPayload::Destroy(inner) => <Of<ObjectRequest<A>> as Element<A>>::is_whole(inner),
+            RequestPayload::Query(inner) => <Of<QueryRequest<A>> as Element<A>>::is_whole(inner),
+            RequestPayload::DiscoverVersions(inner) => <Of<DiscoverVersionsRequest<A>> as Element<
+                A,
+            >>::is_whole(inner),
+        }
+    }
+
+    ghost plain = { (refl, refl) };
 }
 
 /// The rule that chooses `RequestPayload::Create`.
 pub struct RequestPayloadCreateRule;
 
-impl reader::Rule for RequestPayloadCreateRule {
+impl Rule for RequestPayloadCreateRule {
     ghost condition = { codes "0x42005C==0x00000001" };
 
     fn name() -> &'static str {
@@ -1419,20 +1276,17 @@ impl reader::Rule for RequestPayloadCreateRule {
     }
 
     #[tactic(auto, unfolding(kmip_ttlv_reader::specs::RuleParts::parts_of))]
-    fn parts() -> Option<reader::RuleParts> {
-        Some(reader::RuleParts::Texts {
+    fn parts() -> Option<RuleParts> {
+        Some(RuleParts::Texts {
             tag: 0x42005C,
             texts: &["0x00000001"],
         })
     }
 }
 
-impl<A: Allocator + Copy> reader::VariantOf<
-    reader::StructureElement<CreateRequest<A>>,
-    RequestPayload<A>,
-    A,
-> for RequestPayloadCreateRule {
-    #[tactic(auto, unfolding(crate::specs::RequestPayloads::read_request_payload))]
+impl<A: Allocator + Copy> VariantOf<AsElement<Of<CreateRequest<A>>>, RequestPayload<A>, A>
+    for RequestPayloadCreateRule {
+    #[tactic(auto, unfolding(crate::specs::Choices::request_payload_by))]
     fn from_content(inner: CreateRequest<A>) -> RequestPayload<A> {
         RequestPayload::Create(inner)
     }
@@ -1441,7 +1295,7 @@ impl<A: Allocator + Copy> reader::VariantOf<
 /// The rule that chooses `RequestPayload::CreateKeyPair`.
 pub struct RequestPayloadCreateKeyPairRule;
 
-impl reader::Rule for RequestPayloadCreateKeyPairRule {
+impl Rule for RequestPayloadCreateKeyPairRule {
     ghost condition = { codes "0x42005C==0x00000002" };
 
     fn name() -> &'static str {
@@ -1449,20 +1303,17 @@ impl reader::Rule for RequestPayloadCreateKeyPairRule {
     }
 
     #[tactic(auto, unfolding(kmip_ttlv_reader::specs::RuleParts::parts_of))]
-    fn parts() -> Option<reader::RuleParts> {
-        Some(reader::RuleParts::Texts {
+    fn parts() -> Option<RuleParts> {
+        Some(RuleParts::Texts {
             tag: 0x42005C,
             texts: &["0x00000002"],
         })
     }
 }
 
-impl<A: Allocator + Copy> reader::VariantOf<
-    reader::StructureElement<CreateKeyPairRequest<A>>,
-    RequestPayload<A>,
-    A,
-> for RequestPayloadCreateKeyPairRule {
-    #[tactic(auto, unfolding(crate::specs::RequestPayloads::read_request_payload))]
+impl<A: Allocator + Copy> VariantOf<AsElement<Of<CreateKeyPairRequest<A>>>, RequestPayload<A>, A>
+    for RequestPayloadCreateKeyPairRule {
+    #[tactic(auto, unfolding(crate::specs::Choices::request_payload_by))]
     fn from_content(inner: CreateKeyPairRequest<A>) -> RequestPayload<A> {
         RequestPayload::CreateKeyPair(inner)
     }
@@ -1471,7 +1322,7 @@ impl<A: Allocator + Copy> reader::VariantOf<
 /// The rule that chooses `RequestPayload::Register`.
 pub struct RequestPayloadRegisterRule;
 
-impl reader::Rule for RequestPayloadRegisterRule {
+impl Rule for RequestPayloadRegisterRule {
     ghost condition = { codes "0x42005C==0x00000003" };
 
     fn name() -> &'static str {
@@ -1479,20 +1330,17 @@ impl reader::Rule for RequestPayloadRegisterRule {
     }
 
     #[tactic(auto, unfolding(kmip_ttlv_reader::specs::RuleParts::parts_of))]
-    fn parts() -> Option<reader::RuleParts> {
-        Some(reader::RuleParts::Texts {
+    fn parts() -> Option<RuleParts> {
+        Some(RuleParts::Texts {
             tag: 0x42005C,
             texts: &["0x00000003"],
         })
     }
 }
 
-impl<A: Allocator + Copy> reader::VariantOf<
-    reader::StructureElement<RegisterRequest<A>>,
-    RequestPayload<A>,
-    A,
-> for RequestPayloadRegisterRule {
-    #[tactic(auto, unfolding(crate::specs::RequestPayloads::read_request_payload))]
+impl<A: Allocator + Copy> VariantOf<AsElement<Of<RegisterRequest<A>>>, RequestPayload<A>, A>
+    for RequestPayloadRegisterRule {
+    #[tactic(auto, unfolding(crate::specs::Choices::request_payload_by))]
     fn from_content(inner: RegisterRequest<A>) -> RequestPayload<A> {
         RequestPayload::Register(inner)
     }
@@ -1501,7 +1349,7 @@ impl<A: Allocator + Copy> reader::VariantOf<
 /// The rule that chooses `RequestPayload::Locate`.
 pub struct RequestPayloadLocateRule;
 
-impl reader::Rule for RequestPayloadLocateRule {
+impl Rule for RequestPayloadLocateRule {
     ghost condition = { codes "0x42005C==0x00000008" };
 
     fn name() -> &'static str {
@@ -1509,20 +1357,17 @@ impl reader::Rule for RequestPayloadLocateRule {
     }
 
     #[tactic(auto, unfolding(kmip_ttlv_reader::specs::RuleParts::parts_of))]
-    fn parts() -> Option<reader::RuleParts> {
-        Some(reader::RuleParts::Texts {
+    fn parts() -> Option<RuleParts> {
+        Some(RuleParts::Texts {
             tag: 0x42005C,
             texts: &["0x00000008"],
         })
     }
 }
 
-impl<A: Allocator + Copy> reader::VariantOf<
-    reader::StructureElement<LocateRequest<A>>,
-    RequestPayload<A>,
-    A,
-> for RequestPayloadLocateRule {
-    #[tactic(auto, unfolding(crate::specs::RequestPayloads::read_request_payload))]
+impl<A: Allocator + Copy> VariantOf<AsElement<Of<LocateRequest<A>>>, RequestPayload<A>, A>
+    for RequestPayloadLocateRule {
+    #[tactic(auto, unfolding(crate::specs::Choices::request_payload_by))]
     fn from_content(inner: LocateRequest<A>) -> RequestPayload<A> {
         RequestPayload::Locate(inner)
     }
@@ -1531,7 +1376,7 @@ impl<A: Allocator + Copy> reader::VariantOf<
 /// The rule that chooses `RequestPayload::Get`.
 pub struct RequestPayloadGetRule;
 
-impl reader::Rule for RequestPayloadGetRule {
+impl Rule for RequestPayloadGetRule {
     ghost condition = { codes "0x42005C==0x0000000A" };
 
     fn name() -> &'static str {
@@ -1539,20 +1384,17 @@ impl reader::Rule for RequestPayloadGetRule {
     }
 
     #[tactic(auto, unfolding(kmip_ttlv_reader::specs::RuleParts::parts_of))]
-    fn parts() -> Option<reader::RuleParts> {
-        Some(reader::RuleParts::Texts {
+    fn parts() -> Option<RuleParts> {
+        Some(RuleParts::Texts {
             tag: 0x42005C,
             texts: &["0x0000000A"],
         })
     }
 }
 
-impl<A: Allocator + Copy> reader::VariantOf<
-    reader::StructureElement<GetRequest<A>>,
-    RequestPayload<A>,
-    A,
-> for RequestPayloadGetRule {
-    #[tactic(auto, unfolding(crate::specs::RequestPayloads::read_request_payload))]
+impl<A: Allocator + Copy> VariantOf<AsElement<Of<GetRequest<A>>>, RequestPayload<A>, A>
+    for RequestPayloadGetRule {
+    #[tactic(auto, unfolding(crate::specs::Choices::request_payload_by))]
     fn from_content(inner: GetRequest<A>) -> RequestPayload<A> {
         RequestPayload::Get(inner)
     }
@@ -1561,7 +1403,7 @@ impl<A: Allocator + Copy> reader::VariantOf<
 /// The rule that chooses `RequestPayload::GetAttributes`.
 pub struct RequestPayloadGetAttributesRule;
 
-impl reader::Rule for RequestPayloadGetAttributesRule {
+impl Rule for RequestPayloadGetAttributesRule {
     ghost condition = { codes "0x42005C==0x0000000B" };
 
     fn name() -> &'static str {
@@ -1569,20 +1411,17 @@ impl reader::Rule for RequestPayloadGetAttributesRule {
     }
 
     #[tactic(auto, unfolding(kmip_ttlv_reader::specs::RuleParts::parts_of))]
-    fn parts() -> Option<reader::RuleParts> {
-        Some(reader::RuleParts::Texts {
+    fn parts() -> Option<RuleParts> {
+        Some(RuleParts::Texts {
             tag: 0x42005C,
             texts: &["0x0000000B"],
         })
     }
 }
 
-impl<A: Allocator + Copy> reader::VariantOf<
-    reader::StructureElement<GetAttributesRequest<A>>,
-    RequestPayload<A>,
-    A,
-> for RequestPayloadGetAttributesRule {
-    #[tactic(auto, unfolding(crate::specs::RequestPayloads::read_request_payload))]
+impl<A: Allocator + Copy> VariantOf<AsElement<Of<GetAttributesRequest<A>>>, RequestPayload<A>, A>
+    for RequestPayloadGetAttributesRule {
+    #[tactic(auto, unfolding(crate::specs::Choices::request_payload_by))]
     fn from_content(inner: GetAttributesRequest<A>) -> RequestPayload<A> {
         RequestPayload::GetAttributes(inner)
     }
@@ -1591,7 +1430,7 @@ impl<A: Allocator + Copy> reader::VariantOf<
 /// The rule that chooses `RequestPayload::GetAttributeList`.
 pub struct RequestPayloadGetAttributeListRule;
 
-impl reader::Rule for RequestPayloadGetAttributeListRule {
+impl Rule for RequestPayloadGetAttributeListRule {
     ghost condition = { codes "0x42005C==0x0000000C" };
 
     fn name() -> &'static str {
@@ -1599,20 +1438,17 @@ impl reader::Rule for RequestPayloadGetAttributeListRule {
     }
 
     #[tactic(auto, unfolding(kmip_ttlv_reader::specs::RuleParts::parts_of))]
-    fn parts() -> Option<reader::RuleParts> {
-        Some(reader::RuleParts::Texts {
+    fn parts() -> Option<RuleParts> {
+        Some(RuleParts::Texts {
             tag: 0x42005C,
             texts: &["0x0000000C"],
         })
     }
 }
 
-impl<A: Allocator + Copy> reader::VariantOf<
-    reader::StructureElement<ObjectRequest<A>>,
-    RequestPayload<A>,
-    A,
-> for RequestPayloadGetAttributeListRule {
-    #[tactic(auto, unfolding(crate::specs::RequestPayloads::read_request_payload))]
+impl<A: Allocator + Copy> VariantOf<AsElement<Of<ObjectRequest<A>>>, RequestPayload<A>, A>
+    for RequestPayloadGetAttributeListRule {
+    #[tactic(auto, unfolding(crate::specs::Choices::request_payload_by))]
     fn from_content(inner: ObjectRequest<A>) -> RequestPayload<A> {
         RequestPayload::GetAttributeList(inner)
     }
@@ -1621,7 +1457,7 @@ impl<A: Allocator + Copy> reader::VariantOf<
 /// The rule that chooses `RequestPayload::AddAttribute`.
 pub struct RequestPayloadAddAttributeRule;
 
-impl reader::Rule for RequestPayloadAddAttributeRule {
+impl Rule for RequestPayloadAddAttributeRule {
     ghost condition = { codes "0x42005C==0x0000000D" };
 
     fn name() -> &'static str {
@@ -1629,20 +1465,17 @@ impl reader::Rule for RequestPayloadAddAttributeRule {
     }
 
     #[tactic(auto, unfolding(kmip_ttlv_reader::specs::RuleParts::parts_of))]
-    fn parts() -> Option<reader::RuleParts> {
-        Some(reader::RuleParts::Texts {
+    fn parts() -> Option<RuleParts> {
+        Some(RuleParts::Texts {
             tag: 0x42005C,
             texts: &["0x0000000D"],
         })
     }
 }
 
-impl<A: Allocator + Copy> reader::VariantOf<
-    reader::StructureElement<AttributeRequest<A>>,
-    RequestPayload<A>,
-    A,
-> for RequestPayloadAddAttributeRule {
-    #[tactic(auto, unfolding(crate::specs::RequestPayloads::read_request_payload))]
+impl<A: Allocator + Copy> VariantOf<AsElement<Of<AttributeRequest<A>>>, RequestPayload<A>, A>
+    for RequestPayloadAddAttributeRule {
+    #[tactic(auto, unfolding(crate::specs::Choices::request_payload_by))]
     fn from_content(inner: AttributeRequest<A>) -> RequestPayload<A> {
         RequestPayload::AddAttribute(inner)
     }
@@ -1651,7 +1484,7 @@ impl<A: Allocator + Copy> reader::VariantOf<
 /// The rule that chooses `RequestPayload::ModifyAttribute`.
 pub struct RequestPayloadModifyAttributeRule;
 
-impl reader::Rule for RequestPayloadModifyAttributeRule {
+impl Rule for RequestPayloadModifyAttributeRule {
     ghost condition = { codes "0x42005C==0x0000000E" };
 
     fn name() -> &'static str {
@@ -1659,20 +1492,17 @@ impl reader::Rule for RequestPayloadModifyAttributeRule {
     }
 
     #[tactic(auto, unfolding(kmip_ttlv_reader::specs::RuleParts::parts_of))]
-    fn parts() -> Option<reader::RuleParts> {
-        Some(reader::RuleParts::Texts {
+    fn parts() -> Option<RuleParts> {
+        Some(RuleParts::Texts {
             tag: 0x42005C,
             texts: &["0x0000000E"],
         })
     }
 }
 
-impl<A: Allocator + Copy> reader::VariantOf<
-    reader::StructureElement<AttributeRequest<A>>,
-    RequestPayload<A>,
-    A,
-> for RequestPayloadModifyAttributeRule {
-    #[tactic(auto, unfolding(crate::specs::RequestPayloads::read_request_payload))]
+impl<A: Allocator + Copy> VariantOf<AsElement<Of<AttributeRequest<A>>>, RequestPayload<A>, A>
+    for RequestPayloadModifyAttributeRule {
+    #[tactic(auto, unfolding(crate::specs::Choices::request_payload_by))]
     fn from_content(inner: AttributeRequest<A>) -> RequestPayload<A> {
         RequestPayload::ModifyAttribute(inner)
     }
@@ -1681,7 +1511,7 @@ impl<A: Allocator + Copy> reader::VariantOf<
 /// The rule that chooses `RequestPayload::DeleteAttribute`.
 pub struct RequestPayloadDeleteAttributeRule;
 
-impl reader::Rule for RequestPayloadDeleteAttributeRule {
+impl Rule for RequestPayloadDeleteAttributeRule {
     ghost condition = { codes "0x42005C==0x0000000F" };
 
     fn name() -> &'static str {
@@ -1689,20 +1519,17 @@ impl reader::Rule for RequestPayloadDeleteAttributeRule {
     }
 
     #[tactic(auto, unfolding(kmip_ttlv_reader::specs::RuleParts::parts_of))]
-    fn parts() -> Option<reader::RuleParts> {
-        Some(reader::RuleParts::Texts {
+    fn parts() -> Option<RuleParts> {
+        Some(RuleParts::Texts {
             tag: 0x42005C,
             texts: &["0x0000000F"],
         })
     }
 }
 
-impl<A: Allocator + Copy> reader::VariantOf<
-    reader::StructureElement<DeleteAttributeRequest<A>>,
-    RequestPayload<A>,
-    A,
-> for RequestPayloadDeleteAttributeRule {
-    #[tactic(auto, unfolding(crate::specs::RequestPayloads::read_request_payload))]
+impl<A: Allocator + Copy> VariantOf<AsElement<Of<DeleteAttributeRequest<A>>>, RequestPayload<A>, A>
+    for RequestPayloadDeleteAttributeRule {
+    #[tactic(auto, unfolding(crate::specs::Choices::request_payload_by))]
     fn from_content(inner: DeleteAttributeRequest<A>) -> RequestPayload<A> {
         RequestPayload::DeleteAttribute(inner)
     }
@@ -1711,7 +1538,7 @@ impl<A: Allocator + Copy> reader::VariantOf<
 /// The rule that chooses `RequestPayload::Activate`.
 pub struct RequestPayloadActivateRule;
 
-impl reader::Rule for RequestPayloadActivateRule {
+impl Rule for RequestPayloadActivateRule {
     ghost condition = { codes "0x42005C==0x00000012" };
 
     fn name() -> &'static str {
@@ -1719,20 +1546,17 @@ impl reader::Rule for RequestPayloadActivateRule {
     }
 
     #[tactic(auto, unfolding(kmip_ttlv_reader::specs::RuleParts::parts_of))]
-    fn parts() -> Option<reader::RuleParts> {
-        Some(reader::RuleParts::Texts {
+    fn parts() -> Option<RuleParts> {
+        Some(RuleParts::Texts {
             tag: 0x42005C,
             texts: &["0x00000012"],
         })
     }
 }
 
-impl<A: Allocator + Copy> reader::VariantOf<
-    reader::StructureElement<ObjectRequest<A>>,
-    RequestPayload<A>,
-    A,
-> for RequestPayloadActivateRule {
-    #[tactic(auto, unfolding(crate::specs::RequestPayloads::read_request_payload))]
+impl<A: Allocator + Copy> VariantOf<AsElement<Of<ObjectRequest<A>>>, RequestPayload<A>, A>
+    for RequestPayloadActivateRule {
+    #[tactic(auto, unfolding(crate::specs::Choices::request_payload_by))]
     fn from_content(inner: ObjectRequest<A>) -> RequestPayload<A> {
         RequestPayload::Activate(inner)
     }
@@ -1741,7 +1565,7 @@ impl<A: Allocator + Copy> reader::VariantOf<
 /// The rule that chooses `RequestPayload::Revoke`.
 pub struct RequestPayloadRevokeRule;
 
-impl reader::Rule for RequestPayloadRevokeRule {
+impl Rule for RequestPayloadRevokeRule {
     ghost condition = { codes "0x42005C==0x00000013" };
 
     fn name() -> &'static str {
@@ -1749,20 +1573,17 @@ impl reader::Rule for RequestPayloadRevokeRule {
     }
 
     #[tactic(auto, unfolding(kmip_ttlv_reader::specs::RuleParts::parts_of))]
-    fn parts() -> Option<reader::RuleParts> {
-        Some(reader::RuleParts::Texts {
+    fn parts() -> Option<RuleParts> {
+        Some(RuleParts::Texts {
             tag: 0x42005C,
             texts: &["0x00000013"],
         })
     }
 }
 
-impl<A: Allocator + Copy> reader::VariantOf<
-    reader::StructureElement<RevokeRequest<A>>,
-    RequestPayload<A>,
-    A,
-> for RequestPayloadRevokeRule {
-    #[tactic(auto, unfolding(crate::specs::RequestPayloads::read_request_payload))]
+impl<A: Allocator + Copy> VariantOf<AsElement<Of<RevokeRequest<A>>>, RequestPayload<A>, A>
+    for RequestPayloadRevokeRule {
+    #[tactic(auto, unfolding(crate::specs::Choices::request_payload_by))]
     fn from_content(inner: RevokeRequest<A>) -> RequestPayload<A> {
         RequestPayload::Revoke(inner)
     }
@@ -1771,7 +1592,7 @@ impl<A: Allocator + Copy> reader::VariantOf<
 /// The rule that chooses `RequestPayload::Destroy`.
 pub struct RequestPayloadDestroyRule;
 
-impl reader::Rule for RequestPayloadDestroyRule {
+impl Rule for RequestPayloadDestroyRule {
     ghost condition = { codes "0x42005C==0x00000014" };
 
     fn name() -> &'static str {
@@ -1779,20 +1600,17 @@ impl reader::Rule for RequestPayloadDestroyRule {
     }
 
     #[tactic(auto, unfolding(kmip_ttlv_reader::specs::RuleParts::parts_of))]
-    fn parts() -> Option<reader::RuleParts> {
-        Some(reader::RuleParts::Texts {
+    fn parts() -> Option<RuleParts> {
+        Some(RuleParts::Texts {
             tag: 0x42005C,
             texts: &["0x00000014"],
         })
     }
 }
 
-impl<A: Allocator + Copy> reader::VariantOf<
-    reader::StructureElement<ObjectRequest<A>>,
-    RequestPayload<A>,
-    A,
-> for RequestPayloadDestroyRule {
-    #[tactic(auto, unfolding(crate::specs::RequestPayloads::read_request_payload))]
+impl<A: Allocator + Copy> VariantOf<AsElement<Of<ObjectRequest<A>>>, RequestPayload<A>, A>
+    for RequestPayloadDestroyRule {
+    #[tactic(auto, unfolding(crate::specs::Choices::request_payload_by))]
     fn from_content(inner: ObjectRequest<A>) -> RequestPayload<A> {
         RequestPayload::Destroy(inner)
     }
@@ -1801,7 +1619,7 @@ impl<A: Allocator + Copy> reader::VariantOf<
 /// The rule that chooses `RequestPayload::Query`.
 pub struct RequestPayloadQueryRule;
 
-impl reader::Rule for RequestPayloadQueryRule {
+impl Rule for RequestPayloadQueryRule {
     ghost condition = { codes "0x42005C==0x00000018" };
 
     fn name() -> &'static str {
@@ -1809,20 +1627,17 @@ impl reader::Rule for RequestPayloadQueryRule {
     }
 
     #[tactic(auto, unfolding(kmip_ttlv_reader::specs::RuleParts::parts_of))]
-    fn parts() -> Option<reader::RuleParts> {
-        Some(reader::RuleParts::Texts {
+    fn parts() -> Option<RuleParts> {
+        Some(RuleParts::Texts {
             tag: 0x42005C,
             texts: &["0x00000018"],
         })
     }
 }
 
-impl<A: Allocator + Copy> reader::VariantOf<
-    reader::StructureElement<QueryRequest<A>>,
-    RequestPayload<A>,
-    A,
-> for RequestPayloadQueryRule {
-    #[tactic(auto, unfolding(crate::specs::RequestPayloads::read_request_payload))]
+impl<A: Allocator + Copy> VariantOf<AsElement<Of<QueryRequest<A>>>, RequestPayload<A>, A>
+    for RequestPayloadQueryRule {
+    #[tactic(auto, unfolding(crate::specs::Choices::request_payload_by))]
     fn from_content(inner: QueryRequest<A>) -> RequestPayload<A> {
         RequestPayload::Query(inner)
     }
@@ -1831,7 +1646,7 @@ impl<A: Allocator + Copy> reader::VariantOf<
 /// The rule that chooses `RequestPayload::DiscoverVersions`.
 pub struct RequestPayloadDiscoverVersionsRule;
 
-impl reader::Rule for RequestPayloadDiscoverVersionsRule {
+impl Rule for RequestPayloadDiscoverVersionsRule {
     ghost condition = { codes "0x42005C==0x0000001E" };
 
     fn name() -> &'static str {
@@ -1839,20 +1654,17 @@ impl reader::Rule for RequestPayloadDiscoverVersionsRule {
     }
 
     #[tactic(auto, unfolding(kmip_ttlv_reader::specs::RuleParts::parts_of))]
-    fn parts() -> Option<reader::RuleParts> {
-        Some(reader::RuleParts::Texts {
+    fn parts() -> Option<RuleParts> {
+        Some(RuleParts::Texts {
             tag: 0x42005C,
             texts: &["0x0000001E"],
         })
     }
 }
 
-impl<A: Allocator + Copy> reader::VariantOf<
-    reader::StructureElement<DiscoverVersionsRequest<A>>,
-    RequestPayload<A>,
-    A,
-> for RequestPayloadDiscoverVersionsRule {
-    #[tactic(auto, unfolding(crate::specs::RequestPayloads::read_request_payload))]
+impl<A: Allocator + Copy> VariantOf<AsElement<Of<DiscoverVersionsRequest<A>>>, RequestPayload<A>, A>
+    for RequestPayloadDiscoverVersionsRule {
+    #[tactic(auto, unfolding(crate::specs::Choices::request_payload_by))]
     fn from_content(inner: DiscoverVersionsRequest<A>) -> RequestPayload<A> {
         RequestPayload::DiscoverVersions(inner)
     }
@@ -1861,36 +1673,27 @@ impl<A: Allocator + Copy> reader::VariantOf<
 /// The variants of `RequestPayload` from `Get` on.
 pub struct RequestPayloadLater4;
 
-impl<A: Allocator + Copy> reader::VariantList<RequestPayload<A>, A> for RequestPayloadLater4 {
-    ghost variants = { request_payload_variants_4 };
+impl<A: Allocator + Copy> VariantList<RequestPayload<A>, A> for RequestPayloadLater4 {
+    ghost variants = { ⟦<(Variant<RequestPayloadGetRule, AsElement<Of<GetRequest<A>>>>, (Variant<RequestPayloadGetAttributesRule, AsElement<Of<GetAttributesRequest<A>>>>, (Variant<RequestPayloadGetAttributeListRule, AsElement<Of<ObjectRequest<A>>>>, (Variant<RequestPayloadAddAttributeRule, AsElement<Of<AttributeRequest<A>>>>, RequestPayloadLater8)))) as VariantList<RequestPayload<A>, A>>⟧.variants };
 
     fn read_chosen<'b>(
-        scope: &reader::Scope<'b, A>,
-        cursor: &mut reader::Cursor<'b, A>,
+        scope: &Scope<'b, A>,
+        cursor: &mut Cursor<'b, A>,
         typ: TtlvType,
-    ) -> reader::Step<Option<RequestPayload<A>>, A> {
+    ) -> Step<Option<RequestPayload<A>>, A> {
         <(
-            reader::Variant<RequestPayloadGetRule, reader::StructureElement<GetRequest<A>>>,
+            Variant<RequestPayloadGetRule, AsElement<Of<GetRequest<A>>>>,
             (
-                reader::Variant<
-                    RequestPayloadGetAttributesRule,
-                    reader::StructureElement<GetAttributesRequest<A>>,
-                >,
+                Variant<RequestPayloadGetAttributesRule, AsElement<Of<GetAttributesRequest<A>>>>,
                 (
-                    reader::Variant<
-                        RequestPayloadGetAttributeListRule,
-                        reader::StructureElement<ObjectRequest<A>>,
-                    >,
+                    Variant<RequestPayloadGetAttributeListRule, AsElement<Of<ObjectRequest<A>>>>,
                     (
-                        reader::Variant<
-                            RequestPayloadAddAttributeRule,
-                            reader::StructureElement<AttributeRequest<A>>,
-                        >,
+                        Variant<RequestPayloadAddAttributeRule, AsElement<Of<AttributeRequest<A>>>>,
                         RequestPayloadLater8,
                     ),
                 ),
             ),
-        ) as reader::VariantList<RequestPayload<A>, A>>::read_chosen(scope, cursor, typ)
+        ) as VariantList<RequestPayload<A>, A>>::read_chosen(scope, cursor, typ)
     }
 
     ghost ruled = { λ content. refl };
@@ -1899,39 +1702,30 @@ impl<A: Allocator + Copy> reader::VariantList<RequestPayload<A>, A> for RequestP
 /// The variants of `RequestPayload` from `ModifyAttribute` on.
 pub struct RequestPayloadLater8;
 
-impl<A: Allocator + Copy> reader::VariantList<RequestPayload<A>, A> for RequestPayloadLater8 {
-    ghost variants = { request_payload_variants_8 };
+impl<A: Allocator + Copy> VariantList<RequestPayload<A>, A> for RequestPayloadLater8 {
+    ghost variants = { ⟦<(Variant<RequestPayloadModifyAttributeRule, AsElement<Of<AttributeRequest<A>>>>, (Variant<RequestPayloadDeleteAttributeRule, AsElement<Of<DeleteAttributeRequest<A>>>>, (Variant<RequestPayloadActivateRule, AsElement<Of<ObjectRequest<A>>>>, (Variant<RequestPayloadRevokeRule, AsElement<Of<RevokeRequest<A>>>>, RequestPayloadLater12)))) as VariantList<RequestPayload<A>, A>>⟧.variants };
 
     fn read_chosen<'b>(
-        scope: &reader::Scope<'b, A>,
-        cursor: &mut reader::Cursor<'b, A>,
+        scope: &Scope<'b, A>,
+        cursor: &mut Cursor<'b, A>,
         typ: TtlvType,
-    ) -> reader::Step<Option<RequestPayload<A>>, A> {
+    ) -> Step<Option<RequestPayload<A>>, A> {
         <(
-            reader::Variant<
-                RequestPayloadModifyAttributeRule,
-                reader::StructureElement<AttributeRequest<A>>,
-            >,
+            Variant<RequestPayloadModifyAttributeRule, AsElement<Of<AttributeRequest<A>>>>,
             (
-                reader::Variant<
+                Variant<
                     RequestPayloadDeleteAttributeRule,
-                    reader::StructureElement<DeleteAttributeRequest<A>>,
+                    AsElement<Of<DeleteAttributeRequest<A>>>,
                 >,
                 (
-                    reader::Variant<
-                        RequestPayloadActivateRule,
-                        reader::StructureElement<ObjectRequest<A>>,
-                    >,
+                    Variant<RequestPayloadActivateRule, AsElement<Of<ObjectRequest<A>>>>,
                     (
-                        reader::Variant<
-                            RequestPayloadRevokeRule,
-                            reader::StructureElement<RevokeRequest<A>>,
-                        >,
+                        Variant<RequestPayloadRevokeRule, AsElement<Of<RevokeRequest<A>>>>,
                         RequestPayloadLater12,
                     ),
                 ),
             ),
-        ) as reader::VariantList<RequestPayload<A>, A>>::read_chosen(scope, cursor, typ)
+        ) as VariantList<RequestPayload<A>, A>>::read_chosen(scope, cursor, typ)
     }
 
     ghost ruled = { λ content. refl };
@@ -1940,58 +1734,49 @@ impl<A: Allocator + Copy> reader::VariantList<RequestPayload<A>, A> for RequestP
 /// The variants of `RequestPayload` from `Destroy` on.
 pub struct RequestPayloadLater12;
 
-impl<A: Allocator + Copy> reader::VariantList<RequestPayload<A>, A> for RequestPayloadLater12 {
-    ghost variants = { request_payload_variants_12 };
+impl<A: Allocator + Copy> VariantList<RequestPayload<A>, A> for RequestPayloadLater12 {
+    ghost variants = { ⟦<(Variant<RequestPayloadDestroyRule, AsElement<Of<ObjectRequest<A>>>>, (Variant<RequestPayloadQueryRule, AsElement<Of<QueryRequest<A>>>>, (Variant<RequestPayloadDiscoverVersionsRule, AsElement<Of<DiscoverVersionsRequest<A>>>>, ()))) as VariantList<RequestPayload<A>, A>>⟧.variants };
 
     fn read_chosen<'b>(
-        scope: &reader::Scope<'b, A>,
-        cursor: &mut reader::Cursor<'b, A>,
+        scope: &Scope<'b, A>,
+        cursor: &mut Cursor<'b, A>,
         typ: TtlvType,
-    ) -> reader::Step<Option<RequestPayload<A>>, A> {
+    ) -> Step<Option<RequestPayload<A>>, A> {
         <(
-            reader::Variant<RequestPayloadDestroyRule, reader::StructureElement<ObjectRequest<A>>>,
+            Variant<RequestPayloadDestroyRule, AsElement<Of<ObjectRequest<A>>>>,
             (
-                reader::Variant<RequestPayloadQueryRule, reader::StructureElement<QueryRequest<A>>>,
+                Variant<RequestPayloadQueryRule, AsElement<Of<QueryRequest<A>>>>,
                 (
-                    reader::Variant<
+                    Variant<
                         RequestPayloadDiscoverVersionsRule,
-                        reader::StructureElement<DiscoverVersionsRequest<A>>,
+                        AsElement<Of<DiscoverVersionsRequest<A>>>,
                     >,
                     (),
                 ),
             ),
-        ) as reader::VariantList<RequestPayload<A>, A>>::read_chosen(scope, cursor, typ)
+        ) as VariantList<RequestPayload<A>, A>>::read_chosen(scope, cursor, typ)
     }
 
     ghost ruled = { λ content. refl };
 }
 
-impl<A: Allocator> reader::ChoiceValue for RequestPayload<A> {
+impl<A: Allocator + Copy> ChoiceValue for RequestPayload<A> {
     ghost own = { codes "payload" };
 
-    ghost value = { read_request_payload };
+    ghost value = { ⟦<RequestPayload<A> as Choice<A>>⟧.chosen.value };
 }
 
 impl<A: Allocator + Copy> reader::Choice<A> for RequestPayload<A> {
-    ghost form = { request_payload_form };
+    ghost form = { ⟦<RequestPayload<A> as Choice<A>>⟧.chosen.form };
 
     type Variants = (
-        reader::Variant<RequestPayloadCreateRule, reader::StructureElement<CreateRequest<A>>>,
+        Variant<RequestPayloadCreateRule, AsElement<Of<CreateRequest<A>>>>,
         (
-            reader::Variant<
-                RequestPayloadCreateKeyPairRule,
-                reader::StructureElement<CreateKeyPairRequest<A>>,
-            >,
+            Variant<RequestPayloadCreateKeyPairRule, AsElement<Of<CreateKeyPairRequest<A>>>>,
             (
-                reader::Variant<
-                    RequestPayloadRegisterRule,
-                    reader::StructureElement<RegisterRequest<A>>,
-                >,
+                Variant<RequestPayloadRegisterRule, AsElement<Of<RegisterRequest<A>>>>,
                 (
-                    reader::Variant<
-                        RequestPayloadLocateRule,
-                        reader::StructureElement<LocateRequest<A>>,
-                    >,
+                    Variant<RequestPayloadLocateRule, AsElement<Of<LocateRequest<A>>>>,
                     RequestPayloadLater4,
                 ),
             ),
@@ -1999,19 +1784,4 @@ impl<A: Allocator + Copy> reader::Choice<A> for RequestPayload<A> {
     );
 
     fn has_form() {}
-}
-
-impl<A: Allocator + Copy> reader::ReadItem<A> for RequestPayload<A> {
-    ghost form = { request_payload_form };
-
-    ghost value = { read_request_payload };
-
-    ghost plain = { (refl, refl) };
-
-    fn read_item<'b>(
-        scope: &reader::Scope<'b, A>,
-        cursor: &mut reader::Cursor<'b, A>,
-    ) -> reader::Step<Self, A> {
-        reader::read_choice(scope, cursor)
-    }
 }

@@ -1,2 +1,1 @@
-pub mod ResponsePayloads
-pub mod Soundness
+pub mod Choices

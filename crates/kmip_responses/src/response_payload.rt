@@ -1,13 +1,15 @@
 // Written by codegen from types.table: change that, and run codegen/codegen.
 //! What was done (KMIP 1.0, section 4).
 
-ghost use Rattle.std.specs.Prelude.{◌↔◌, refl, IsTrue, codes, true};
-ghost use Rattle.kmip_responses.specs.ResponsePayloads.{create_response_form, written_create_response, read_create_response, create_key_pair_response_form, written_create_key_pair_response, read_create_key_pair_response, register_response_form, written_register_response, read_register_response, locate_response_form, written_locate_response, read_locate_response, get_response_form, written_get_response, read_get_response, IsGetResponseObject, get_attributes_response_form, written_get_attributes_response, read_get_attributes_response, get_attribute_list_response_form, written_get_attribute_list_response, read_get_attribute_list_response, attribute_response_form, written_attribute_response, read_attribute_response, object_response_form, object_response_value, application_namespace_form, application_namespace_value, query_response_form, written_query_response, read_query_response, discover_versions_response_form, written_discover_versions_response, read_discover_versions_response, response_payload_form, written_response_payload, read_response_payload, ChoosesResponsePayload, response_payload_variants_4, response_payload_variants_8, response_payload_variants_12, ChoosesResponsePayloadNumber};
+ghost use Rattle.std.specs.Prelude.{◌≡◌, ◌↔◌, ◌+◌, None, IsTrue, Some, codes, refl, true};
+ghost use Rattle.kmip_ttlv_kinds.specs.Parts.{of, structure, structure_where};
+ghost use Rattle.kmip_ttlv_kinds.specs.Choices.{held};
+ghost use Rattle.kmip_ttlv_parts.specs.MessageParts.{there};
+ghost use Rattle.kmip_responses.specs.Choices.{IsGetResponseObject, response_payload_choice, ChoosesResponsePayload, ChoosesResponsePayloadNumber};
 
-use kmip_attributes::attribute::{Attribute, AttributeName};
+use kmip_attributes::attribute::Attribute;
 use kmip_attributes::values::ObjectType;
 use kmip_headers::header::{Operation, ProtocolVersion};
-use kmip_objects::key::UniqueIdentifier;
 use kmip_objects::object::{
     Certificate, ManagedObject, OpaqueObject, PrivateKey, PublicKey, SecretData, SplitKey,
     SymmetricKey, Template,
@@ -15,8 +17,16 @@ use kmip_objects::object::{
 use kmip_objects::template::{
     PrivateKeyTemplateAttribute, PublicKeyTemplateAttribute, TemplateAttribute,
 };
+use kmip_ttlv_kinds::{
+    Alone, Any, AsElement, Choice, Element, Four, Leaf, LeafItem, Maybe, MaybeLeaf, Of, One,
+    PartList, Structure, are_whole_four, are_whole_one, are_whole_three, are_whole_two, both,
+    read_parts, visit_four, visit_structure_four, visit_structure_one, visit_structure_three,
+    visit_structure_two, visit_two,
+};
 use kmip_ttlv_parts::messages::writing;
-use kmip_ttlv_parts::shape::Serialize;
+use kmip_ttlv_parts::reader::{
+    ChoiceValue, Cursor, Rule, RuleParts, Scope, Step, Variant, VariantList, VariantOf,
+};
 use kmip_ttlv_parts::types::TtlvType;
 use kmip_ttlv_parts::visit::Visitor;
 use kmip_ttlv_parts::{Boxed, reader};
@@ -34,68 +44,64 @@ pub struct CreateResponse<A: Allocator = Global> {
     pub template_attribute: Option<TemplateAttribute<A>>,
 }
 
-impl<B: Allocator> Serialize for CreateResponse<B> {
-    ghost stated = { written_create_response };
+type CreateResponseParts<A> = (
+    One<ObjectType>,
+    Leaf<String<A>, 0x420094>,
+    Maybe<Of<TemplateAttribute<A>>, 0x420091>,
+);
 
-    fn visit<V: Visitor>(&self, visitor: &mut V) -> Result<(), AllocError> {
-        writing::begin_structure(visitor, 0x42007C)?;
-        self.object_type.visit(visitor)?;
-        writing::string(visitor, 0x420094, &self.unique_identifier)?;
-        writing::option(visitor, &self.template_attribute)?;
-        writing::end_structure(visitor, 0x42007C)?;
-        Ok(())
+impl<A: Allocator + Copy> Structure<A> for CreateResponse<A> {
+    ghost item = { structure 0x42007C true (of (λ x. (x.object_type, x.unique_identifier, x.template_attribute)) ⟦<CreateResponseParts<A> as PartList<A>>⟧.rules) refl
+        ⟦<CreateResponse<A> as PartialEq>⟧.eq (λ x y e. e) };
+
+    fn number() -> u32 {
+        0x42007C
     }
-}
 
-impl<A: Allocator + Copy> reader::ReadStructure<A> for CreateResponse<A> {
-    ghost form = { create_response_form };
-
-    ghost value = { read_create_response };
-
-    ghost TAG = { 0x42007C };
-
-    ghost DENIES_UNKNOWN = { true };
-
-    type Fields = (
-        reader::Item<ObjectType, 0x420057>,
-        reader::Leaf<String<A>, 0x420094>,
-        reader::OptionalNested<TemplateAttribute<A>>,
-    );
-
-    const TAG: u32 = 0x42007C;
-
-    const DENIES_UNKNOWN: bool = true;
-
-    fn has_form() {}
-
-    #[tactic(auto, unfolding(crate::specs::ResponsePayloads::read_create_response))]
-    fn from_fields(fields: (ObjectType, String<A>, Option<TemplateAttribute<A>>)) -> Self {
-        let (object_type, unique_identifier, template_attribute) = fields;
-        CreateResponse {
-            object_type,
-            unique_identifier,
-            template_attribute,
+    fn read_nested<'b>(scope: &Scope<'b, A>, cursor: &mut Cursor<'b, A>) -> Step<Self, A> {
+        match read_parts::<CreateResponseParts<A>, A>(scope, 0x42007C, true, cursor) {
+            Ok(parts) => {
+                let (object_type, unique_identifier, template_attribute) = parts;
+                Ok(CreateResponse {
+                    object_type,
+                    unique_identifier,
+                    template_attribute,
+                })
+            }
+            Err(failure) => Err(failure),
         }
     }
-}
 
-impl<A: Allocator + Copy> reader::ReadNested<A> for CreateResponse<A> {
-    ghost form = { create_response_form };
+    fn visit_parts<V: Visitor>(&self, visitor: &mut V) -> Result<(), AllocError> {
+        visit_structure_three::<
+            One<ObjectType>,
+            Leaf<String<A>, 0x420094>,
+            Maybe<Of<TemplateAttribute<A>>, 0x420091>,
+            V,
+            A,
+        >(
+            visitor,
+            0x42007C,
+            &self.object_type,
+            &self.unique_identifier,
+            &self.template_attribute,
+        )
+    }
 
-    ghost value = { read_create_response };
-
-    ghost TAG = { 0x42007C };
+    fn is_whole(&self) -> bool {
+        are_whole_three::<
+            One<ObjectType>,
+            Leaf<String<A>, 0x420094>,
+            Maybe<Of<TemplateAttribute<A>>, 0x420091>,
+            A,
+        >(
+            &self.object_type,
+            &self.unique_identifier,
+            &self.template_attribute,
+        )
+    }
 
     ghost structured = { (refl, refl) };
-
-    const TAG: u32 = 0x42007C;
-
-    fn read_nested<'b>(
-        scope: &reader::Scope<'b, A>,
-        cursor: &mut reader::Cursor<'b, A>,
-    ) -> reader::Step<Self, A> {
-        reader::read_structure(scope, cursor)
-    }
 }
 
 /// A public and a private key were made (section 4.2).
@@ -112,79 +118,75 @@ pub struct CreateKeyPairResponse<A: Allocator = Global> {
     pub public_key: Option<PublicKeyTemplateAttribute<A>>,
 }
 
-impl<B: Allocator> Serialize for CreateKeyPairResponse<B> {
-    ghost stated = { written_create_key_pair_response };
+type CreateKeyPairResponseParts<A> = (
+    Leaf<String<A>, 0x420066>,
+    Leaf<String<A>, 0x42006F>,
+    Maybe<Of<PrivateKeyTemplateAttribute<A>>, 0x420065>,
+    Maybe<Of<PublicKeyTemplateAttribute<A>>, 0x42006E>,
+);
 
-    fn visit<V: Visitor>(&self, visitor: &mut V) -> Result<(), AllocError> {
-        writing::begin_structure(visitor, 0x42007C)?;
-        writing::string(visitor, 0x420066, &self.private_key_unique_identifier)?;
-        writing::string(visitor, 0x42006F, &self.public_key_unique_identifier)?;
-        writing::option(visitor, &self.private_key)?;
-        writing::option(visitor, &self.public_key)?;
-        writing::end_structure(visitor, 0x42007C)?;
-        Ok(())
+impl<A: Allocator + Copy> Structure<A> for CreateKeyPairResponse<A> {
+    ghost item = { structure 0x42007C true (of (λ x. (x.private_key_unique_identifier, x.public_key_unique_identifier, x.private_key, x.public_key)) ⟦<CreateKeyPairResponseParts<A> as PartList<A>>⟧.rules) refl
+        ⟦<CreateKeyPairResponse<A> as PartialEq>⟧.eq (λ x y e. e) };
+
+    fn number() -> u32 {
+        0x42007C
     }
-}
 
-impl<A: Allocator + Copy> reader::ReadStructure<A> for CreateKeyPairResponse<A> {
-    ghost form = { create_key_pair_response_form };
-
-    ghost value = { read_create_key_pair_response };
-
-    ghost TAG = { 0x42007C };
-
-    ghost DENIES_UNKNOWN = { true };
-
-    type Fields = (
-        reader::Leaf<String<A>, 0x420066>,
-        reader::Leaf<String<A>, 0x42006F>,
-        reader::OptionalNested<PrivateKeyTemplateAttribute<A>>,
-        reader::OptionalNested<PublicKeyTemplateAttribute<A>>,
-    );
-
-    const TAG: u32 = 0x42007C;
-
-    const DENIES_UNKNOWN: bool = true;
-
-    fn has_form() {}
-
-    #[tactic(auto, unfolding(crate::specs::ResponsePayloads::read_create_key_pair_response))]
-    fn from_fields(
-        fields: (
-            String<A>,
-            String<A>,
-            Option<PrivateKeyTemplateAttribute<A>>,
-            Option<PublicKeyTemplateAttribute<A>>,
-        ),
-    ) -> Self {
-        let (private_key_unique_identifier, public_key_unique_identifier, private_key, public_key) =
-            fields;
-        CreateKeyPairResponse {
-            private_key_unique_identifier,
-            public_key_unique_identifier,
-            private_key,
-            public_key,
+    fn read_nested<'b>(scope: &Scope<'b, A>, cursor: &mut Cursor<'b, A>) -> Step<Self, A> {
+        match read_parts::<CreateKeyPairResponseParts<A>, A>(scope, 0x42007C, true, cursor) {
+            Ok(parts) => {
+                let (
+                    private_key_unique_identifier,
+                    public_key_unique_identifier,
+                    private_key,
+                    public_key,
+                ) = parts;
+                Ok(CreateKeyPairResponse {
+                    private_key_unique_identifier,
+                    public_key_unique_identifier,
+                    private_key,
+                    public_key,
+                })
+            }
+            Err(failure) => Err(failure),
         }
     }
-}
 
-impl<A: Allocator + Copy> reader::ReadNested<A> for CreateKeyPairResponse<A> {
-    ghost form = { create_key_pair_response_form };
+    fn visit_parts<V: Visitor>(&self, visitor: &mut V) -> Result<(), AllocError> {
+        visit_structure_four::<
+            Leaf<String<A>, 0x420066>,
+            Leaf<String<A>, 0x42006F>,
+            Maybe<Of<PrivateKeyTemplateAttribute<A>>, 0x420065>,
+            Maybe<Of<PublicKeyTemplateAttribute<A>>, 0x42006E>,
+            V,
+            A,
+        >(
+            visitor,
+            0x42007C,
+            &self.private_key_unique_identifier,
+            &self.public_key_unique_identifier,
+            &self.private_key,
+            &self.public_key,
+        )
+    }
 
-    ghost value = { read_create_key_pair_response };
-
-    ghost TAG = { 0x42007C };
+    fn is_whole(&self) -> bool {
+        are_whole_four::<
+            Leaf<String<A>, 0x420066>,
+            Leaf<String<A>, 0x42006F>,
+            Maybe<Of<PrivateKeyTemplateAttribute<A>>, 0x420065>,
+            Maybe<Of<PublicKeyTemplateAttribute<A>>, 0x42006E>,
+            A,
+        >(
+            &self.private_key_unique_identifier,
+            &self.public_key_unique_identifier,
+            &self.private_key,
+            &self.public_key,
+        )
+    }
 
     ghost structured = { (refl, refl) };
-
-    const TAG: u32 = 0x42007C;
-
-    fn read_nested<'b>(
-        scope: &reader::Scope<'b, A>,
-        cursor: &mut reader::Cursor<'b, A>,
-    ) -> reader::Step<Self, A> {
-        reader::read_structure(scope, cursor)
-    }
 }
 
 /// An object is kept (section 4.3).
@@ -197,65 +199,54 @@ pub struct RegisterResponse<A: Allocator = Global> {
     pub template_attribute: Option<TemplateAttribute<A>>,
 }
 
-impl<B: Allocator> Serialize for RegisterResponse<B> {
-    ghost stated = { written_register_response };
+type RegisterResponseParts<A> = (
+    Leaf<String<A>, 0x420094>,
+    Maybe<Of<TemplateAttribute<A>>, 0x420091>,
+);
 
-    fn visit<V: Visitor>(&self, visitor: &mut V) -> Result<(), AllocError> {
-        writing::begin_structure(visitor, 0x42007C)?;
-        writing::string(visitor, 0x420094, &self.unique_identifier)?;
-        writing::option(visitor, &self.template_attribute)?;
-        writing::end_structure(visitor, 0x42007C)?;
-        Ok(())
+impl<A: Allocator + Copy> Structure<A> for RegisterResponse<A> {
+    ghost item = { structure 0x42007C true (of (λ x. (x.unique_identifier, x.template_attribute)) ⟦<RegisterResponseParts<A> as PartList<A>>⟧.rules) refl
+        ⟦<RegisterResponse<A> as PartialEq>⟧.eq (λ x y e. e) };
+
+    fn number() -> u32 {
+        0x42007C
     }
-}
 
-impl<A: Allocator + Copy> reader::ReadStructure<A> for RegisterResponse<A> {
-    ghost form = { register_response_form };
-
-    ghost value = { read_register_response };
-
-    ghost TAG = { 0x42007C };
-
-    ghost DENIES_UNKNOWN = { true };
-
-    type Fields = (
-        reader::Leaf<String<A>, 0x420094>,
-        reader::OptionalNested<TemplateAttribute<A>>,
-    );
-
-    const TAG: u32 = 0x42007C;
-
-    const DENIES_UNKNOWN: bool = true;
-
-    fn has_form() {}
-
-    #[tactic(auto, unfolding(crate::specs::ResponsePayloads::read_register_response))]
-    fn from_fields(fields: (String<A>, Option<TemplateAttribute<A>>)) -> Self {
-        let (unique_identifier, template_attribute) = fields;
-        RegisterResponse {
-            unique_identifier,
-            template_attribute,
+    fn read_nested<'b>(scope: &Scope<'b, A>, cursor: &mut Cursor<'b, A>) -> Step<Self, A> {
+        match read_parts::<RegisterResponseParts<A>, A>(scope, 0x42007C, true, cursor) {
+            Ok(parts) => {
+                let (unique_identifier, template_attribute) = parts;
+                Ok(RegisterResponse {
+                    unique_identifier,
+                    template_attribute,
+                })
+            }
+            Err(failure) => Err(failure),
         }
     }
-}
 
-impl<A: Allocator + Copy> reader::ReadNested<A> for RegisterResponse<A> {
-    ghost form = { register_response_form };
+    fn visit_parts<V: Visitor>(&self, visitor: &mut V) -> Result<(), AllocError> {
+        visit_structure_two::<
+            Leaf<String<A>, 0x420094>,
+            Maybe<Of<TemplateAttribute<A>>, 0x420091>,
+            V,
+            A,
+        >(
+            visitor,
+            0x42007C,
+            &self.unique_identifier,
+            &self.template_attribute,
+        )
+    }
 
-    ghost value = { read_register_response };
-
-    ghost TAG = { 0x42007C };
+    fn is_whole(&self) -> bool {
+        are_whole_two::<Leaf<String<A>, 0x420094>, Maybe<Of<TemplateAttribute<A>>, 0x420091>, A>(
+            &self.unique_identifier,
+            &self.template_attribute,
+        )
+    }
 
     ghost structured = { (refl, refl) };
-
-    const TAG: u32 = 0x42007C;
-
-    fn read_nested<'b>(
-        scope: &reader::Scope<'b, A>,
-        cursor: &mut reader::Cursor<'b, A>,
-    ) -> reader::Step<Self, A> {
-        reader::read_structure(scope, cursor)
-    }
 }
 
 /// Which objects were found (section 4.8).
@@ -263,62 +254,42 @@ impl<A: Allocator + Copy> reader::ReadNested<A> for RegisterResponse<A> {
 #[derive_where(PartialEq)]
 pub struct LocateResponse<A: Allocator = Global> {
     /// Their identifiers.
-    pub unique_identifiers: Vec<UniqueIdentifier<A>, A>,
+    pub unique_identifiers: Vec<String<A>, A>,
 }
 
-impl<B: Allocator> Serialize for LocateResponse<B> {
-    ghost stated = { written_locate_response };
+type LocateResponseParts<A> = Alone<Any<LeafItem<String<A>, 0x420094>, 0x420094>>;
 
-    #[tactic(auto, unfolding(crate::specs::ResponsePayloads::written_locate_response))]
-    fn visit<V: Visitor>(&self, visitor: &mut V) -> Result<(), AllocError> {
-        writing::begin_structure(visitor, 0x42007C)?;
-        writing::several(visitor, &self.unique_identifiers)?;
-        writing::end_structure(visitor, 0x42007C)?;
-        Ok(())
+impl<A: Allocator + Copy> Structure<A> for LocateResponse<A> {
+    ghost item = { structure 0x42007C true (of (λ x. x.unique_identifiers) ⟦<LocateResponseParts<A> as PartList<A>>⟧.rules) refl
+        ⟦<LocateResponse<A> as PartialEq>⟧.eq (λ x y e. e) };
+
+    fn number() -> u32 {
+        0x42007C
     }
-}
 
-impl<A: Allocator + Copy> reader::ReadStructure<A> for LocateResponse<A> {
-    ghost form = { locate_response_form };
-
-    ghost value = { read_locate_response };
-
-    ghost TAG = { 0x42007C };
-
-    ghost DENIES_UNKNOWN = { true };
-
-    type Fields = (reader::OptionalSeveralItems<UniqueIdentifier<A>, 0x420094>,);
-
-    const TAG: u32 = 0x42007C;
-
-    const DENIES_UNKNOWN: bool = true;
-
-    fn has_form() {}
-
-    #[tactic(auto, unfolding(crate::specs::ResponsePayloads::read_locate_response))]
-    fn from_fields(fields: (Vec<UniqueIdentifier<A>, A>,)) -> Self {
-        let (unique_identifiers,) = fields;
-        LocateResponse { unique_identifiers }
+    fn read_nested<'b>(scope: &Scope<'b, A>, cursor: &mut Cursor<'b, A>) -> Step<Self, A> {
+        match read_parts::<LocateResponseParts<A>, A>(scope, 0x42007C, true, cursor) {
+            Ok(parts) => {
+                let unique_identifiers = parts;
+                Ok(LocateResponse { unique_identifiers })
+            }
+            Err(failure) => Err(failure),
+        }
     }
-}
 
-impl<A: Allocator + Copy> reader::ReadNested<A> for LocateResponse<A> {
-    ghost form = { locate_response_form };
+    fn visit_parts<V: Visitor>(&self, visitor: &mut V) -> Result<(), AllocError> {
+        visit_structure_one::<Any<LeafItem<String<A>, 0x420094>, 0x420094>, V, A>(
+            visitor,
+            0x42007C,
+            &self.unique_identifiers,
+        )
+    }
 
-    ghost value = { read_locate_response };
-
-    ghost TAG = { 0x42007C };
+    fn is_whole(&self) -> bool {
+        are_whole_one::<Any<LeafItem<String<A>, 0x420094>, 0x420094>, A>(&self.unique_identifiers)
+    }
 
     ghost structured = { (refl, refl) };
-
-    const TAG: u32 = 0x42007C;
-
-    fn read_nested<'b>(
-        scope: &reader::Scope<'b, A>,
-        cursor: &mut reader::Cursor<'b, A>,
-    ) -> reader::Step<Self, A> {
-        reader::read_structure(scope, cursor)
-    }
 }
 
 /// An object (section 4.10).
@@ -389,115 +360,141 @@ impl<A: Allocator> GetResponse<A> {
             _ => None,
         }
     }
+
+    // Whether exactly one is there.
+    fn has_object(&self) -> bool
+        ensures { IsTrue result ↔ there self.now.certificate + (there self.now.symmetric_key + (there self.now.public_key + (there self.now.private_key + (there self.now.split_key + (there self.now.template + (there self.now.secret_data + there self.now.opaque_object)))))) ≡ 1 }
+    {
+        self.object().is_some()
+    }
 }
 
-impl<B: Allocator> Serialize for GetResponse<B> {
-    ghost stated = { written_get_response };
+type GetResponseParts<A> = Four<
+    One<ObjectType>,
+    Leaf<String<A>, 0x420094>,
+    Maybe<Of<Certificate<A>>, 0x420013>,
+    Maybe<Of<Boxed<SymmetricKey<A>, A>>, 0x42008F>,
+    Four<
+        Maybe<Of<Boxed<PublicKey<A>, A>>, 0x42006D>,
+        Maybe<Of<Boxed<PrivateKey<A>, A>>, 0x420064>,
+        Maybe<Of<Boxed<SplitKey<A>, A>>, 0x420089>,
+        Maybe<Of<Template<A>>, 0x420090>,
+        (
+            Maybe<Of<Boxed<SecretData<A>, A>>, 0x420085>,
+            Maybe<Of<OpaqueObject<A>>, 0x42005B>,
+        ),
+    >,
+>;
 
-    fn visit<V: Visitor>(&self, visitor: &mut V) -> Result<(), AllocError> {
+impl<A: Allocator + Copy> Structure<A> for GetResponse<A> {
+    ghost item = { structure_where 0x42007C true (of (λ x. (x.object_type, x.unique_identifier, x.certificate, x.symmetric_key, (x.public_key, x.private_key, x.split_key, x.template, (x.secret_data, x.opaque_object)))) ⟦<GetResponseParts<A> as PartList<A>>⟧.rules) refl
+        (λ x. (there x.certificate + (there x.symmetric_key + (there x.public_key + (there x.private_key + (there x.split_key + (there x.template + (there x.secret_data + there x.opaque_object)))))) ≡ 1)) (λ x d. (tt, (tt, (tt, (tt, (tt, (tt, (tt, (tt, (tt, (tt)))))))))))
+        ⟦<GetResponse<A> as PartialEq>⟧.eq (λ x y e. e) };
+
+    fn number() -> u32 {
+        0x42007C
+    }
+
+    fn read_nested<'b>(scope: &Scope<'b, A>, cursor: &mut Cursor<'b, A>) -> Step<Self, A> {
+        match read_parts::<GetResponseParts<A>, A>(scope, 0x42007C, true, cursor) {
+            Ok(parts) => {
+                let (object_type, unique_identifier, certificate, symmetric_key, others_6) = parts;
+                let (public_key, private_key, split_key, template, others) = others_6;
+                let (secret_data, opaque_object) = others;
+                Ok(GetResponse {
+                    object_type,
+                    unique_identifier,
+                    certificate,
+                    symmetric_key,
+                    public_key,
+                    private_key,
+                    split_key,
+                    template,
+                    secret_data,
+                    opaque_object,
+                })
+            }
+            Err(failure) => Err(failure),
+        }
+    }
+
+    fn visit_parts<V: Visitor>(&self, visitor: &mut V) -> Result<(), AllocError> {
         writing::begin_structure(visitor, 0x42007C)?;
-        self.object_type.visit(visitor)?;
-        writing::string(visitor, 0x420094, &self.unique_identifier)?;
-        writing::option(visitor, &self.certificate)?;
-        writing::option(visitor, &self.symmetric_key)?;
-        writing::option(visitor, &self.public_key)?;
-        writing::option(visitor, &self.private_key)?;
-        writing::option(visitor, &self.split_key)?;
-        writing::option(visitor, &self.template)?;
-        writing::option(visitor, &self.secret_data)?;
-        writing::option(visitor, &self.opaque_object)?;
+        visit_four::<
+            One<ObjectType>,
+            Leaf<String<A>, 0x420094>,
+            Maybe<Of<Certificate<A>>, 0x420013>,
+            Maybe<Of<Boxed<SymmetricKey<A>, A>>, 0x42008F>,
+            V,
+            A,
+        >(
+            visitor,
+            &self.object_type,
+            &self.unique_identifier,
+            &self.certificate,
+            &self.symmetric_key,
+        )?;
+        visit_four::<
+            Maybe<Of<Boxed<PublicKey<A>, A>>, 0x42006D>,
+            Maybe<Of<Boxed<PrivateKey<A>, A>>, 0x420064>,
+            Maybe<Of<Boxed<SplitKey<A>, A>>, 0x420089>,
+            Maybe<Of<Template<A>>, 0x420090>,
+            V,
+            A,
+        >(
+            visitor,
+            &self.public_key,
+            &self.private_key,
+            &self.split_key,
+            &self.template,
+        )?;
+        visit_two::<
+            Maybe<Of<Boxed<SecretData<A>, A>>, 0x420085>,
+            Maybe<Of<OpaqueObject<A>>, 0x42005B>,
+            V,
+            A,
+        >(visitor, &self.secret_data, &self.opaque_object)?;
         writing::end_structure(visitor, 0x42007C)?;
         Ok(())
     }
-}
 
-impl<A: Allocator + Copy> reader::ReadStructure<A> for GetResponse<A> {
-    ghost form = { get_response_form };
-
-    ghost value = { read_get_response };
-
-    ghost TAG = { 0x42007C };
-
-    ghost DENIES_UNKNOWN = { true };
-
-    type Fields = reader::Four<
-        reader::Item<ObjectType, 0x420057>,
-        reader::Leaf<String<A>, 0x420094>,
-        reader::OptionalNested<Certificate<A>>,
-        reader::OptionalNested<Boxed<SymmetricKey<A>, A>>,
-        reader::Four<
-            reader::OptionalNested<Boxed<PublicKey<A>, A>>,
-            reader::OptionalNested<Boxed<PrivateKey<A>, A>>,
-            reader::OptionalNested<Boxed<SplitKey<A>, A>>,
-            reader::OptionalNested<Template<A>>,
-            (
-                reader::OptionalNested<Boxed<SecretData<A>, A>>,
-                reader::OptionalNested<OpaqueObject<A>>,
-            ),
-        >,
-    >;
-
-    const TAG: u32 = 0x42007C;
-
-    const DENIES_UNKNOWN: bool = true;
-
-    fn has_form() {}
-
-    #[tactic(auto, unfolding(crate::specs::ResponsePayloads::read_get_response))]
-    fn from_fields(
-        fields: (
-            ObjectType,
-            String<A>,
-            Option<Certificate<A>>,
-            Option<Boxed<SymmetricKey<A>, A>>,
-            (
-                Option<Boxed<PublicKey<A>, A>>,
-                Option<Boxed<PrivateKey<A>, A>>,
-                Option<Boxed<SplitKey<A>, A>>,
-                Option<Template<A>>,
-                (Option<Boxed<SecretData<A>, A>>, Option<OpaqueObject<A>>),
-            ),
-        ),
-    ) -> Self {
-        let (
-            object_type,
-            unique_identifier,
-            certificate,
-            symmetric_key,
-            (public_key, private_key, split_key, template, (secret_data, opaque_object)),
-        ) = fields;
-        GetResponse {
-            object_type,
-            unique_identifier,
-            certificate,
-            symmetric_key,
-            public_key,
-            private_key,
-            split_key,
-            template,
-            secret_data,
-            opaque_object,
-        }
+    fn is_whole(&self) -> bool {
+        let first_four = are_whole_four::<
+            One<ObjectType>,
+            Leaf<String<A>, 0x420094>,
+            Maybe<Of<Certificate<A>>, 0x420013>,
+            Maybe<Of<Boxed<SymmetricKey<A>, A>>, 0x42008F>,
+            A,
+        >(
+            &self.object_type,
+            &self.unique_identifier,
+            &self.certificate,
+            &self.symmetric_key,
+        );
+        let next_four = are_whole_four::<
+            Maybe<Of<Boxed<PublicKey<A>, A>>, 0x42006D>,
+            Maybe<Of<Boxed<PrivateKey<A>, A>>, 0x420064>,
+            Maybe<Of<Boxed<SplitKey<A>, A>>, 0x420089>,
+            Maybe<Of<Template<A>>, 0x420090>,
+            A,
+        >(
+            &self.public_key,
+            &self.private_key,
+            &self.split_key,
+            &self.template,
+        );
+        let others = are_whole_two::<
+            Maybe<Of<Boxed<SecretData<A>, A>>, 0x420085>,
+            Maybe<Of<OpaqueObject<A>>, 0x42005B>,
+            A,
+        >(&self.secret_data, &self.opaque_object);
+        let others_1 = both(next_four, others);
+        let parts = both(first_four, others_1);
+        let chosen = self.has_object();
+        both(parts, chosen)
     }
-}
-
-impl<A: Allocator + Copy> reader::ReadNested<A> for GetResponse<A> {
-    ghost form = { get_response_form };
-
-    ghost value = { read_get_response };
-
-    ghost TAG = { 0x42007C };
 
     ghost structured = { (refl, refl) };
-
-    const TAG: u32 = 0x42007C;
-
-    fn read_nested<'b>(
-        scope: &reader::Scope<'b, A>,
-        cursor: &mut reader::Cursor<'b, A>,
-    ) -> reader::Step<Self, A> {
-        reader::read_structure(scope, cursor)
-    }
 }
 
 /// What is known of an object (section 4.11).
@@ -510,66 +507,46 @@ pub struct GetAttributesResponse<A: Allocator = Global> {
     pub attributes: Vec<Attribute<A>, A>,
 }
 
-impl<B: Allocator> Serialize for GetAttributesResponse<B> {
-    ghost stated = { written_get_attributes_response };
+type GetAttributesResponseParts<A> = (Leaf<String<A>, 0x420094>, Any<Of<Attribute<A>>, 0x420008>);
 
-    #[tactic(auto, unfolding(crate::specs::ResponsePayloads::written_get_attributes_response))]
-    fn visit<V: Visitor>(&self, visitor: &mut V) -> Result<(), AllocError> {
-        writing::begin_structure(visitor, 0x42007C)?;
-        writing::string(visitor, 0x420094, &self.unique_identifier)?;
-        writing::several(visitor, &self.attributes)?;
-        writing::end_structure(visitor, 0x42007C)?;
-        Ok(())
+impl<A: Allocator + Copy> Structure<A> for GetAttributesResponse<A> {
+    ghost item = { structure 0x42007C true (of (λ x. (x.unique_identifier, x.attributes)) ⟦<GetAttributesResponseParts<A> as PartList<A>>⟧.rules) refl
+        ⟦<GetAttributesResponse<A> as PartialEq>⟧.eq (λ x y e. e) };
+
+    fn number() -> u32 {
+        0x42007C
     }
-}
 
-impl<A: Allocator + Copy> reader::ReadStructure<A> for GetAttributesResponse<A> {
-    ghost form = { get_attributes_response_form };
-
-    ghost value = { read_get_attributes_response };
-
-    ghost TAG = { 0x42007C };
-
-    ghost DENIES_UNKNOWN = { true };
-
-    type Fields = (
-        reader::Leaf<String<A>, 0x420094>,
-        reader::OptionalSeveral<Attribute<A>>,
-    );
-
-    const TAG: u32 = 0x42007C;
-
-    const DENIES_UNKNOWN: bool = true;
-
-    fn has_form() {}
-
-    #[tactic(auto, unfolding(crate::specs::ResponsePayloads::read_get_attributes_response))]
-    fn from_fields(fields: (String<A>, Vec<Attribute<A>, A>)) -> Self {
-        let (unique_identifier, attributes) = fields;
-        GetAttributesResponse {
-            unique_identifier,
-            attributes,
+    fn read_nested<'b>(scope: &Scope<'b, A>, cursor: &mut Cursor<'b, A>) -> Step<Self, A> {
+        match read_parts::<GetAttributesResponseParts<A>, A>(scope, 0x42007C, true, cursor) {
+            Ok(parts) => {
+                let (unique_identifier, attributes) = parts;
+                Ok(GetAttributesResponse {
+                    unique_identifier,
+                    attributes,
+                })
+            }
+            Err(failure) => Err(failure),
         }
     }
-}
 
-impl<A: Allocator + Copy> reader::ReadNested<A> for GetAttributesResponse<A> {
-    ghost form = { get_attributes_response_form };
+    fn visit_parts<V: Visitor>(&self, visitor: &mut V) -> Result<(), AllocError> {
+        visit_structure_two::<Leaf<String<A>, 0x420094>, Any<Of<Attribute<A>>, 0x420008>, V, A>(
+            visitor,
+            0x42007C,
+            &self.unique_identifier,
+            &self.attributes,
+        )
+    }
 
-    ghost value = { read_get_attributes_response };
-
-    ghost TAG = { 0x42007C };
+    fn is_whole(&self) -> bool {
+        are_whole_two::<Leaf<String<A>, 0x420094>, Any<Of<Attribute<A>>, 0x420008>, A>(
+            &self.unique_identifier,
+            &self.attributes,
+        )
+    }
 
     ghost structured = { (refl, refl) };
-
-    const TAG: u32 = 0x42007C;
-
-    fn read_nested<'b>(
-        scope: &reader::Scope<'b, A>,
-        cursor: &mut reader::Cursor<'b, A>,
-    ) -> reader::Step<Self, A> {
-        reader::read_structure(scope, cursor)
-    }
 }
 
 /// The names of what is known of an object (section 4.12).
@@ -579,69 +556,57 @@ pub struct GetAttributeListResponse<A: Allocator = Global> {
     /// Its identifier.
     pub unique_identifier: String<A>,
     /// The names.
-    pub attribute_names: Vec<AttributeName<A>, A>,
+    pub attribute_names: Vec<String<A>, A>,
 }
 
-impl<B: Allocator> Serialize for GetAttributeListResponse<B> {
-    ghost stated = { written_get_attribute_list_response };
+type GetAttributeListResponseParts<A> = (
+    Leaf<String<A>, 0x420094>,
+    Any<LeafItem<String<A>, 0x42000A>, 0x42000A>,
+);
 
-    #[tactic(auto, unfolding(crate::specs::ResponsePayloads::written_get_attribute_list_response))]
-    fn visit<V: Visitor>(&self, visitor: &mut V) -> Result<(), AllocError> {
-        writing::begin_structure(visitor, 0x42007C)?;
-        writing::string(visitor, 0x420094, &self.unique_identifier)?;
-        writing::several(visitor, &self.attribute_names)?;
-        writing::end_structure(visitor, 0x42007C)?;
-        Ok(())
+impl<A: Allocator + Copy> Structure<A> for GetAttributeListResponse<A> {
+    ghost item = { structure 0x42007C true (of (λ x. (x.unique_identifier, x.attribute_names)) ⟦<GetAttributeListResponseParts<A> as PartList<A>>⟧.rules) refl
+        ⟦<GetAttributeListResponse<A> as PartialEq>⟧.eq (λ x y e. e) };
+
+    fn number() -> u32 {
+        0x42007C
     }
-}
 
-impl<A: Allocator + Copy> reader::ReadStructure<A> for GetAttributeListResponse<A> {
-    ghost form = { get_attribute_list_response_form };
-
-    ghost value = { read_get_attribute_list_response };
-
-    ghost TAG = { 0x42007C };
-
-    ghost DENIES_UNKNOWN = { true };
-
-    type Fields = (
-        reader::Leaf<String<A>, 0x420094>,
-        reader::OptionalSeveralItems<AttributeName<A>, 0x42000A>,
-    );
-
-    const TAG: u32 = 0x42007C;
-
-    const DENIES_UNKNOWN: bool = true;
-
-    fn has_form() {}
-
-    #[tactic(auto, unfolding(crate::specs::ResponsePayloads::read_get_attribute_list_response))]
-    fn from_fields(fields: (String<A>, Vec<AttributeName<A>, A>)) -> Self {
-        let (unique_identifier, attribute_names) = fields;
-        GetAttributeListResponse {
-            unique_identifier,
-            attribute_names,
+    fn read_nested<'b>(scope: &Scope<'b, A>, cursor: &mut Cursor<'b, A>) -> Step<Self, A> {
+        match read_parts::<GetAttributeListResponseParts<A>, A>(scope, 0x42007C, true, cursor) {
+            Ok(parts) => {
+                let (unique_identifier, attribute_names) = parts;
+                Ok(GetAttributeListResponse {
+                    unique_identifier,
+                    attribute_names,
+                })
+            }
+            Err(failure) => Err(failure),
         }
     }
-}
 
-impl<A: Allocator + Copy> reader::ReadNested<A> for GetAttributeListResponse<A> {
-    ghost form = { get_attribute_list_response_form };
+    fn visit_parts<V: Visitor>(&self, visitor: &mut V) -> Result<(), AllocError> {
+        visit_structure_two::<
+            Leaf<String<A>, 0x420094>,
+            Any<LeafItem<String<A>, 0x42000A>, 0x42000A>,
+            V,
+            A,
+        >(
+            visitor,
+            0x42007C,
+            &self.unique_identifier,
+            &self.attribute_names,
+        )
+    }
 
-    ghost value = { read_get_attribute_list_response };
-
-    ghost TAG = { 0x42007C };
+    fn is_whole(&self) -> bool {
+        are_whole_two::<Leaf<String<A>, 0x420094>, Any<LeafItem<String<A>, 0x42000A>, 0x42000A>, A>(
+            &self.unique_identifier,
+            &self.attribute_names,
+        )
+    }
 
     ghost structured = { (refl, refl) };
-
-    const TAG: u32 = 0x42007C;
-
-    fn read_nested<'b>(
-        scope: &reader::Scope<'b, A>,
-        cursor: &mut reader::Cursor<'b, A>,
-    ) -> reader::Step<Self, A> {
-        reader::read_structure(scope, cursor)
-    }
 }
 
 /// An attribute that was added, changed or deleted (sections 4.13 to 4.15).
@@ -654,66 +619,46 @@ pub struct AttributeResponse<A: Allocator = Global> {
     pub attribute: Attribute<A>,
 }
 
-impl<B: Allocator> Serialize for AttributeResponse<B> {
-    ghost stated = { written_attribute_response };
+type AttributeResponseParts<A> = (Leaf<String<A>, 0x420094>, One<Of<Attribute<A>>>);
 
-    #[tactic(auto, unfolding(crate::specs::ResponsePayloads::written_attribute_response))]
-    fn visit<V: Visitor>(&self, visitor: &mut V) -> Result<(), AllocError> {
-        writing::begin_structure(visitor, 0x42007C)?;
-        writing::string(visitor, 0x420094, &self.unique_identifier)?;
-        self.attribute.visit(visitor)?;
-        writing::end_structure(visitor, 0x42007C)?;
-        Ok(())
+impl<A: Allocator + Copy> Structure<A> for AttributeResponse<A> {
+    ghost item = { structure 0x42007C true (of (λ x. (x.unique_identifier, x.attribute)) ⟦<AttributeResponseParts<A> as PartList<A>>⟧.rules) refl
+        ⟦<AttributeResponse<A> as PartialEq>⟧.eq (λ x y e. e) };
+
+    fn number() -> u32 {
+        0x42007C
     }
-}
 
-impl<A: Allocator + Copy> reader::ReadStructure<A> for AttributeResponse<A> {
-    ghost form = { attribute_response_form };
-
-    ghost value = { read_attribute_response };
-
-    ghost TAG = { 0x42007C };
-
-    ghost DENIES_UNKNOWN = { true };
-
-    type Fields = (
-        reader::Leaf<String<A>, 0x420094>,
-        reader::Nested<Attribute<A>>,
-    );
-
-    const TAG: u32 = 0x42007C;
-
-    const DENIES_UNKNOWN: bool = true;
-
-    fn has_form() {}
-
-    #[tactic(auto, unfolding(crate::specs::ResponsePayloads::read_attribute_response))]
-    fn from_fields(fields: (String<A>, Attribute<A>)) -> Self {
-        let (unique_identifier, attribute) = fields;
-        AttributeResponse {
-            unique_identifier,
-            attribute,
+    fn read_nested<'b>(scope: &Scope<'b, A>, cursor: &mut Cursor<'b, A>) -> Step<Self, A> {
+        match read_parts::<AttributeResponseParts<A>, A>(scope, 0x42007C, true, cursor) {
+            Ok(parts) => {
+                let (unique_identifier, attribute) = parts;
+                Ok(AttributeResponse {
+                    unique_identifier,
+                    attribute,
+                })
+            }
+            Err(failure) => Err(failure),
         }
     }
-}
 
-impl<A: Allocator + Copy> reader::ReadNested<A> for AttributeResponse<A> {
-    ghost form = { attribute_response_form };
+    fn visit_parts<V: Visitor>(&self, visitor: &mut V) -> Result<(), AllocError> {
+        visit_structure_two::<Leaf<String<A>, 0x420094>, One<Of<Attribute<A>>>, V, A>(
+            visitor,
+            0x42007C,
+            &self.unique_identifier,
+            &self.attribute,
+        )
+    }
 
-    ghost value = { read_attribute_response };
-
-    ghost TAG = { 0x42007C };
+    fn is_whole(&self) -> bool {
+        are_whole_two::<Leaf<String<A>, 0x420094>, One<Of<Attribute<A>>>, A>(
+            &self.unique_identifier,
+            &self.attribute,
+        )
+    }
 
     ghost structured = { (refl, refl) };
-
-    const TAG: u32 = 0x42007C;
-
-    fn read_nested<'b>(
-        scope: &reader::Scope<'b, A>,
-        cursor: &mut reader::Cursor<'b, A>,
-    ) -> reader::Step<Self, A> {
-        reader::read_structure(scope, cursor)
-    }
 }
 
 /// Which object was activated, revoked or destroyed (sections 4.18 to 4.20).
@@ -724,91 +669,39 @@ pub struct ObjectResponse<A: Allocator = Global> {
     pub unique_identifier: String<A>,
 }
 
-impl<B: Allocator> Serialize for ObjectResponse<B> {
-    ghost stated = { object_response_value };
+type ObjectResponseParts<A> = Alone<Leaf<String<A>, 0x420094>>;
 
-    #[tactic(auto, unfolding(crate::specs::ResponsePayloads::object_response_value))]
-    fn visit<V: Visitor>(&self, visitor: &mut V) -> Result<(), AllocError> {
-        writing::begin_structure(visitor, 0x42007C)?;
-        writing::string(visitor, 0x420094, &self.unique_identifier)?;
-        writing::end_structure(visitor, 0x42007C)?;
-        Ok(())
+impl<A: Allocator + Copy> Structure<A> for ObjectResponse<A> {
+    ghost item = { structure 0x42007C true (of (λ x. x.unique_identifier) ⟦<ObjectResponseParts<A> as PartList<A>>⟧.rules) refl
+        ⟦<ObjectResponse<A> as PartialEq>⟧.eq (λ x y e. e) };
+
+    fn number() -> u32 {
+        0x42007C
     }
-}
 
-impl<A: Allocator + Copy> reader::ReadStructure<A> for ObjectResponse<A> {
-    ghost form = { object_response_form };
-
-    ghost value = { object_response_value };
-
-    ghost TAG = { 0x42007C };
-
-    ghost DENIES_UNKNOWN = { true };
-
-    type Fields = (reader::Leaf<String<A>, 0x420094>,);
-
-    const TAG: u32 = 0x42007C;
-
-    const DENIES_UNKNOWN: bool = true;
-
-    fn has_form() {}
-
-    #[tactic(auto, unfolding(crate::specs::ResponsePayloads::object_response_value))]
-    fn from_fields(fields: (String<A>,)) -> Self {
-        let (unique_identifier,) = fields;
-        ObjectResponse { unique_identifier }
+    fn read_nested<'b>(scope: &Scope<'b, A>, cursor: &mut Cursor<'b, A>) -> Step<Self, A> {
+        match read_parts::<ObjectResponseParts<A>, A>(scope, 0x42007C, true, cursor) {
+            Ok(parts) => {
+                let unique_identifier = parts;
+                Ok(ObjectResponse { unique_identifier })
+            }
+            Err(failure) => Err(failure),
+        }
     }
-}
 
-impl<A: Allocator + Copy> reader::ReadNested<A> for ObjectResponse<A> {
-    ghost form = { object_response_form };
+    fn visit_parts<V: Visitor>(&self, visitor: &mut V) -> Result<(), AllocError> {
+        visit_structure_one::<Leaf<String<A>, 0x420094>, V, A>(
+            visitor,
+            0x42007C,
+            &self.unique_identifier,
+        )
+    }
 
-    ghost value = { object_response_value };
-
-    ghost TAG = { 0x42007C };
+    fn is_whole(&self) -> bool {
+        are_whole_one::<Leaf<String<A>, 0x420094>, A>(&self.unique_identifier)
+    }
 
     ghost structured = { (refl, refl) };
-
-    const TAG: u32 = 0x42007C;
-
-    fn read_nested<'b>(
-        scope: &reader::Scope<'b, A>,
-        cursor: &mut reader::Cursor<'b, A>,
-    ) -> reader::Step<Self, A> {
-        reader::read_structure(scope, cursor)
-    }
-}
-
-/// A namespace that a server knows.
-#[derive(Drop)]
-#[derive_where(PartialEq)]
-pub struct ApplicationNamespace<A: Allocator = Global> {
-    /// What it holds.
-    pub text: String<A>,
-}
-
-impl<B: Allocator> Serialize for ApplicationNamespace<B> {
-    ghost stated = { application_namespace_value };
-
-    fn visit<V: Visitor>(&self, visitor: &mut V) -> Result<(), AllocError> {
-        writing::string(visitor, 0x420003, &self.text)
-    }
-}
-
-impl<A: Allocator + Copy> reader::ReadItem<A> for ApplicationNamespace<A> {
-    ghost form = { application_namespace_form };
-
-    ghost value = { application_namespace_value };
-
-    ghost plain = { (refl, refl) };
-
-    fn read_item<'b>(
-        scope: &reader::Scope<'b, A>,
-        cursor: &mut reader::Cursor<'b, A>,
-    ) -> reader::Step<Self, A> {
-        let text = cursor.wrapped_leaf(scope, 0x420003)?;
-        Ok(ApplicationNamespace { text })
-    }
 }
 
 /// What a server can do: of each only what was asked for (section 4.24).
@@ -822,81 +715,74 @@ pub struct QueryResponse<A: Allocator = Global> {
     /// Who made it.
     pub vendor_identification: Option<String<A>>,
     /// The namespaces that it knows.
-    pub application_namespaces: Vec<ApplicationNamespace<A>, A>,
+    pub application_namespaces: Vec<String<A>, A>,
 }
 
-impl<B: Allocator> Serialize for QueryResponse<B> {
-    ghost stated = { written_query_response };
+type QueryResponseParts<A> = (
+    Any<Operation, 0x42005C>,
+    Any<ObjectType, 0x420057>,
+    MaybeLeaf<String<A>, 0x42009D>,
+    Any<LeafItem<String<A>, 0x420003>, 0x420003>,
+);
 
-    fn visit<V: Visitor>(&self, visitor: &mut V) -> Result<(), AllocError> {
-        writing::begin_structure(visitor, 0x42007C)?;
-        writing::several(visitor, &self.operations)?;
-        writing::several(visitor, &self.object_types)?;
-        writing::optional_text_string(visitor, 0x42009D, &self.vendor_identification)?;
-        writing::several(visitor, &self.application_namespaces)?;
-        writing::end_structure(visitor, 0x42007C)?;
-        Ok(())
+impl<A: Allocator + Copy> Structure<A> for QueryResponse<A> {
+    ghost item = { structure 0x42007C true (of (λ x. (x.operations, x.object_types, x.vendor_identification, x.application_namespaces)) ⟦<QueryResponseParts<A> as PartList<A>>⟧.rules) refl
+        ⟦<QueryResponse<A> as PartialEq>⟧.eq (λ x y e. e) };
+
+    fn number() -> u32 {
+        0x42007C
     }
-}
 
-impl<A: Allocator + Copy> reader::ReadStructure<A> for QueryResponse<A> {
-    ghost form = { query_response_form };
-
-    ghost value = { read_query_response };
-
-    ghost TAG = { 0x42007C };
-
-    ghost DENIES_UNKNOWN = { true };
-
-    type Fields = (
-        reader::OptionalSeveralItems<Operation, 0x42005C>,
-        reader::OptionalSeveralItems<ObjectType, 0x420057>,
-        reader::OptionalLeaf<String<A>, 0x42009D>,
-        reader::OptionalSeveralItems<ApplicationNamespace<A>, 0x420003>,
-    );
-
-    const TAG: u32 = 0x42007C;
-
-    const DENIES_UNKNOWN: bool = true;
-
-    fn has_form() {}
-
-    #[tactic(auto, unfolding(crate::specs::ResponsePayloads::read_query_response))]
-    fn from_fields(
-        fields: (
-            Vec<Operation, A>,
-            Vec<ObjectType, A>,
-            Option<String<A>>,
-            Vec<ApplicationNamespace<A>, A>,
-        ),
-    ) -> Self {
-        let (operations, object_types, vendor_identification, application_namespaces) = fields;
-        QueryResponse {
-            operations,
-            object_types,
-            vendor_identification,
-            application_namespaces,
+    fn read_nested<'b>(scope: &Scope<'b, A>, cursor: &mut Cursor<'b, A>) -> Step<Self, A> {
+        match read_parts::<QueryResponseParts<A>, A>(scope, 0x42007C, true, cursor) {
+            Ok(parts) => {
+                let (operations, object_types, vendor_identification, application_namespaces) =
+                    parts;
+                Ok(QueryResponse {
+                    operations,
+                    object_types,
+                    vendor_identification,
+                    application_namespaces,
+                })
+            }
+            Err(failure) => Err(failure),
         }
     }
-}
 
-impl<A: Allocator + Copy> reader::ReadNested<A> for QueryResponse<A> {
-    ghost form = { query_response_form };
+    fn visit_parts<V: Visitor>(&self, visitor: &mut V) -> Result<(), AllocError> {
+        visit_structure_four::<
+            Any<Operation, 0x42005C>,
+            Any<ObjectType, 0x420057>,
+            MaybeLeaf<String<A>, 0x42009D>,
+            Any<LeafItem<String<A>, 0x420003>, 0x420003>,
+            V,
+            A,
+        >(
+            visitor,
+            0x42007C,
+            &self.operations,
+            &self.object_types,
+            &self.vendor_identification,
+            &self.application_namespaces,
+        )
+    }
 
-    ghost value = { read_query_response };
-
-    ghost TAG = { 0x42007C };
+    fn is_whole(&self) -> bool {
+        are_whole_four::<
+            Any<Operation, 0x42005C>,
+            Any<ObjectType, 0x420057>,
+            MaybeLeaf<String<A>, 0x42009D>,
+            Any<LeafItem<String<A>, 0x420003>, 0x420003>,
+            A,
+        >(
+            &self.operations,
+            &self.object_types,
+            &self.vendor_identification,
+            &self.application_namespaces,
+        )
+    }
 
     ghost structured = { (refl, refl) };
-
-    const TAG: u32 = 0x42007C;
-
-    fn read_nested<'b>(
-        scope: &reader::Scope<'b, A>,
-        cursor: &mut reader::Cursor<'b, A>,
-    ) -> reader::Step<Self, A> {
-        reader::read_structure(scope, cursor)
-    }
 }
 
 /// Which versions a server has (KMIP 1.1, section 4.26).
@@ -907,59 +793,39 @@ pub struct DiscoverVersionsResponse<A: Allocator = Global> {
     pub versions: Vec<ProtocolVersion, A>,
 }
 
-impl<B: Allocator> Serialize for DiscoverVersionsResponse<B> {
-    ghost stated = { written_discover_versions_response };
+type DiscoverVersionsResponseParts = Alone<Any<Of<ProtocolVersion>, 0x420069>>;
 
-    #[tactic(auto, unfolding(crate::specs::ResponsePayloads::written_discover_versions_response))]
-    fn visit<V: Visitor>(&self, visitor: &mut V) -> Result<(), AllocError> {
-        writing::begin_structure(visitor, 0x42007C)?;
-        writing::several(visitor, &self.versions)?;
-        writing::end_structure(visitor, 0x42007C)?;
-        Ok(())
+impl<A: Allocator + Copy> Structure<A> for DiscoverVersionsResponse<A> {
+    ghost item = { structure 0x42007C true (of (λ x. x.versions) ⟦<DiscoverVersionsResponseParts as PartList<A>>⟧.rules) refl
+        ⟦<DiscoverVersionsResponse<A> as PartialEq>⟧.eq (λ x y e. e) };
+
+    fn number() -> u32 {
+        0x42007C
     }
-}
 
-impl<A: Allocator + Copy> reader::ReadStructure<A> for DiscoverVersionsResponse<A> {
-    ghost form = { discover_versions_response_form };
-
-    ghost value = { read_discover_versions_response };
-
-    ghost TAG = { 0x42007C };
-
-    ghost DENIES_UNKNOWN = { true };
-
-    type Fields = (reader::OptionalSeveral<ProtocolVersion>,);
-
-    const TAG: u32 = 0x42007C;
-
-    const DENIES_UNKNOWN: bool = true;
-
-    fn has_form() {}
-
-    #[tactic(auto, unfolding(crate::specs::ResponsePayloads::read_discover_versions_response))]
-    fn from_fields(fields: (Vec<ProtocolVersion, A>,)) -> Self {
-        let (versions,) = fields;
-        DiscoverVersionsResponse { versions }
+    fn read_nested<'b>(scope: &Scope<'b, A>, cursor: &mut Cursor<'b, A>) -> Step<Self, A> {
+        match read_parts::<DiscoverVersionsResponseParts, A>(scope, 0x42007C, true, cursor) {
+            Ok(parts) => {
+                let versions = parts;
+                Ok(DiscoverVersionsResponse { versions })
+            }
+            Err(failure) => Err(failure),
+        }
     }
-}
 
-impl<A: Allocator + Copy> reader::ReadNested<A> for DiscoverVersionsResponse<A> {
-    ghost form = { discover_versions_response_form };
+    fn visit_parts<V: Visitor>(&self, visitor: &mut V) -> Result<(), AllocError> {
+        visit_structure_one::<Any<Of<ProtocolVersion>, 0x420069>, V, A>(
+            visitor,
+            0x42007C,
+            &self.versions,
+        )
+    }
 
-    ghost value = { read_discover_versions_response };
-
-    ghost TAG = { 0x42007C };
+    fn is_whole(&self) -> bool {
+        are_whole_one::<Any<Of<ProtocolVersion>, 0x420069>, A>(&self.versions)
+    }
 
     ghost structured = { (refl, refl) };
-
-    const TAG: u32 = 0x42007C;
-
-    fn read_nested<'b>(
-        scope: &reader::Scope<'b, A>,
-        cursor: &mut reader::Cursor<'b, A>,
-    ) -> reader::Step<Self, A> {
-        reader::read_structure(scope, cursor)
-    }
 }
 
 /// What was done.
@@ -1046,35 +912,132 @@ impl<A: Allocator> ResponsePayload<A> {
     }
 }
 
-impl<B: Allocator> Serialize for ResponsePayload<B> {
-    ghost stated = { written_response_payload };
+impl<A: Allocator + Copy> Choice<A> for ResponsePayload<A> {
+    ghost chosen = { response_payload_choice ⟦<ResponsePayload<A> as PartialEq>⟧.eq record {
+      create = held ⟦<Of<CreateResponse<A>> as Element<A>>⟧.rules refl refl (λ x y e. e);
+      create_key_pair = held ⟦<Of<CreateKeyPairResponse<A>> as Element<A>>⟧.rules refl refl (λ x y e. e);
+      register = held ⟦<Of<RegisterResponse<A>> as Element<A>>⟧.rules refl refl (λ x y e. e);
+      locate = held ⟦<Of<LocateResponse<A>> as Element<A>>⟧.rules refl refl (λ x y e. e);
+      get = held ⟦<Of<GetResponse<A>> as Element<A>>⟧.rules refl refl (λ x y e. e);
+      get_attributes = held ⟦<Of<GetAttributesResponse<A>> as Element<A>>⟧.rules refl refl (λ x y e. e);
+      get_attribute_list = held ⟦<Of<GetAttributeListResponse<A>> as Element<A>>⟧.rules refl refl (λ x y e. e);
+      add_attribute = held ⟦<Of<AttributeResponse<A>> as Element<A>>⟧.rules refl refl (λ x y e. e);
+      modify_attribute = held ⟦<Of<AttributeResponse<A>> as Element<A>>⟧.rules refl refl (λ x y e. e);
+      delete_attribute = held ⟦<Of<AttributeResponse<A>> as Element<A>>⟧.rules refl refl (λ x y e. e);
+      activate = held ⟦<Of<ObjectResponse<A>> as Element<A>>⟧.rules refl refl (λ x y e. e);
+      revoke = held ⟦<Of<ObjectResponse<A>> as Element<A>>⟧.rules refl refl (λ x y e. e);
+      destroy = held ⟦<Of<ObjectResponse<A>> as Element<A>>⟧.rules refl refl (λ x y e. e);
+      query = held ⟦<Of<QueryResponse<A>> as Element<A>>⟧.rules refl refl (λ x y e. e);
+      discover_versions = held ⟦<Of<DiscoverVersionsResponse<A>> as Element<A>>⟧.rules refl refl (λ x y e. e);
+    } };
 
-    #[tactic(auto, unfolding(crate::specs::ResponsePayloads::written_response_payload))]
-    fn visit<V: Visitor>(&self, visitor: &mut V) -> Result<(), AllocError> {
+    fn read_chosen<'b>(scope: &Scope<'b, A>, cursor: &mut Cursor<'b, A>) -> Step<Self, A> {
+        reader::read_choice(scope, cursor)
+    }
+
+    fn visit_chosen<V: Visitor>(&self, visitor: &mut V) -> Result<(), AllocError> {
         match self {
-            ResponsePayload::Create(inner) => inner.visit(visitor),
-            ResponsePayload::CreateKeyPair(inner) => inner.visit(visitor),
-            ResponsePayload::Register(inner) => inner.visit(visitor),
-            ResponsePayload::Locate(inner) => inner.visit(visitor),
-            ResponsePayload::Get(inner) => inner.visit(visitor),
-            ResponsePayload::GetAttributes(inner) => inner.visit(visitor),
-            ResponsePayload::GetAttributeList(inner) => inner.visit(visitor),
-            ResponsePayload::AddAttribute(inner) => inner.visit(visitor),
-            ResponsePayload::ModifyAttribute(inner) => inner.visit(visitor),
-            ResponsePayload::DeleteAttribute(inner) => inner.visit(visitor),
-            ResponsePayload::Activate(inner) => inner.visit(visitor),
-            ResponsePayload::Revoke(inner) => inner.visit(visitor),
-            ResponsePayload::Destroy(inner) => inner.visit(visitor),
-            ResponsePayload::Query(inner) => inner.visit(visitor),
-            ResponsePayload::DiscoverVersions(inner) => inner.visit(visitor),
+            ResponsePayload::Create(inner) => <Of<CreateResponse<A>> as Element<A>>::visit_one(
+                inner, visitor,
+            ),
+            ResponsePayload::CreateKeyPair(inner) => <Of<CreateKeyPairResponse<A>> as Element<
+                A,
+            >>::visit_one(inner, visitor),
+            ResponsePayload::Register(inner) => <Of<RegisterResponse<A>> as Element<A>>::visit_one(
+                inner, visitor,
+            ),
+            ResponsePayload::Locate(inner) => <Of<LocateResponse<A>> as Element<A>>::visit_one(
+                inner, visitor,
+            ),
+            ResponsePayload::Get(inner) => <Of<GetResponse<A>> as Element<A>>::visit_one(
+                inner, visitor,
+            ),
+            ResponsePayload::GetAttributes(inner) => <Of<GetAttributesResponse<A>> as Element<
+                A,
+            >>::visit_one(inner, visitor),
+            ResponsePayload::GetAttributeList(inner) => <Of<GetAttributeListResponse<A>> as Element<
+                A,
+            >>::visit_one(inner, visitor),
+            ResponsePayload::AddAttribute(inner) => <Of<AttributeResponse<A>> as Element<
+                A,
+            >>::visit_one(inner, visitor),
+            ResponsePayload::ModifyAttribute(inner) => <Of<AttributeResponse<A>> as Element<
+                A,
+            >>::visit_one(inner, visitor),
+            ResponsePayload::DeleteAttribute(inner) => <Of<AttributeResponse<A>> as Element<
+                A,
+            >>::visit_one(inner, visitor),
+            ResponsePayload::Activate(inner) => <Of<ObjectResponse<A>> as Element<A>>::visit_one(
+                inner, visitor,
+            ),
+            ResponsePayload::Revoke(inner) => <Of<ObjectResponse<A>> as Element<A>>::visit_one(
+                inner, visitor,
+            ),
+            ResponsePayload::Destroy(inner) => <Of<ObjectResponse<A>> as Element<A>>::visit_one(
+                inner, visitor,
+            ),
+            ResponsePayload::Query(inner) => <Of<QueryResponse<A>> as Element<A>>::visit_one(
+                inner, visitor,
+            ),
+            ResponsePayload::DiscoverVersions(inner) => <Of<DiscoverVersionsResponse<A>> as Element<
+                A,
+            >>::visit_one(inner, visitor),
         }
     }
+
+    fn is_whole(&self) -> bool {
+        match self {
+            ResponsePayload::Create(inner) => <Of<CreateResponse<A>> as Element<A>>::is_whole(
+                inner,
+            ),
+            ResponsePayload::CreateKeyPair(inner) => <Of<CreateKeyPairResponse<A>> as Element<
+                A,
+            >>::is_whole(inner),
+            ResponsePayload::Register(inner) => <Of<RegisterResponse<A>> as Element<A>>::is_whole(
+                inner,
+            ),
+            ResponsePayload::Locate(inner) => <Of<LocateResponse<A>> as Element<A>>::is_whole(
+                inner,
+            ),
+            ResponsePayload::Get(inner) => <Of<GetResponse<A>> as Element<A>>::is_whole(inner),
+            ResponsePayload::GetAttributes(inner) => <Of<GetAttributesResponse<A>> as Element<
+                A,
+            >>::is_whole(inner),
+            ResponsePayload::GetAttributeList(inner) => <Of<GetAttributeListResponse<A>> as Element<
+                A,
+            >>::is_whole(inner),
+            ResponsePayload::AddAttribute(inner) => <Of<AttributeResponse<A>> as Element<
+                A,
+            >>::is_whole(inner),
+            ResponsePayload::ModifyAttribute(inner) => <Of<AttributeResponse<A>> as Element<
+                A,
+            >>::is_whole(inner),
+            ResponsePayload::DeleteAttribute(inner) => <Of<AttributeResponse<A>> as Element<
+                A,
+            >>::is_whole(inner),
+            ResponsePayload::Activate(inner) => <Of<ObjectResponse<A>> as Element<A>>::is_whole(
+                inner,
+            ),
+            ResponsePayload::Revoke(inner) => <Of<ObjectResponse<A>> as Element<A>>::is_whole(
+                inner,
+            ),
+            ResponsePayload::Destroy(inner) => <Of<ObjectResponse<A>> as Element<A>>::is_whole(
+                inner,
+            ),
+            ResponsePayload::Query(inner) => <Of<QueryResponse<A>> as Element<A>>::is_whole(inner),
+            ResponsePayload::DiscoverVersions(inner) => <Of<DiscoverVersionsResponse<A>> as Element<
+                A,
+            >>::is_whole(inner),
+        }
+    }
+
+    ghost plain = { (refl, refl) };
 }
 
 /// The rule that chooses `ResponsePayload::Create`.
 pub struct ResponsePayloadCreateRule;
 
-impl reader::Rule for ResponsePayloadCreateRule {
+impl Rule for ResponsePayloadCreateRule {
     ghost condition = { codes "0x42005C==0x00000001" };
 
     fn name() -> &'static str {
@@ -1082,20 +1045,17 @@ impl reader::Rule for ResponsePayloadCreateRule {
     }
 
     #[tactic(auto, unfolding(kmip_ttlv_reader::specs::RuleParts::parts_of))]
-    fn parts() -> Option<reader::RuleParts> {
-        Some(reader::RuleParts::Texts {
+    fn parts() -> Option<RuleParts> {
+        Some(RuleParts::Texts {
             tag: 0x42005C,
             texts: &["0x00000001"],
         })
     }
 }
 
-impl<A: Allocator + Copy> reader::VariantOf<
-    reader::StructureElement<CreateResponse<A>>,
-    ResponsePayload<A>,
-    A,
-> for ResponsePayloadCreateRule {
-    #[tactic(auto, unfolding(crate::specs::ResponsePayloads::read_response_payload))]
+impl<A: Allocator + Copy> VariantOf<AsElement<Of<CreateResponse<A>>>, ResponsePayload<A>, A>
+    for ResponsePayloadCreateRule {
+    #[tactic(auto, unfolding(crate::specs::Choices::response_payload_by))]
     fn from_content(inner: CreateResponse<A>) -> ResponsePayload<A> {
         ResponsePayload::Create(inner)
     }
@@ -1104,7 +1064,7 @@ impl<A: Allocator + Copy> reader::VariantOf<
 /// The rule that chooses `ResponsePayload::CreateKeyPair`.
 pub struct ResponsePayloadCreateKeyPairRule;
 
-impl reader::Rule for ResponsePayloadCreateKeyPairRule {
+impl Rule for ResponsePayloadCreateKeyPairRule {
     ghost condition = { codes "0x42005C==0x00000002" };
 
     fn name() -> &'static str {
@@ -1112,20 +1072,17 @@ impl reader::Rule for ResponsePayloadCreateKeyPairRule {
     }
 
     #[tactic(auto, unfolding(kmip_ttlv_reader::specs::RuleParts::parts_of))]
-    fn parts() -> Option<reader::RuleParts> {
-        Some(reader::RuleParts::Texts {
+    fn parts() -> Option<RuleParts> {
+        Some(RuleParts::Texts {
             tag: 0x42005C,
             texts: &["0x00000002"],
         })
     }
 }
 
-impl<A: Allocator + Copy> reader::VariantOf<
-    reader::StructureElement<CreateKeyPairResponse<A>>,
-    ResponsePayload<A>,
-    A,
-> for ResponsePayloadCreateKeyPairRule {
-    #[tactic(auto, unfolding(crate::specs::ResponsePayloads::read_response_payload))]
+impl<A: Allocator + Copy> VariantOf<AsElement<Of<CreateKeyPairResponse<A>>>, ResponsePayload<A>, A>
+    for ResponsePayloadCreateKeyPairRule {
+    #[tactic(auto, unfolding(crate::specs::Choices::response_payload_by))]
     fn from_content(inner: CreateKeyPairResponse<A>) -> ResponsePayload<A> {
         ResponsePayload::CreateKeyPair(inner)
     }
@@ -1134,7 +1091,7 @@ impl<A: Allocator + Copy> reader::VariantOf<
 /// The rule that chooses `ResponsePayload::Register`.
 pub struct ResponsePayloadRegisterRule;
 
-impl reader::Rule for ResponsePayloadRegisterRule {
+impl Rule for ResponsePayloadRegisterRule {
     ghost condition = { codes "0x42005C==0x00000003" };
 
     fn name() -> &'static str {
@@ -1142,20 +1099,17 @@ impl reader::Rule for ResponsePayloadRegisterRule {
     }
 
     #[tactic(auto, unfolding(kmip_ttlv_reader::specs::RuleParts::parts_of))]
-    fn parts() -> Option<reader::RuleParts> {
-        Some(reader::RuleParts::Texts {
+    fn parts() -> Option<RuleParts> {
+        Some(RuleParts::Texts {
             tag: 0x42005C,
             texts: &["0x00000003"],
         })
     }
 }
 
-impl<A: Allocator + Copy> reader::VariantOf<
-    reader::StructureElement<RegisterResponse<A>>,
-    ResponsePayload<A>,
-    A,
-> for ResponsePayloadRegisterRule {
-    #[tactic(auto, unfolding(crate::specs::ResponsePayloads::read_response_payload))]
+impl<A: Allocator + Copy> VariantOf<AsElement<Of<RegisterResponse<A>>>, ResponsePayload<A>, A>
+    for ResponsePayloadRegisterRule {
+    #[tactic(auto, unfolding(crate::specs::Choices::response_payload_by))]
     fn from_content(inner: RegisterResponse<A>) -> ResponsePayload<A> {
         ResponsePayload::Register(inner)
     }
@@ -1164,7 +1118,7 @@ impl<A: Allocator + Copy> reader::VariantOf<
 /// The rule that chooses `ResponsePayload::Locate`.
 pub struct ResponsePayloadLocateRule;
 
-impl reader::Rule for ResponsePayloadLocateRule {
+impl Rule for ResponsePayloadLocateRule {
     ghost condition = { codes "0x42005C==0x00000008" };
 
     fn name() -> &'static str {
@@ -1172,20 +1126,17 @@ impl reader::Rule for ResponsePayloadLocateRule {
     }
 
     #[tactic(auto, unfolding(kmip_ttlv_reader::specs::RuleParts::parts_of))]
-    fn parts() -> Option<reader::RuleParts> {
-        Some(reader::RuleParts::Texts {
+    fn parts() -> Option<RuleParts> {
+        Some(RuleParts::Texts {
             tag: 0x42005C,
             texts: &["0x00000008"],
         })
     }
 }
 
-impl<A: Allocator + Copy> reader::VariantOf<
-    reader::StructureElement<LocateResponse<A>>,
-    ResponsePayload<A>,
-    A,
-> for ResponsePayloadLocateRule {
-    #[tactic(auto, unfolding(crate::specs::ResponsePayloads::read_response_payload))]
+impl<A: Allocator + Copy> VariantOf<AsElement<Of<LocateResponse<A>>>, ResponsePayload<A>, A>
+    for ResponsePayloadLocateRule {
+    #[tactic(auto, unfolding(crate::specs::Choices::response_payload_by))]
     fn from_content(inner: LocateResponse<A>) -> ResponsePayload<A> {
         ResponsePayload::Locate(inner)
     }
@@ -1194,7 +1145,7 @@ impl<A: Allocator + Copy> reader::VariantOf<
 /// The rule that chooses `ResponsePayload::Get`.
 pub struct ResponsePayloadGetRule;
 
-impl reader::Rule for ResponsePayloadGetRule {
+impl Rule for ResponsePayloadGetRule {
     ghost condition = { codes "0x42005C==0x0000000A" };
 
     fn name() -> &'static str {
@@ -1202,20 +1153,17 @@ impl reader::Rule for ResponsePayloadGetRule {
     }
 
     #[tactic(auto, unfolding(kmip_ttlv_reader::specs::RuleParts::parts_of))]
-    fn parts() -> Option<reader::RuleParts> {
-        Some(reader::RuleParts::Texts {
+    fn parts() -> Option<RuleParts> {
+        Some(RuleParts::Texts {
             tag: 0x42005C,
             texts: &["0x0000000A"],
         })
     }
 }
 
-impl<A: Allocator + Copy> reader::VariantOf<
-    reader::StructureElement<GetResponse<A>>,
-    ResponsePayload<A>,
-    A,
-> for ResponsePayloadGetRule {
-    #[tactic(auto, unfolding(crate::specs::ResponsePayloads::read_response_payload))]
+impl<A: Allocator + Copy> VariantOf<AsElement<Of<GetResponse<A>>>, ResponsePayload<A>, A>
+    for ResponsePayloadGetRule {
+    #[tactic(auto, unfolding(crate::specs::Choices::response_payload_by))]
     fn from_content(inner: GetResponse<A>) -> ResponsePayload<A> {
         ResponsePayload::Get(inner)
     }
@@ -1224,7 +1172,7 @@ impl<A: Allocator + Copy> reader::VariantOf<
 /// The rule that chooses `ResponsePayload::GetAttributes`.
 pub struct ResponsePayloadGetAttributesRule;
 
-impl reader::Rule for ResponsePayloadGetAttributesRule {
+impl Rule for ResponsePayloadGetAttributesRule {
     ghost condition = { codes "0x42005C==0x0000000B" };
 
     fn name() -> &'static str {
@@ -1232,20 +1180,17 @@ impl reader::Rule for ResponsePayloadGetAttributesRule {
     }
 
     #[tactic(auto, unfolding(kmip_ttlv_reader::specs::RuleParts::parts_of))]
-    fn parts() -> Option<reader::RuleParts> {
-        Some(reader::RuleParts::Texts {
+    fn parts() -> Option<RuleParts> {
+        Some(RuleParts::Texts {
             tag: 0x42005C,
             texts: &["0x0000000B"],
         })
     }
 }
 
-impl<A: Allocator + Copy> reader::VariantOf<
-    reader::StructureElement<GetAttributesResponse<A>>,
-    ResponsePayload<A>,
-    A,
-> for ResponsePayloadGetAttributesRule {
-    #[tactic(auto, unfolding(crate::specs::ResponsePayloads::read_response_payload))]
+impl<A: Allocator + Copy> VariantOf<AsElement<Of<GetAttributesResponse<A>>>, ResponsePayload<A>, A>
+    for ResponsePayloadGetAttributesRule {
+    #[tactic(auto, unfolding(crate::specs::Choices::response_payload_by))]
     fn from_content(inner: GetAttributesResponse<A>) -> ResponsePayload<A> {
         ResponsePayload::GetAttributes(inner)
     }
@@ -1254,7 +1199,7 @@ impl<A: Allocator + Copy> reader::VariantOf<
 /// The rule that chooses `ResponsePayload::GetAttributeList`.
 pub struct ResponsePayloadGetAttributeListRule;
 
-impl reader::Rule for ResponsePayloadGetAttributeListRule {
+impl Rule for ResponsePayloadGetAttributeListRule {
     ghost condition = { codes "0x42005C==0x0000000C" };
 
     fn name() -> &'static str {
@@ -1262,20 +1207,20 @@ impl reader::Rule for ResponsePayloadGetAttributeListRule {
     }
 
     #[tactic(auto, unfolding(kmip_ttlv_reader::specs::RuleParts::parts_of))]
-    fn parts() -> Option<reader::RuleParts> {
-        Some(reader::RuleParts::Texts {
+    fn parts() -> Option<RuleParts> {
+        Some(RuleParts::Texts {
             tag: 0x42005C,
             texts: &["0x0000000C"],
         })
     }
 }
 
-impl<A: Allocator + Copy> reader::VariantOf<
-    reader::StructureElement<GetAttributeListResponse<A>>,
+impl<A: Allocator + Copy> VariantOf<
+    AsElement<Of<GetAttributeListResponse<A>>>,
     ResponsePayload<A>,
     A,
 > for ResponsePayloadGetAttributeListRule {
-    #[tactic(auto, unfolding(crate::specs::ResponsePayloads::read_response_payload))]
+    #[tactic(auto, unfolding(crate::specs::Choices::response_payload_by))]
     fn from_content(inner: GetAttributeListResponse<A>) -> ResponsePayload<A> {
         ResponsePayload::GetAttributeList(inner)
     }
@@ -1284,7 +1229,7 @@ impl<A: Allocator + Copy> reader::VariantOf<
 /// The rule that chooses `ResponsePayload::AddAttribute`.
 pub struct ResponsePayloadAddAttributeRule;
 
-impl reader::Rule for ResponsePayloadAddAttributeRule {
+impl Rule for ResponsePayloadAddAttributeRule {
     ghost condition = { codes "0x42005C==0x0000000D" };
 
     fn name() -> &'static str {
@@ -1292,20 +1237,17 @@ impl reader::Rule for ResponsePayloadAddAttributeRule {
     }
 
     #[tactic(auto, unfolding(kmip_ttlv_reader::specs::RuleParts::parts_of))]
-    fn parts() -> Option<reader::RuleParts> {
-        Some(reader::RuleParts::Texts {
+    fn parts() -> Option<RuleParts> {
+        Some(RuleParts::Texts {
             tag: 0x42005C,
             texts: &["0x0000000D"],
         })
     }
 }
 
-impl<A: Allocator + Copy> reader::VariantOf<
-    reader::StructureElement<AttributeResponse<A>>,
-    ResponsePayload<A>,
-    A,
-> for ResponsePayloadAddAttributeRule {
-    #[tactic(auto, unfolding(crate::specs::ResponsePayloads::read_response_payload))]
+impl<A: Allocator + Copy> VariantOf<AsElement<Of<AttributeResponse<A>>>, ResponsePayload<A>, A>
+    for ResponsePayloadAddAttributeRule {
+    #[tactic(auto, unfolding(crate::specs::Choices::response_payload_by))]
     fn from_content(inner: AttributeResponse<A>) -> ResponsePayload<A> {
         ResponsePayload::AddAttribute(inner)
     }
@@ -1314,7 +1256,7 @@ impl<A: Allocator + Copy> reader::VariantOf<
 /// The rule that chooses `ResponsePayload::ModifyAttribute`.
 pub struct ResponsePayloadModifyAttributeRule;
 
-impl reader::Rule for ResponsePayloadModifyAttributeRule {
+impl Rule for ResponsePayloadModifyAttributeRule {
     ghost condition = { codes "0x42005C==0x0000000E" };
 
     fn name() -> &'static str {
@@ -1322,20 +1264,17 @@ impl reader::Rule for ResponsePayloadModifyAttributeRule {
     }
 
     #[tactic(auto, unfolding(kmip_ttlv_reader::specs::RuleParts::parts_of))]
-    fn parts() -> Option<reader::RuleParts> {
-        Some(reader::RuleParts::Texts {
+    fn parts() -> Option<RuleParts> {
+        Some(RuleParts::Texts {
             tag: 0x42005C,
             texts: &["0x0000000E"],
         })
     }
 }
 
-impl<A: Allocator + Copy> reader::VariantOf<
-    reader::StructureElement<AttributeResponse<A>>,
-    ResponsePayload<A>,
-    A,
-> for ResponsePayloadModifyAttributeRule {
-    #[tactic(auto, unfolding(crate::specs::ResponsePayloads::read_response_payload))]
+impl<A: Allocator + Copy> VariantOf<AsElement<Of<AttributeResponse<A>>>, ResponsePayload<A>, A>
+    for ResponsePayloadModifyAttributeRule {
+    #[tactic(auto, unfolding(crate::specs::Choices::response_payload_by))]
     fn from_content(inner: AttributeResponse<A>) -> ResponsePayload<A> {
         ResponsePayload::ModifyAttribute(inner)
     }
@@ -1344,7 +1283,7 @@ impl<A: Allocator + Copy> reader::VariantOf<
 /// The rule that chooses `ResponsePayload::DeleteAttribute`.
 pub struct ResponsePayloadDeleteAttributeRule;
 
-impl reader::Rule for ResponsePayloadDeleteAttributeRule {
+impl Rule for ResponsePayloadDeleteAttributeRule {
     ghost condition = { codes "0x42005C==0x0000000F" };
 
     fn name() -> &'static str {
@@ -1352,20 +1291,17 @@ impl reader::Rule for ResponsePayloadDeleteAttributeRule {
     }
 
     #[tactic(auto, unfolding(kmip_ttlv_reader::specs::RuleParts::parts_of))]
-    fn parts() -> Option<reader::RuleParts> {
-        Some(reader::RuleParts::Texts {
+    fn parts() -> Option<RuleParts> {
+        Some(RuleParts::Texts {
             tag: 0x42005C,
             texts: &["0x0000000F"],
         })
     }
 }
 
-impl<A: Allocator + Copy> reader::VariantOf<
-    reader::StructureElement<AttributeResponse<A>>,
-    ResponsePayload<A>,
-    A,
-> for ResponsePayloadDeleteAttributeRule {
-    #[tactic(auto, unfolding(crate::specs::ResponsePayloads::read_response_payload))]
+impl<A: Allocator + Copy> VariantOf<AsElement<Of<AttributeResponse<A>>>, ResponsePayload<A>, A>
+    for ResponsePayloadDeleteAttributeRule {
+    #[tactic(auto, unfolding(crate::specs::Choices::response_payload_by))]
     fn from_content(inner: AttributeResponse<A>) -> ResponsePayload<A> {
         ResponsePayload::DeleteAttribute(inner)
     }
@@ -1374,7 +1310,7 @@ impl<A: Allocator + Copy> reader::VariantOf<
 /// The rule that chooses `ResponsePayload::Activate`.
 pub struct ResponsePayloadActivateRule;
 
-impl reader::Rule for ResponsePayloadActivateRule {
+impl Rule for ResponsePayloadActivateRule {
     ghost condition = { codes "0x42005C==0x00000012" };
 
     fn name() -> &'static str {
@@ -1382,20 +1318,17 @@ impl reader::Rule for ResponsePayloadActivateRule {
     }
 
     #[tactic(auto, unfolding(kmip_ttlv_reader::specs::RuleParts::parts_of))]
-    fn parts() -> Option<reader::RuleParts> {
-        Some(reader::RuleParts::Texts {
+    fn parts() -> Option<RuleParts> {
+        Some(RuleParts::Texts {
             tag: 0x42005C,
             texts: &["0x00000012"],
         })
     }
 }
 
-impl<A: Allocator + Copy> reader::VariantOf<
-    reader::StructureElement<ObjectResponse<A>>,
-    ResponsePayload<A>,
-    A,
-> for ResponsePayloadActivateRule {
-    #[tactic(auto, unfolding(crate::specs::ResponsePayloads::read_response_payload))]
+impl<A: Allocator + Copy> VariantOf<AsElement<Of<ObjectResponse<A>>>, ResponsePayload<A>, A>
+    for ResponsePayloadActivateRule {
+    #[tactic(auto, unfolding(crate::specs::Choices::response_payload_by))]
     fn from_content(inner: ObjectResponse<A>) -> ResponsePayload<A> {
         ResponsePayload::Activate(inner)
     }
@@ -1404,7 +1337,7 @@ impl<A: Allocator + Copy> reader::VariantOf<
 /// The rule that chooses `ResponsePayload::Revoke`.
 pub struct ResponsePayloadRevokeRule;
 
-impl reader::Rule for ResponsePayloadRevokeRule {
+impl Rule for ResponsePayloadRevokeRule {
     ghost condition = { codes "0x42005C==0x00000013" };
 
     fn name() -> &'static str {
@@ -1412,20 +1345,17 @@ impl reader::Rule for ResponsePayloadRevokeRule {
     }
 
     #[tactic(auto, unfolding(kmip_ttlv_reader::specs::RuleParts::parts_of))]
-    fn parts() -> Option<reader::RuleParts> {
-        Some(reader::RuleParts::Texts {
+    fn parts() -> Option<RuleParts> {
+        Some(RuleParts::Texts {
             tag: 0x42005C,
             texts: &["0x00000013"],
         })
     }
 }
 
-impl<A: Allocator + Copy> reader::VariantOf<
-    reader::StructureElement<ObjectResponse<A>>,
-    ResponsePayload<A>,
-    A,
-> for ResponsePayloadRevokeRule {
-    #[tactic(auto, unfolding(crate::specs::ResponsePayloads::read_response_payload))]
+impl<A: Allocator + Copy> VariantOf<AsElement<Of<ObjectResponse<A>>>, ResponsePayload<A>, A>
+    for ResponsePayloadRevokeRule {
+    #[tactic(auto, unfolding(crate::specs::Choices::response_payload_by))]
     fn from_content(inner: ObjectResponse<A>) -> ResponsePayload<A> {
         ResponsePayload::Revoke(inner)
     }
@@ -1434,7 +1364,7 @@ impl<A: Allocator + Copy> reader::VariantOf<
 /// The rule that chooses `ResponsePayload::Destroy`.
 pub struct ResponsePayloadDestroyRule;
 
-impl reader::Rule for ResponsePayloadDestroyRule {
+impl Rule for ResponsePayloadDestroyRule {
     ghost condition = { codes "0x42005C==0x00000014" };
 
     fn name() -> &'static str {
@@ -1442,20 +1372,17 @@ impl reader::Rule for ResponsePayloadDestroyRule {
     }
 
     #[tactic(auto, unfolding(kmip_ttlv_reader::specs::RuleParts::parts_of))]
-    fn parts() -> Option<reader::RuleParts> {
-        Some(reader::RuleParts::Texts {
+    fn parts() -> Option<RuleParts> {
+        Some(RuleParts::Texts {
             tag: 0x42005C,
             texts: &["0x00000014"],
         })
     }
 }
 
-impl<A: Allocator + Copy> reader::VariantOf<
-    reader::StructureElement<ObjectResponse<A>>,
-    ResponsePayload<A>,
-    A,
-> for ResponsePayloadDestroyRule {
-    #[tactic(auto, unfolding(crate::specs::ResponsePayloads::read_response_payload))]
+impl<A: Allocator + Copy> VariantOf<AsElement<Of<ObjectResponse<A>>>, ResponsePayload<A>, A>
+    for ResponsePayloadDestroyRule {
+    #[tactic(auto, unfolding(crate::specs::Choices::response_payload_by))]
     fn from_content(inner: ObjectResponse<A>) -> ResponsePayload<A> {
         ResponsePayload::Destroy(inner)
     }
@@ -1464,7 +1391,7 @@ impl<A: Allocator + Copy> reader::VariantOf<
 /// The rule that chooses `ResponsePayload::Query`.
 pub struct ResponsePayloadQueryRule;
 
-impl reader::Rule for ResponsePayloadQueryRule {
+impl Rule for ResponsePayloadQueryRule {
     ghost condition = { codes "0x42005C==0x00000018" };
 
     fn name() -> &'static str {
@@ -1472,20 +1399,17 @@ impl reader::Rule for ResponsePayloadQueryRule {
     }
 
     #[tactic(auto, unfolding(kmip_ttlv_reader::specs::RuleParts::parts_of))]
-    fn parts() -> Option<reader::RuleParts> {
-        Some(reader::RuleParts::Texts {
+    fn parts() -> Option<RuleParts> {
+        Some(RuleParts::Texts {
             tag: 0x42005C,
             texts: &["0x00000018"],
         })
     }
 }
 
-impl<A: Allocator + Copy> reader::VariantOf<
-    reader::StructureElement<QueryResponse<A>>,
-    ResponsePayload<A>,
-    A,
-> for ResponsePayloadQueryRule {
-    #[tactic(auto, unfolding(crate::specs::ResponsePayloads::read_response_payload))]
+impl<A: Allocator + Copy> VariantOf<AsElement<Of<QueryResponse<A>>>, ResponsePayload<A>, A>
+    for ResponsePayloadQueryRule {
+    #[tactic(auto, unfolding(crate::specs::Choices::response_payload_by))]
     fn from_content(inner: QueryResponse<A>) -> ResponsePayload<A> {
         ResponsePayload::Query(inner)
     }
@@ -1494,7 +1418,7 @@ impl<A: Allocator + Copy> reader::VariantOf<
 /// The rule that chooses `ResponsePayload::DiscoverVersions`.
 pub struct ResponsePayloadDiscoverVersionsRule;
 
-impl reader::Rule for ResponsePayloadDiscoverVersionsRule {
+impl Rule for ResponsePayloadDiscoverVersionsRule {
     ghost condition = { codes "0x42005C==0x0000001E" };
 
     fn name() -> &'static str {
@@ -1502,20 +1426,20 @@ impl reader::Rule for ResponsePayloadDiscoverVersionsRule {
     }
 
     #[tactic(auto, unfolding(kmip_ttlv_reader::specs::RuleParts::parts_of))]
-    fn parts() -> Option<reader::RuleParts> {
-        Some(reader::RuleParts::Texts {
+    fn parts() -> Option<RuleParts> {
+        Some(RuleParts::Texts {
             tag: 0x42005C,
             texts: &["0x0000001E"],
         })
     }
 }
 
-impl<A: Allocator + Copy> reader::VariantOf<
-    reader::StructureElement<DiscoverVersionsResponse<A>>,
+impl<A: Allocator + Copy> VariantOf<
+    AsElement<Of<DiscoverVersionsResponse<A>>>,
     ResponsePayload<A>,
     A,
 > for ResponsePayloadDiscoverVersionsRule {
-    #[tactic(auto, unfolding(crate::specs::ResponsePayloads::read_response_payload))]
+    #[tactic(auto, unfolding(crate::specs::Choices::response_payload_by))]
     fn from_content(inner: DiscoverVersionsResponse<A>) -> ResponsePayload<A> {
         ResponsePayload::DiscoverVersions(inner)
     }
@@ -1524,36 +1448,33 @@ impl<A: Allocator + Copy> reader::VariantOf<
 /// The variants of `ResponsePayload` from `Get` on.
 pub struct ResponsePayloadLater4;
 
-impl<A: Allocator + Copy> reader::VariantList<ResponsePayload<A>, A> for ResponsePayloadLater4 {
-    ghost variants = { response_payload_variants_4 };
+impl<A: Allocator + Copy> VariantList<ResponsePayload<A>, A> for ResponsePayloadLater4 {
+    ghost variants = { ⟦<(Variant<ResponsePayloadGetRule, AsElement<Of<GetResponse<A>>>>, (Variant<ResponsePayloadGetAttributesRule, AsElement<Of<GetAttributesResponse<A>>>>, (Variant<ResponsePayloadGetAttributeListRule, AsElement<Of<GetAttributeListResponse<A>>>>, (Variant<ResponsePayloadAddAttributeRule, AsElement<Of<AttributeResponse<A>>>>, ResponsePayloadLater8)))) as VariantList<ResponsePayload<A>, A>>⟧.variants };
 
     fn read_chosen<'b>(
-        scope: &reader::Scope<'b, A>,
-        cursor: &mut reader::Cursor<'b, A>,
+        scope: &Scope<'b, A>,
+        cursor: &mut Cursor<'b, A>,
         typ: TtlvType,
-    ) -> reader::Step<Option<ResponsePayload<A>>, A> {
+    ) -> Step<Option<ResponsePayload<A>>, A> {
         <(
-            reader::Variant<ResponsePayloadGetRule, reader::StructureElement<GetResponse<A>>>,
+            Variant<ResponsePayloadGetRule, AsElement<Of<GetResponse<A>>>>,
             (
-                reader::Variant<
-                    ResponsePayloadGetAttributesRule,
-                    reader::StructureElement<GetAttributesResponse<A>>,
-                >,
+                Variant<ResponsePayloadGetAttributesRule, AsElement<Of<GetAttributesResponse<A>>>>,
                 (
-                    reader::Variant<
+                    Variant<
                         ResponsePayloadGetAttributeListRule,
-                        reader::StructureElement<GetAttributeListResponse<A>>,
+                        AsElement<Of<GetAttributeListResponse<A>>>,
                     >,
                     (
-                        reader::Variant<
+                        Variant<
                             ResponsePayloadAddAttributeRule,
-                            reader::StructureElement<AttributeResponse<A>>,
+                            AsElement<Of<AttributeResponse<A>>>,
                         >,
                         ResponsePayloadLater8,
                     ),
                 ),
             ),
-        ) as reader::VariantList<ResponsePayload<A>, A>>::read_chosen(scope, cursor, typ)
+        ) as VariantList<ResponsePayload<A>, A>>::read_chosen(scope, cursor, typ)
     }
 
     ghost ruled = { λ content. refl };
@@ -1562,39 +1483,27 @@ impl<A: Allocator + Copy> reader::VariantList<ResponsePayload<A>, A> for Respons
 /// The variants of `ResponsePayload` from `ModifyAttribute` on.
 pub struct ResponsePayloadLater8;
 
-impl<A: Allocator + Copy> reader::VariantList<ResponsePayload<A>, A> for ResponsePayloadLater8 {
-    ghost variants = { response_payload_variants_8 };
+impl<A: Allocator + Copy> VariantList<ResponsePayload<A>, A> for ResponsePayloadLater8 {
+    ghost variants = { ⟦<(Variant<ResponsePayloadModifyAttributeRule, AsElement<Of<AttributeResponse<A>>>>, (Variant<ResponsePayloadDeleteAttributeRule, AsElement<Of<AttributeResponse<A>>>>, (Variant<ResponsePayloadActivateRule, AsElement<Of<ObjectResponse<A>>>>, (Variant<ResponsePayloadRevokeRule, AsElement<Of<ObjectResponse<A>>>>, ResponsePayloadLater12)))) as VariantList<ResponsePayload<A>, A>>⟧.variants };
 
     fn read_chosen<'b>(
-        scope: &reader::Scope<'b, A>,
-        cursor: &mut reader::Cursor<'b, A>,
+        scope: &Scope<'b, A>,
+        cursor: &mut Cursor<'b, A>,
         typ: TtlvType,
-    ) -> reader::Step<Option<ResponsePayload<A>>, A> {
+    ) -> Step<Option<ResponsePayload<A>>, A> {
         <(
-            reader::Variant<
-                ResponsePayloadModifyAttributeRule,
-                reader::StructureElement<AttributeResponse<A>>,
-            >,
+            Variant<ResponsePayloadModifyAttributeRule, AsElement<Of<AttributeResponse<A>>>>,
             (
-                reader::Variant<
-                    ResponsePayloadDeleteAttributeRule,
-                    reader::StructureElement<AttributeResponse<A>>,
-                >,
+                Variant<ResponsePayloadDeleteAttributeRule, AsElement<Of<AttributeResponse<A>>>>,
                 (
-                    reader::Variant<
-                        ResponsePayloadActivateRule,
-                        reader::StructureElement<ObjectResponse<A>>,
-                    >,
+                    Variant<ResponsePayloadActivateRule, AsElement<Of<ObjectResponse<A>>>>,
                     (
-                        reader::Variant<
-                            ResponsePayloadRevokeRule,
-                            reader::StructureElement<ObjectResponse<A>>,
-                        >,
+                        Variant<ResponsePayloadRevokeRule, AsElement<Of<ObjectResponse<A>>>>,
                         ResponsePayloadLater12,
                     ),
                 ),
             ),
-        ) as reader::VariantList<ResponsePayload<A>, A>>::read_chosen(scope, cursor, typ)
+        ) as VariantList<ResponsePayload<A>, A>>::read_chosen(scope, cursor, typ)
     }
 
     ghost ruled = { λ content. refl };
@@ -1603,64 +1512,49 @@ impl<A: Allocator + Copy> reader::VariantList<ResponsePayload<A>, A> for Respons
 /// The variants of `ResponsePayload` from `Destroy` on.
 pub struct ResponsePayloadLater12;
 
-impl<A: Allocator + Copy> reader::VariantList<ResponsePayload<A>, A> for ResponsePayloadLater12 {
-    ghost variants = { response_payload_variants_12 };
+impl<A: Allocator + Copy> VariantList<ResponsePayload<A>, A> for ResponsePayloadLater12 {
+    ghost variants = { ⟦<(Variant<ResponsePayloadDestroyRule, AsElement<Of<ObjectResponse<A>>>>, (Variant<ResponsePayloadQueryRule, AsElement<Of<QueryResponse<A>>>>, (Variant<ResponsePayloadDiscoverVersionsRule, AsElement<Of<DiscoverVersionsResponse<A>>>>, ()))) as VariantList<ResponsePayload<A>, A>>⟧.variants };
 
     fn read_chosen<'b>(
-        scope: &reader::Scope<'b, A>,
-        cursor: &mut reader::Cursor<'b, A>,
+        scope: &Scope<'b, A>,
+        cursor: &mut Cursor<'b, A>,
         typ: TtlvType,
-    ) -> reader::Step<Option<ResponsePayload<A>>, A> {
+    ) -> Step<Option<ResponsePayload<A>>, A> {
         <(
-            reader::Variant<
-                ResponsePayloadDestroyRule,
-                reader::StructureElement<ObjectResponse<A>>,
-            >,
+            Variant<ResponsePayloadDestroyRule, AsElement<Of<ObjectResponse<A>>>>,
             (
-                reader::Variant<
-                    ResponsePayloadQueryRule,
-                    reader::StructureElement<QueryResponse<A>>,
-                >,
+                Variant<ResponsePayloadQueryRule, AsElement<Of<QueryResponse<A>>>>,
                 (
-                    reader::Variant<
+                    Variant<
                         ResponsePayloadDiscoverVersionsRule,
-                        reader::StructureElement<DiscoverVersionsResponse<A>>,
+                        AsElement<Of<DiscoverVersionsResponse<A>>>,
                     >,
                     (),
                 ),
             ),
-        ) as reader::VariantList<ResponsePayload<A>, A>>::read_chosen(scope, cursor, typ)
+        ) as VariantList<ResponsePayload<A>, A>>::read_chosen(scope, cursor, typ)
     }
 
     ghost ruled = { λ content. refl };
 }
 
-impl<A: Allocator> reader::ChoiceValue for ResponsePayload<A> {
+impl<A: Allocator + Copy> ChoiceValue for ResponsePayload<A> {
     ghost own = { codes "payload" };
 
-    ghost value = { read_response_payload };
+    ghost value = { ⟦<ResponsePayload<A> as Choice<A>>⟧.chosen.value };
 }
 
 impl<A: Allocator + Copy> reader::Choice<A> for ResponsePayload<A> {
-    ghost form = { response_payload_form };
+    ghost form = { ⟦<ResponsePayload<A> as Choice<A>>⟧.chosen.form };
 
     type Variants = (
-        reader::Variant<ResponsePayloadCreateRule, reader::StructureElement<CreateResponse<A>>>,
+        Variant<ResponsePayloadCreateRule, AsElement<Of<CreateResponse<A>>>>,
         (
-            reader::Variant<
-                ResponsePayloadCreateKeyPairRule,
-                reader::StructureElement<CreateKeyPairResponse<A>>,
-            >,
+            Variant<ResponsePayloadCreateKeyPairRule, AsElement<Of<CreateKeyPairResponse<A>>>>,
             (
-                reader::Variant<
-                    ResponsePayloadRegisterRule,
-                    reader::StructureElement<RegisterResponse<A>>,
-                >,
+                Variant<ResponsePayloadRegisterRule, AsElement<Of<RegisterResponse<A>>>>,
                 (
-                    reader::Variant<
-                        ResponsePayloadLocateRule,
-                        reader::StructureElement<LocateResponse<A>>,
-                    >,
+                    Variant<ResponsePayloadLocateRule, AsElement<Of<LocateResponse<A>>>>,
                     ResponsePayloadLater4,
                 ),
             ),
@@ -1668,19 +1562,4 @@ impl<A: Allocator + Copy> reader::Choice<A> for ResponsePayload<A> {
     );
 
     fn has_form() {}
-}
-
-impl<A: Allocator + Copy> reader::ReadItem<A> for ResponsePayload<A> {
-    ghost form = { response_payload_form };
-
-    ghost value = { read_response_payload };
-
-    ghost plain = { (refl, refl) };
-
-    fn read_item<'b>(
-        scope: &reader::Scope<'b, A>,
-        cursor: &mut reader::Cursor<'b, A>,
-    ) -> reader::Step<Self, A> {
-        reader::read_choice(scope, cursor)
-    }
 }

@@ -1,2 +1,0 @@
--- Written by codegen from types.table: change that, and run codegen/codegen.
--- Forms and values of the types in `values`.
