@@ -6,6 +6,7 @@
 
 ghost use Rattle.std.specs.Prelude.{◌≡◌, IfOk, length};
 
+use kmip_messages::batch::Batch;
 use kmip_messages::header::{Operation, ProtocolVersion, ResponseHeader, operation};
 use kmip_messages::request::{Request, RequestItem};
 use kmip_messages::request_payload::RequestPayload;
@@ -13,6 +14,7 @@ use kmip_messages::response::{Response, ResponseItem, ResultReason, result_reaso
 use kmip_messages::response_payload::{DiscoverVersionsResponse, QueryResponse, ResponsePayload};
 use kmip_ttlv::error::{Error, ErrorKind};
 use kmip_ttlv::items::find_fault;
+use kmip_ttlv::reader::DateTime;
 use kmip_ttlv::{Config, PrettyPrinter, from_reader, to_writer};
 use std::alloc::{AllocError, Allocator};
 use std::io::{self, Read, Write};
@@ -92,7 +94,7 @@ fn response<A: Allocator + Copy>(items: Vec<ResponseItem<A>, A>) -> Response<A>
 {
     let header = ResponseHeader {
         version: VERSION,
-        time_stamp: 0,
+        time_stamp: DateTime(0),
         batch_count: i32::try_from(items.len()).unwrap_or(i32::MAX),
     };
     Response { header, items }

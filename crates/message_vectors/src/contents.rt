@@ -59,7 +59,7 @@ fn key_length(value: &KeyValue) -> usize {
         return 0;
     };
     match &value.key_material {
-        KeyMaterial::Bytes(key) => key.bytes.len(),
+        KeyMaterial::Bytes(key) => key.len(),
         _ => 0,
     }
 }
@@ -134,8 +134,8 @@ fn is_the_key(block: &KeyBlock) -> bool {
     let KeyMaterial::Bytes(key) = &value.key_material else {
         return false;
     };
-    matches!(&block.cryptographic_length, Some(length) if length.bits == 128)
-        && key.bytes.as_slice() == KEY.as_slice()
+    matches!(&block.cryptographic_length, Some(length) if *length == 128)
+        && key.as_slice() == KEY.as_slice()
 }
 
 // Whether a key is wrapped so, part by part.
