@@ -2,7 +2,6 @@
 
 import re
 
-LINE = 160
 CLAIM = "Written by codegen from types.table: change that, and run codegen/codegen."
 
 # What a leaf is in Rust, by its word in a table.
@@ -60,10 +59,6 @@ def snake(name):
     return re.sub(r"(?<!^)([A-Z])", r"_\1", name).lower()
 
 
-def camel(name):
-    return "".join(word.capitalize() for word in name.split("_"))
-
-
 def named(text, names):
     """Which of these names a text has, by their modules."""
     text = re.sub(r'"[^"]*"|^ *(--|//).*', "", text, flags=re.MULTILINE)
@@ -80,7 +75,7 @@ def pattern_of(word):
     return rf"(?<![\w.:$-]){re.escape(bare)}(?!\w)" if re.match(r"\w", bare) else rf"(?<=\s){re.escape(bare)}(?=\s)|\({re.escape(bare)}" if bare != "[]" else r"\[\]"
 
 
-def brackets(items, end=")"):
+def brackets(items):
     """Terms of definitions nested to the right: each but the last with a bracket behind it."""
     return "(" + ", (".join(items) + ")" * len(items)
 
