@@ -1,10 +1,11 @@
 //! What was written is read back: the laws of every structure, at KMIP's messages.
 
+ghost use Rattle.kmip_ttlv.specs.Equal.{AreEqual};
 ghost use Rattle.kmip_ttlv_kinds.specs.Laws.{AreEqualByValue, AreReadBack};
 
 use crate::request::Request;
 use crate::response::Response;
-use kmip_ttlv_kinds::{Structure, equal_structures, structures_are_read_back};
+use kmip_ttlv_kinds::{Choice, Structure, equal_structures, structures_are_read_back};
 use std::alloc::Allocator;
 
 /// The bytes of a sound `Request` begin with the value that it is read from and with no other, whatever stands behind them.
@@ -29,3 +30,8 @@ pub fn equal_values<A: Allocator + Copy>()
     equal_structures::<Request<A>, A>();
     equal_structures::<Response<A>, A>();
 }
+
+/// The same of each choice, as a payload or an attribute's value, by itself.
+pub fn equal_choices<C: Choice<A>, A: Allocator + Copy>()
+    ensures { AreEqual C.chosen.value C.chosen.rules.eq }
+{}
