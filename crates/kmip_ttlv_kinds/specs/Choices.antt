@@ -1,22 +1,37 @@
 -- Values that are one of several items of one tag, of which a rule chooses one: what is known of the choice, by what is known of each item.
-use Rattle.std.proofs.Common.{◌≡◌, ◌==◌, cond, subst, sym, ℕ, Bool as Boole, true, false, List, [], ◌∷◌, Option, Some, None, refl}
-use Rattle.std.specs.Option.{IsSomeAnd}
+use Rattle.std.proofs.Common.{◌≡◌, ◌==◌, ap, cond, option_map, subst, sym, ℕ, Bool as Boole, true, false, List, [], ◌∷◌, Option, Some, None, refl}
+use Rattle.std.specs.{Option.IsSomeAnd, Prelude.IfSome}
 use Rattle.std.proofs.lemmas.Bool.{eqb-true, false≢true}
 use Rattle.std.proofs.lemmas.Option.{none-some}
 use Rattle.kmip_ttlv_types.specs.declared.typ.TtlvType.{TtlvType}
 use Rattle.kmip_ttlv_base.specs.Forms.{Form, enum, wrapped, Variants}
-use Rattle.kmip_ttlv_base.specs.Values.{Value, newtype_variant_value}
+use Rattle.kmip_ttlv_base.specs.Values.{Value, newtype_variant_value, no_values, value}
 use Rattle.kmip_ttlv_reader.specs.{Rules.choice, Rules.chosen, TagValues.TagValue, TagValues.last as last_text}
 use Rattle.kmip_ttlv_parts.specs.Agreements.{Head, HasVariant, is_run}
 use Rattle.kmip_ttlv_parts.proofs.{Known.Finds, Known.Known, Known.said, MessageParts.PartAgrees, TagNumbers.IsTag}
 use Rattle.kmip_ttlv_parts.proofs.MessageRules.{PartAfter, chosen_after, chosen_by_type, chosen_twice}
-use Rattle.kmip_ttlv_kinds.specs.Parts.{ChoiceRules, ItemRules, KnownAgrees, NeedsNothing}
+use Rattle.kmip_ttlv_parts.specs.{Returns.text_of_number, declared.enumeration.Enumeration.Enumeration}
+use Rattle.kmip_ttlv_kinds.specs.Parts.{ChoiceRules, ItemRules, KnownAgrees, NeedsNothing, Told}
 
 -- all that is known of a type whose values a rule chooses
 pub record ChoiceOf (H : Type 0) : Type 1 where
   pub form : Form
   pub value : H → Value
   pub rules : ChoiceRules H form value
+
+-- what a variant means: what is written of it, the value that it is read as, and whether what it holds is sound
+pub record Meaning : Type 1 where
+  pub written : Value
+  pub value : Value
+  pub IsSound : Type 0
+
+-- what a walk is told of it
+abbrev pub told_meaning : Meaning → Told
+told_meaning m = record { written = value m.written no_values; IsSound = m.IsSound }
+
+-- what is told of one value is told of an equal one
+pub told_as : {H : Type 0} (by : H → Meaning) (P : Told → Type 0) {x y : H} → x ≡ y → P (told_meaning (by y)) → P (told_meaning (by x))
+told_as by P is told = subst (λ z. P (told_meaning (by z))) (sym is) told
 
 -- ---- what is held
 
@@ -86,12 +101,21 @@ choice_agrees {n = n} {decider = decider} {typ = typ} h is x sound text chooses 
     subst (λ t. KnownAgrees known h.form (h.rules.written x) record { tag = n; typ = t } (h.value x)) (h.typed x) (at_tag is) in
     record { stored = p.stored; agrees = λ k found. p.agrees k (finds_one decider text k found) }
 
+-- what a variant of this name means that holds such an item
+abbrev pub as_item : {K H : Type 0} {n : ℕ} {typ : TtlvType} {into : K → H} {eq : H → H → Boole} (own name : List ℕ) → Held n typ into eq → K → Meaning
+as_item own name h x = record { written = h.rules.written x; value = newtype_variant_value own name (h.value x); IsSound = h.rules.IsSound x }
+
+-- or such a choice
+abbrev pub as_choice : {K H : Type 0} {n decider : ℕ} {typ : TtlvType} {C : List ℕ → K → Type 0} {into : K → H} {eq : H → H → Boole} (own name : List ℕ)
+    → HeldChoice n decider typ C into eq → K → Meaning
+as_choice own name h x = record { written = h.rules.written x; value = newtype_variant_value own name (h.value x); IsSound = h.rules.IsSound x }
+
 -- ---- choices by the text of a tag
 
--- of a value that such texts choose: what is written of it, as an item of this type, is read as this value if what it holds is sound
-pub record Case (n decider : ℕ) (typ : TtlvType) (form : Form) (Chooses : List ℕ → Type 0) (written value : Value) (IsSound : Type 0) : Type 0 where
-  pub single : is_run value ≡ false
-  pub agrees : IsTag n → IsSound → (text : List ℕ) → Chooses text → PartAfter decider text form written record { tag = n; typ = typ } value
+-- of a value that such texts choose: what is written of it, as an item of this type, is read as its value if what it holds is sound
+pub record Case (n decider : ℕ) (typ : TtlvType) (form : Form) (Chooses : List ℕ → Type 0) (m : Meaning) : Type 0 where
+  pub single : is_run m.value ≡ false
+  pub agrees : IsTag n → m.IsSound → (text : List ℕ) → Chooses text → PartAfter decider text form m.written record { tag = n; typ = typ } m.value
 
 -- where such texts choose the variant of this index
 abbrev pub Picks : ℕ → Variants → TtlvType → ℕ → (List ℕ → Type 0) → Type 0
@@ -102,7 +126,7 @@ Picks decider vs typ index Chooses =
 pub case_of : {K H : Type 0} {n decider : ℕ} {typ : TtlvType} {into : K → H} {eq : H → H → Boole} {own name : List ℕ} {vs : Variants} {index : ℕ}
     {Chooses : List ℕ → Type 0} (h : Held n typ into eq) (x : K) → HasVariant vs index name (wrapped h.form)
     → Picks decider vs typ index Chooses
-    → Case n decider typ (enum own vs) Chooses (h.rules.written x) (newtype_variant_value own name (h.value x)) (h.rules.IsSound x)
+    → Case n decider typ (enum own vs) Chooses (as_item own name h x)
 case_of h x place picks = record {
   single = h.rules.single x;
   agrees = λ is sound text chooses. chosen_after place (picks text chooses) (held_agrees h is x sound);
@@ -112,38 +136,37 @@ case_of h x place picks = record {
 pub case_within : {K H : Type 0} {n decider : ℕ} {typ : TtlvType} {C : List ℕ → K → Type 0} {into : K → H} {eq : H → H → Boole} {own name : List ℕ}
     {vs : Variants} {index : ℕ} {Chooses : List ℕ → Type 0} (h : HeldChoice n decider typ C into eq) (x : K) → HasVariant vs index name (wrapped h.form)
     → Picks decider vs typ index Chooses
-    → Case n decider typ (enum own vs) (λ text. Chooses text × C text x) (h.rules.written x) (newtype_variant_value own name (h.value x)) (h.rules.IsSound x)
+    → Case n decider typ (enum own vs) (λ text. Chooses text × C text x) (as_choice own name h x)
 case_within h x place picks = record {
   single = h.rules.single x;
   agrees = λ is sound text chooses. chosen_twice place (picks text chooses.0) (choice_agrees h is x sound text chooses.1);
 }
 
-pub after_known : {n decider : ℕ} {typ : TtlvType} {s : Form} {C : List ℕ → Type 0} {w v : Value} {P : Type 0} (c : Case n decider typ s C w v P) (known : List Known)
+pub after_known : {n decider : ℕ} {typ : TtlvType} {s : Form} {C : List ℕ → Type 0} {m : Meaning} (c : Case n decider typ s C m) (known : List Known)
     (o : Option (List ℕ)) → said known decider ≡ o
     → IsTag n
-    → P
+    → m.IsSound
     → IsSomeAnd o C
-    → KnownAgrees known s w record { tag = n; typ = typ } v
+    → KnownAgrees known s m.written record { tag = n; typ = typ } m.value
 after_known c known None known_is is sound chooses = absurd chooses
 after_known {decider = decider} c known (Some text) known_is is sound chooses =
     let p = c.agrees is sound text chooses in
     record { stored = p.stored; agrees = λ k found. p.agrees k (found decider text known_is) }
 
 -- a choice by the text of a tag: where that is known, it chooses what is held
-abbrev pub choice_by : {H : Type 0} {typ : H → TtlvType} {C : List ℕ → H → Type 0} {s : Form} {written value : H → Value} {IsSound : H → Type 0}
-    (n decider : ℕ)
-    → ((x : H) → Case n decider (typ x) s (λ text. C text x) (written x) (value x) (IsSound x))
+abbrev pub choice_by : {H : Type 0} {typ : H → TtlvType} {C : List ℕ → H → Type 0} {s : Form} {m : H → Meaning} (n decider : ℕ)
+    → ((x : H) → Case n decider (typ x) s (λ text. C text x) (m x))
     → (eq : H → H → Boole)
-    → ((x y : H) → value x ≡ value y → eq x y ≡ true)
+    → ((x y : H) → (m x).value ≡ (m y).value → eq x y ≡ true)
     → ChoiceOf H
-choice_by {typ = typ} {C = C} {s = s} {written = written} {value = value} {IsSound = IsSound} n decider case eq same = record {
+choice_by {typ = typ} {C = C} {s = s} {m = m} n decider case eq same = record {
   form = s;
-  value = value;
+  value = λ x. (m x).value;
   rules = record {
     number = n;
     typ = typ;
-    written = written;
-    IsSound = IsSound;
+    written = λ x. (m x).written;
+    IsSound = λ x. (m x).IsSound;
     Needs = λ x known. IsSomeAnd (said known decider) (λ text. C text x);
     free = false;
     enough = λ free. absurd (false≢true free);
@@ -154,41 +177,48 @@ choice_by {typ = typ} {C = C} {s = s} {written = written} {value = value} {IsSou
   };
 }
 
+-- where an Enumeration has the number by which a value is chosen, so has its text
+pub numbered_where : {H : Type 0} {t : ℕ} (number : H → ℕ) (o : Option (Enumeration t)) (p : Option H) → IfSome p (λ y. IsSomeAnd o (λ z. z.number ≡ number y))
+    → IfSome p (λ y. IsSomeAnd (option_map (λ z. text_of_number z.number) o) (λ text. text ≡ text_of_number (number y)))
+numbered_where number o None chooses = tt
+numbered_where number None (Some y) chooses = absurd chooses
+numbered_where number (Some z) (Some y) chooses = ap text_of_number chooses
+
 -- ---- choices by the type of the item
 
--- of a value that is chosen by the type of its item: what is written of it is read as this value if what it holds is sound
-pub record TypedCase (n : ℕ) (typ : TtlvType) (form : Form) (written value : Value) (IsSound : Type 0) : Type 0 where
-  pub single : is_run value ≡ false
-  pub agrees : IsTag n → IsSound → PartAgrees form written record { tag = n; typ = typ } value
+-- of a value that is chosen by the type of its item: what is written of it is read as its value if what it holds is sound
+pub record TypedCase (n : ℕ) (typ : TtlvType) (form : Form) (m : Meaning) : Type 0 where
+  pub single : is_run m.value ≡ false
+  pub agrees : IsTag n → m.IsSound → PartAgrees form m.written record { tag = n; typ = typ } m.value
 
 -- one that holds an item
 pub typed_case : {K H : Type 0} {n : ℕ} {typ : TtlvType} {into : K → H} {eq : H → H → Boole} {own name : List ℕ} {vs : Variants} {index : ℕ}
     (h : Held n typ into eq) (x : K) → HasVariant vs index name (wrapped h.form)
     → ((k : List TagValue) → choice vs k typ ≡ chosen index)
-    → TypedCase n typ (enum own vs) (h.rules.written x) (newtype_variant_value own name (h.value x)) (h.rules.IsSound x)
+    → TypedCase n typ (enum own vs) (as_item own name h x)
 typed_case h x place picks = record {
   single = h.rules.single x;
   agrees = λ is sound. chosen_by_type place picks (held_agrees h is x sound);
 }
 
-pub typed_agrees : {n : ℕ} {typ : TtlvType} {s : Form} {w v : Value} {P : Type 0} → TypedCase n typ s w v P → IsTag n → P → (known : List Known)
-    → KnownAgrees known s w record { tag = n; typ = typ } v
+pub typed_agrees : {n : ℕ} {typ : TtlvType} {s : Form} {m : Meaning} → TypedCase n typ s m → IsTag n → m.IsSound → (known : List Known)
+    → KnownAgrees known s m.written record { tag = n; typ = typ } m.value
 typed_agrees case is sound known = let p = case.agrees is sound in record { stored = p.stored; agrees = λ k found. p.agrees k }
 
 -- a choice by the type of the item: nothing has to be known
-abbrev pub choice_by_type : {H : Type 0} {typ : H → TtlvType} {s : Form} {written value : H → Value} {IsSound : H → Type 0} (n : ℕ)
-    → ((x : H) → TypedCase n (typ x) s (written x) (value x) (IsSound x))
+abbrev pub choice_by_type : {H : Type 0} {typ : H → TtlvType} {s : Form} {m : H → Meaning} (n : ℕ)
+    → ((x : H) → TypedCase n (typ x) s (m x))
     → (eq : H → H → Boole)
-    → ((x y : H) → value x ≡ value y → eq x y ≡ true)
+    → ((x y : H) → (m x).value ≡ (m y).value → eq x y ≡ true)
     → ChoiceOf H
-choice_by_type {typ = typ} {s = s} {written = written} {value = value} {IsSound = IsSound} n case eq same = record {
+choice_by_type {typ = typ} {s = s} {m = m} n case eq same = record {
   form = s;
-  value = value;
+  value = λ x. (m x).value;
   rules = record {
     number = n;
     typ = typ;
-    written = written;
-    IsSound = IsSound;
+    written = λ x. (m x).written;
+    IsSound = λ x. (m x).IsSound;
     Needs = NeedsNothing;
     free = true;
     enough = λ free x known. tt;

@@ -1,4 +1,5 @@
 pub mod Choices
 pub mod Laws
 pub mod Leaves
+pub mod Listed
 pub mod Parts

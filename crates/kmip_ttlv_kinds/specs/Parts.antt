@@ -1,14 +1,15 @@
 -- What is known of an item, of a part of a structure and of a list of parts: what is written of it, what it is read as, which are sound, and
 -- that of a sound one what is written comes back. Each kind of part makes this of what is known of its element, and a list of its parts.
-use Rattle.std.proofs.Common.{◌≡◌, ◌==◌, ◌%◌, ◌^◌, ◌<◌, ◌∙◌, ap, refl, subst, ℕ, Bool as Boole, true, false, List, [], ◌∷◌, length, Option, Some, None, option_map}
-use Rattle.std.specs.Prelude.{◌&&◌, not, All, IfSome}
+use Rattle.std.proofs.Common.{◌≡◌, ◌==◌, ◌%◌, ◌^◌, ◌<◌, ◌∙◌, ap, refl, subst, sym, ℕ, Bool as Boole, true, false, List, [], ◌∷◌, length, Option, Some, None, option_map}
+use Rattle.std.specs.Prelude.{◌&&◌, not, All, IfSome, ◌↔◌, IsTrue}
 use Rattle.std.specs.{Option.option_eq, Cmp.Lexicographic.pointwise}
 use Rattle.std.proofs.lemmas.Bool.{and_parts, eqb-true, not-true}
 use Rattle.kmip_ttlv_types.specs.{declared.typ.TtlvType.TtlvType, Digits.tag_text}
 use Rattle.kmip_ttlv_types.specs.declared.typ.TtlvType.TheVariants as types
 use Rattle.kmip_ttlv_base.specs.Forms.{Form, option, seq, Fields, no_fields, field}
 use Rattle.kmip_ttlv_base.specs.Values.{Value, seq_value, some_value, Values, no_values, value}
-use Rattle.kmip_ttlv_base.specs.Visits.{joined, optional_field}
+use Rattle.kmip_ttlv_base.specs.Visits.{joined, optional_field, Event, ReceivesEach, visited_in}
+use Rattle.kmip_ttlv_base.proofs.Visiting.{visited_joined}
 use Rattle.kmip_ttlv_reader.specs.TagValues.{TagValue}
 use Rattle.kmip_ttlv_reader.specs.Spots.{optional_value, optional_values, structure_form, structure_value, values_by}
 use Rattle.kmip_ttlv_parts.specs.{Boxes.boxed, Boxes.IsBoxed, declared.boxed.Boxed.Boxed}
@@ -38,12 +39,6 @@ pub record ItemRules (H : Type 0) (form : Form) (as_value : H → Value) : Type 
   pub keeps : IsTag number → IfSome says (λ text. (x : H) → IsSound x
       → PartKeeps form (written x) record { tag = number; typ = typ } (as_value x) record { tag = number; text = text x })
   pub same : (x y : H) → as_value x ≡ as_value y → eq x y ≡ true
-
--- all that is known of such a type
-pub record ItemOf (H : Type 0) : Type 1 where
-  pub form : Form
-  pub value : H → Value
-  pub rules : ItemRules H form value
 
 -- ---- parts
 
@@ -454,84 +449,198 @@ is_fit r = r.fit && are_distinct r.tags
 abbrev pub is_good : {H : Type 0} {fs : Fields} {vs : H → Values} → ListRules H fs vs → Boole
 is_good r = is_fit r && r.free
 
-pub structure_agrees : {H : Type 0} {fs : Fields} {vs : H → Values} (n : ℕ) (closed : Boole) (r : ListRules H fs vs) → is_fit r ≡ true → IsTag n
-    → (x : H) → r.IsSound x
-    → r.Needs x []
-    → PartAgrees (structure_form n fs closed) (structure_value n r.written x) record { tag = n; typ = types.Structure } (structure_value n vs x)
-structure_agrees n closed r fit is x sound needs =
+-- what a walk is told: what is written, and whether it is sound
+pub record Told : Type 1 where
+  pub written : Values
+  pub IsSound : Type 0
+
+-- of an item
+abbrev pub told_item : {H : Type 0} {s : Form} {g : H → Value} → ItemRules H s g → H → Told
+told_item i x = record { written = value (i.written x) no_values; IsSound = i.IsSound x }
+
+-- of four parts, and of those behind them
+abbrev pub told_both : Told → Told → Told
+told_both t u = record { written = blocks t.written u.written; IsSound = t.IsSound × u.IsSound }
+
+-- of what is sound only if this holds too
+abbrev pub and_told : Told → Type 0 → Told
+and_told t P = record { written = t.written; IsSound = t.IsSound × P }
+
+-- of parts
+abbrev pub told_parts : Values → Type 0 → Told
+told_parts ws P = record { written = ws; IsSound = P }
+
+-- of a type that is a structure under any tag: its parts' names and forms, whether an item behind them is an error, what it is read as, what is
+-- written of it, which are sound, and that these come back
+pub record StructureRules (H : Type 0) : Type 1 where
+  pub fields : Fields
+  pub closed : Boole
+  pub values : H → Values
+  pub written : H → Values
+  pub IsSound : H → Type 0
+  pub eq : H → H → Boole
+  pub agrees : (n : ℕ) → IsTag n → (x : H) → IsSound x
+      → PartAgrees (structure_form n fields closed) (structure_value n written x) record { tag = n; typ = types.Structure } (structure_value n values x)
+  pub same : (x y : H) → values x ≡ values y → eq x y ≡ true
+
+pub list_agrees : {K : Type 0} {fs : Fields} {vs : K → Values} (n : ℕ) (closed : Boole) (r : ListRules K fs vs) → is_fit r ≡ true → IsTag n
+    → (k : K) → r.IsSound k
+    → r.Needs k []
+    → PartAgrees (structure_form n fs closed) (structure_value n r.written k) record { tag = n; typ = types.Structure } (structure_value n vs k)
+list_agrees n closed r fit is k sound needs =
     let each = and_parts r.fit (are_distinct r.tags) fit in
-    messages.structure n is (r.agree each.0 each.1 x sound [] needs).follows
+    messages.structure n is (r.agree each.0 each.1 k sound [] needs).follows
 
-pub good_agrees : {H : Type 0} {fs : Fields} {vs : H → Values} (n : ℕ) (closed : Boole) (r : ListRules H fs vs) → is_good r ≡ true → IsTag n
-    → (x : H) → r.IsSound x
-    → PartAgrees (structure_form n fs closed) (structure_value n r.written x) record { tag = n; typ = types.Structure } (structure_value n vs x)
-good_agrees n closed r good is x sound =
+-- a structure of these parts, by the `==` of its type
+abbrev pub structure : {H K : Type 0} {fs : Fields} {vs : K → Values} (closed : Boole) (r : ListRules K fs vs) (parts : H → K) → is_good r ≡ true
+    → (eq : H → H → Boole)
+    → ((x y : H) → r.eq (parts x) (parts y) ≡ true → eq x y ≡ true)
+    → StructureRules H
+structure {fs = fs} {vs = vs} closed r parts good eq equal =
     let each = and_parts (is_fit r) r.free good in
-    structure_agrees n closed r each.0 is x sound (r.enough each.1 x [])
+    record {
+      fields = fs;
+      closed = closed;
+      values = λ x. vs (parts x);
+      written = λ x. r.written (parts x);
+      IsSound = λ x. r.IsSound (parts x);
+      eq = eq;
+      agrees = λ n is x sound. list_agrees n closed r each.0 is (parts x) sound (r.enough each.1 (parts x) []);
+      same = λ x y e. equal x y (r.same (parts x) (parts y) e);
+    }
 
--- a structure of this tag and these parts, by the `==` of its type
-abbrev pub structure : {H : Type 0} {fs : Fields} {vs : H → Values} (n : ℕ) (closed : Boole) (r : ListRules H fs vs) → is_good r ≡ true
-    → (eq : H → H → Boole)
-    → ((x y : H) → r.eq x y ≡ true → eq x y ≡ true)
-    → ItemOf H
-structure {fs = fs} {vs = vs} n closed r good eq equal = record {
-  form = structure_form n fs closed;
-  value = structure_value n vs;
-  rules = record {
-    number = n;
-    typ = types.Structure;
-    written = structure_value n r.written;
-    IsSound = r.IsSound;
-    eq = eq;
-    single = λ x. refl;
-    agrees = good_agrees n closed r good;
-    says = None;
-    keeps = λ is. tt;
-    same = λ x y e. equal x y (r.same x y (in_structure e));
-  };
-}
-
--- one with parts that need something to be known: it is sound if its parts are, and what these need follows from this
-abbrev pub structure_where : {H : Type 0} {fs : Fields} {vs : H → Values} (n : ℕ) (closed : Boole) (r : ListRules H fs vs) → is_fit r ≡ true
+-- one with parts that need something to be known: it is sound if its parts are, and what is decided of it is true, from which this follows
+abbrev pub structure_where : {H K : Type 0} {fs : Fields} {vs : K → Values} (closed : Boole) (r : ListRules K fs vs) (parts : H → K) → is_fit r ≡ true
     → (Decides : H → Type 0)
-    → ((x : H) → Decides x → r.Needs x [])
+    → ((x : H) → Decides x → r.Needs (parts x) [])
     → (eq : H → H → Boole)
-    → ((x y : H) → r.eq x y ≡ true → eq x y ≡ true)
-    → ItemOf H
-structure_where {fs = fs} {vs = vs} n closed r fit Decides needed eq equal = record {
-  form = structure_form n fs closed;
-  value = structure_value n vs;
-  rules = record {
-    number = n;
-    typ = types.Structure;
-    written = structure_value n r.written;
-    IsSound = λ x. r.IsSound x × Decides x;
-    eq = eq;
-    single = λ x. refl;
-    agrees = λ is x sound. structure_agrees n closed r fit is x sound.0 (needed x sound.1);
-    says = None;
-    keeps = λ is. tt;
-    same = λ x y e. equal x y (r.same x y (in_structure e));
-  };
+    → ((x y : H) → r.eq (parts x) (parts y) ≡ true → eq x y ≡ true)
+    → StructureRules H
+structure_where {fs = fs} {vs = vs} closed r parts fit Decides needed eq equal = record {
+  fields = fs;
+  closed = closed;
+  values = λ x. vs (parts x);
+  written = λ x. r.written (parts x);
+  IsSound = λ x. r.IsSound (parts x) × Decides x;
+  eq = eq;
+  agrees = λ n is x sound. list_agrees n closed r fit is (parts x) sound.0 (needed x sound.1);
+  same = λ x y e. equal x y (r.same (parts x) (parts y) e);
 }
 
--- a structure on the heap: what is in the box
-abbrev pub in_a_box : {H A : Type 0} → ItemOf H → ItemOf (Boxed H A)
+-- what a walk is told of a structure
+abbrev pub told_of : {H : Type 0} → StructureRules H → H → Told
+told_of s x = record { written = s.written x; IsSound = s.IsSound x }
+
+-- ---- walks
+
+-- what becomes of the state of a walk: where something is told, and where something is checked. What is told of four parts, and then of those
+-- behind them, is told of all; what was told is sound only if what is then checked holds too
+pub record Steps (S : Type 0) : Type 1 where
+  pub Takes : S → Told → S → Type 0
+  pub Checks : S → Type 0 → S → Type 0
+  pub behind : (from between to : S) (t u : Told) → Takes from t between → Takes between u to → Takes from (told_both t u) to
+  pub checked : (from between to : S) (t : Told) (P : Type 0) → Takes from t between → Checks between P to → Takes from (and_told t P) to
+
+visited_blocks : {S : Type 0} (step : Event → S → S) (ws vs : Values) (s : S) → visited_in step (blocks ws vs) s ≡ visited_in step vs (visited_in step ws s)
+unfolding blocks
+visited_blocks step ws vs s = visited_joined step ws vs s
+
+-- a visitor that is called with these, and then with those, is called with both
+pub blocks_received : {V S : Type 0} (knows : V → S → Type 0) (step : Event → S → S) (ws vs : Values) (old between new : V)
+    → ReceivesEach knows step ws old between
+    → ReceivesEach knows step vs between new
+    → ReceivesEach knows step (blocks ws vs) old new
+blocks_received knows step ws vs old between new parts behind =
+    λ s known. subst (knows new) (sym (visited_blocks step ws vs s)) (behind _ (parts s known))
+
+-- of the walk that calls a visitor
+abbrev pub visiting : {V S : Type 0} (knows : V → S → Type 0) (step : Event → S → S) → Steps V
+visiting knows step = record {
+  Takes = λ old t new. ReceivesEach knows step t.written old new;
+  Checks = λ old P new. new ≡ old;
+  behind = λ from between to t u first then. blocks_received knows step t.written u.written from between to first then;
+  checked = λ from between to t P told same. subst (ReceivesEach knows step t.written from) (sym same) told;
+}
+
+pub judged_both : {old between new : Boole} {A B : Type 0} → IsTrue between ↔ (IsTrue old × A) → IsTrue new ↔ (IsTrue between × B)
+    → IsTrue new ↔ (IsTrue old × (A × B))
+judged_both first then = (
+  λ is. let each = then.0 is in let before = first.0 each.0 in (before.0, (before.1, each.1)),
+  λ all. then.1 (first.1 (all.0, all.1.0), all.1.1),
+)
+
+-- of the walk that asks whether all is sound
+abbrev pub judging : Steps Boole
+judging = record {
+  Takes = λ old t new. IsTrue new ↔ (IsTrue old × t.IsSound);
+  Checks = λ old P new. IsTrue new ↔ (IsTrue old × P);
+  behind = λ from between to t u first then. judged_both first then;
+  checked = λ from between to t P told both. judged_both told both;
+}
+
+-- what a function gives of a structure within another: not looked into, so that no proof computes all that is in it
+unfoldable pub within : {H : Type 0} → (H → Values) → H → Values
+within f x = f x
+
+-- the same of what holds of it
+unfoldable pub IsWithinSound : {H : Type 0} → (H → Type 0) → H → Type 0
+IsWithinSound P x = P x
+
+pub nested_agrees : {H : Type 0} (n : ℕ) (s : StructureRules H) → IsTag n → (x : H) → IsWithinSound s.IsSound x
+    → PartAgrees (structure_form n s.fields s.closed) (structure_value n (within s.written) x) record { tag = n; typ = types.Structure }
+    (structure_value n (within s.values) x)
+unfolding within IsWithinSound
+nested_agrees n s is x sound = s.agrees n is x sound
+
+pub nested_same : {H : Type 0} (n : ℕ) (s : StructureRules H) (x y : H) → structure_value n (within s.values) x ≡ structure_value n (within s.values) y
+    → s.eq x y ≡ true
+unfolding within
+nested_same n s x y e = s.same x y (in_structure e)
+
+-- a structure as an item of this tag
+abbrev pub structure_item : {H : Type 0} (n : ℕ) (s : StructureRules H)
+    → ItemRules H (structure_form n s.fields s.closed) (structure_value n (within s.values))
+structure_item n s = record {
+  number = n;
+  typ = types.Structure;
+  written = structure_value n (within s.written);
+  IsSound = IsWithinSound s.IsSound;
+  eq = s.eq;
+  single = λ x. refl;
+  agrees = nested_agrees n s;
+  says = None;
+  keeps = λ is. tt;
+  same = nested_same n s;
+}
+
+-- an item that is held as something of which this makes it
+abbrev pub item_of : {H K : Type 0} {s : Form} {g : K → Value} (f : H → K) → ItemRules K s g → ItemRules H s (λ x. g (f x))
+item_of f i = record {
+  number = i.number;
+  typ = i.typ;
+  written = λ x. i.written (f x);
+  IsSound = λ x. i.IsSound (f x);
+  eq = λ x y. i.eq (f x) (f y);
+  single = λ x. i.single (f x);
+  agrees = λ is x. i.agrees is (f x);
+  says = None;
+  keeps = λ is. tt;
+  same = λ x y. i.same (f x) (f y);
+}
+
+-- an item on the heap: what is in the box
+abbrev pub in_a_box : {H A : Type 0} {s : Form} {g : H → Value} → ItemRules H s g → ItemRules (Boxed H A) s (boxed g)
 in_a_box i = record {
-  form = i.form;
-  value = boxed i.value;
-  rules = record {
-    number = i.rules.number;
-    typ = i.rules.typ;
-    written = boxed i.rules.written;
-    IsSound = IsBoxed i.rules.IsSound;
-    eq = λ x y. i.rules.eq x.inner.value y.inner.value;
-    single = λ x. i.rules.single x.inner.value;
-    agrees = λ is x sound. i.rules.agrees is x.inner.value sound;
-    says = None;
-    keeps = λ is. tt;
-    same = λ x y e. i.rules.same x.inner.value y.inner.value e;
-  };
+  number = i.number;
+  typ = i.typ;
+  written = boxed i.written;
+  IsSound = IsBoxed i.IsSound;
+  eq = λ x y. i.eq x.inner.value y.inner.value;
+  single = λ x. i.single x.inner.value;
+  agrees = λ is x sound. i.agrees is x.inner.value sound;
+  says = None;
+  keeps = λ is. tt;
+  same = λ x y e. i.same x.inner.value y.inner.value e;
 }
 
 -- a whole message
@@ -648,3 +757,7 @@ maybe_one_of {s = s} t c = record {
       (maybe_choice_law c o sound);
   same = maybe_choice_same c;
 }
+
+-- what a walk is told of a choice
+abbrev pub told_choice : {H : Type 0} {s : Form} {g : H → Value} → ChoiceRules H s g → H → Told
+told_choice c x = record { written = value (c.written x) no_values; IsSound = c.IsSound x }

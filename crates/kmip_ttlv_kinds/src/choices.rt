@@ -1,19 +1,25 @@
 //! Choices: parts that a rule chooses, by the text of a part before them or by the type of their item.
 
-ghost use Rattle.std.specs.Prelude.{◌≡◌, ◌↔◌, ◌+◌, ◌≤◌, false, IfOk, IsTrue, OnErr, OnOk};
+ghost use Rattle.std.specs.Prelude.{◌≡◌, ◌↔◌, ◌+◌, ◌≤◌, Some, false, IfOk, IsTrue, OnErr, OnOk};
 ghost use Rattle.kmip_ttlv_types.specs.Digits.{tag_text};
 ghost use Rattle.kmip_ttlv_base.specs.Forms.{option};
-ghost use Rattle.kmip_ttlv_base.specs.Visits.{Receives};
+ghost use Rattle.kmip_ttlv_base.specs.Values.{no_values, value};
+ghost use Rattle.kmip_ttlv_base.specs.Visits.{ReceivesEach};
 ghost use Rattle.kmip_ttlv_reader.specs.Outcomes.{outcome};
 ghost use Rattle.kmip_ttlv_reader.specs.Reads.{is_option, is_struct};
+ghost use Rattle.kmip_ttlv_reader.specs.declared.rules.RuleParts.TheVariants as rules;
 ghost use Rattle.kmip_ttlv_reader.specs.Spots.{IsReadTo, IsWithin, at, optional_value};
-ghost use Rattle.kmip_ttlv_kinds.specs.Parts.{maybe_one_of, one_of};
+ghost use Rattle.kmip_ttlv_kinds.specs.Parts.{maybe_one_of, one_of, told_choice};
 
 use crate::counts::Part;
+use crate::elements::AsElement;
+use crate::walks::{Judges, Visits, Walk};
 use kmip_ttlv_base::types::TtlvTag;
 use kmip_ttlv_base::visit::Visitor;
-use kmip_ttlv_reader::cursor::is_tag;
-use kmip_ttlv_reader::reader::{Cursor, Element, Field, Item, OptionalOf, ReadItem, Scope, Step};
+use kmip_ttlv_reader::cursor::{field_there, is_tag};
+use kmip_ttlv_reader::reader::{
+    Cursor, Element, Field, OptionalOf, RuleParts, Scope, Step, Variant,
+};
 use std::alloc::{AllocError, Allocator};
 use std::marker::PhantomData;
 
@@ -32,40 +38,48 @@ pub trait Choice<A: Allocator + Copy>: Sized + Drop {
         ensures within { IfOk result (λ _. IsWithin scope.now cursor.new) }
         ensures further { IfOk result (λ _. cursor.old.pos + 8 ≤ cursor.new.pos) };
 
-    /// Calls a visitor with what it holds.
-    fn visit_chosen<V: Visitor>(&self, visitor: &mut V) -> Result<(), AllocError>
-        ensures received { OnOk result (Receives V.knows V.step (chosen.rules.written self.now) visitor.old visitor.new) }
-        ensures stopped { OnErr result (V.stopped visitor.new) };
-
-    /// Whether what it holds is sound.
-    fn is_whole(&self) -> bool
-        ensures { IsTrue result ↔ chosen.rules.IsSound self.now };
+    /// Tells a walk of what it holds.
+    fn tell_held<W: Walk<A>>(&self, state: &mut W::State) -> Result<(), AllocError>
+        ensures told { OnOk result (W.steps.Takes state.old (told_choice chosen.rules self.now) state.new) }
+        ensures stopped { OnErr result (W.Stopped state.new) };
 
     // It goes by its field's tag, and may not be absent.
     ghost plain: { (is_struct chosen.form ≡ false) × (is_option chosen.form ≡ false) };
 }
 
-/// A choice, as the reader takes an item.
-#[derive(Drop)]
-pub struct AsItem<C> {
-    inner: C,
+// Calls a visitor with what a choice holds.
+#[inline(always)]
+fn visit_held<C: Choice<A>, V: Visitor, A: Allocator + Copy>(
+    choice: &C,
+    visitor: &mut V,
+) -> Result<(), AllocError>
+    ensures received { OnOk result (ReceivesEach V.knows V.step (value (C.chosen.rules.written choice.now) no_values) visitor.old visitor.new) }
+    ensures stopped { OnErr result (V.stopped visitor.new) }
+{
+    choice.tell_held::<Visits<V>>(visitor)
 }
 
-impl<C: Choice<A>, A: Allocator + Copy> ReadItem<A> for AsItem<C> {
-    ghost form = { C.chosen.form };
-
-    ghost value = { λ x. C.chosen.value x.inner };
-
-    ghost plain = { C.plain };
-
-    #[inline(always)]
-    fn read_item<'b>(scope: &Scope<'b, A>, cursor: &mut Cursor<'b, A>) -> Step<AsItem<C>, A> {
-        match C::read_chosen(scope, cursor) {
-            Ok(inner) => Ok(AsItem { inner }),
-            Err(failure) => Err(failure),
-        }
+/// Whether what a choice holds is sound.
+pub fn is_choice_whole<C: Choice<A>, A: Allocator + Copy>(choice: &C) -> bool
+    ensures { IsTrue result ↔ C.chosen.rules.IsSound choice.now }
+{
+    let mut good = true;
+    match choice.tell_held::<Judges>(&mut good) {
+        Ok(()) => good,
+        Err(_) => false,
     }
 }
+
+/// The rule that the last text of a tag is one of these, for a `parts`.
+#[inline(always)]
+pub fn texts_in(tag: u32, texts: &'static [&'static str]) -> Option<RuleParts>
+    ensures { result ≡ Some (rules.Texts tag texts.entry) }
+{
+    Some(RuleParts::Texts { tag, texts })
+}
+
+/// A variant that this rule chooses, of this element.
+pub type Case<R, E> = Variant<R, AsElement<E>>;
 
 /// A choice, as a variant of another of its tag.
 #[derive(Drop)]
@@ -107,20 +121,20 @@ impl<C: Choice<A>, const TAG: u32, A: Allocator + Copy> Part<A> for OneOf<C, TAG
 
     #[inline(always)]
     fn read<'b>(scope: &Scope<'b, A>, cursor: &mut Cursor<'b, A>) -> Step<C, A> {
-        match <Item<AsItem<C>, TAG> as Field<A>>::read(scope, cursor) {
-            Ok(item) => Ok(item.inner),
+        match field_there(scope, TAG, cursor.pos()) {
+            Ok(()) => C::read_chosen(scope, cursor),
             Err(failure) => Err(failure),
         }
     }
 
     #[inline(always)]
     fn visit<V: Visitor>(held: &C, visitor: &mut V) -> Result<(), AllocError> {
-        held.visit_chosen(visitor)
+        visit_held(held, visitor)
     }
 
     #[inline(always)]
     fn is_whole(held: &C) -> bool {
-        <C as Choice<A>>::is_whole(held)
+        is_choice_whole(held)
     }
 }
 
@@ -151,7 +165,7 @@ impl<C: Choice<A>, const TAG: u32, A: Allocator + Copy> Part<A> for MaybeOneOf<C
     #[inline(always)]
     fn visit<V: Visitor>(held: &Option<C>, visitor: &mut V) -> Result<(), AllocError> {
         match held {
-            Some(held) => held.visit_chosen(visitor),
+            Some(held) => visit_held(held, visitor),
             None => Ok(()),
         }
     }
@@ -159,7 +173,7 @@ impl<C: Choice<A>, const TAG: u32, A: Allocator + Copy> Part<A> for MaybeOneOf<C
     #[inline(always)]
     fn is_whole(held: &Option<C>) -> bool {
         match held {
-            Some(held) => <C as Choice<A>>::is_whole(held),
+            Some(held) => is_choice_whole(held),
             None => true,
         }
     }

@@ -8,18 +8,22 @@ ghost use Rattle.kmip_ttlv_base.specs.Values.{newtype_value, u32_value};
 ghost use Rattle.kmip_ttlv_base.specs.Visits.{Receives};
 ghost use Rattle.kmip_ttlv_reader.specs.LeafForms.{form_of_leaf};
 ghost use Rattle.kmip_ttlv_reader.specs.Outcomes.{field_outcome, outcome};
-ghost use Rattle.kmip_ttlv_reader.specs.Spots.{IsReadTo, IsWithin, at, wrapped_leaf};
+ghost use Rattle.kmip_ttlv_reader.specs.Spots.{IsReadTo, IsWithin, at, structure_form, structure_value, wrapped_leaf};
+ghost use Rattle.kmip_ttlv_parts.specs.Boxes.{boxed};
+ghost use Rattle.kmip_ttlv_kinds.specs.Parts.{IsWithinSound, in_a_box, item_of, structure_item, within};
 ghost use Rattle.kmip_ttlv_parts.specs.Enumerations.{enumeration_value};
 ghost use Rattle.kmip_ttlv_kinds.specs.Leaves.{enumeration_item, enumeration_under, leaf_item};
 
 use crate::counts::{Maybe, One};
 use crate::leaves::{Held, LeafKind};
-use crate::structure::Structure;
+use crate::structure::{Structure, Wrapper, is_structure_whole, visit_structure};
+use crate::walks::{Judges, Visits};
 use kmip_ttlv_base::parts;
+use kmip_ttlv_base::parts::{begin_structure, end_structure};
 use kmip_ttlv_base::shape::Serialize;
 use kmip_ttlv_base::visit::{self, Visitor};
-use kmip_ttlv_parts::Enumeration;
 use kmip_ttlv_parts::laws::Sound;
+use kmip_ttlv_parts::{Boxed, Enumeration};
 use kmip_ttlv_reader::cursor::missing_field;
 use kmip_ttlv_reader::reader::{self, Cursor, Scope, Step};
 use std::alloc::{AllocError, Allocator};
@@ -70,48 +74,158 @@ pub trait Element<A: Allocator + Copy> {
         ensures { IsTrue result ↔ rules.IsSound held.now };
 }
 
-/// A structure, as an element.
+/// A structure under this tag, as an element.
 #[derive(Drop)]
-pub struct Of<T> {
+pub struct Of<T, const TAG: u32> {
     kind: PhantomData<T>,
 }
 
-impl<T: Structure<A>, A: Allocator + Copy> Element<A> for Of<T> {
+impl<T: Structure<A>, const TAG: u32, A: Allocator + Copy> Element<A> for Of<T, TAG> {
     type Holds = T;
 
-    ghost form = { T.item.form };
+    ghost form = { structure_form TAG T.rules.fields T.rules.closed };
 
-    ghost value = { T.item.value };
+    ghost value = { structure_value TAG (within T.rules.values) };
 
-    ghost rules = { T.item.rules };
+    ghost rules = { structure_item TAG T.rules };
 
     #[inline(always)]
     fn number() -> u32 {
-        T::number()
+        TAG
     }
 
+    #[tactic(auto, unfolding(crate::specs::Parts::within))]
     #[inline(always)]
     fn read_one<'b>(scope: &Scope<'b, A>, cursor: &mut Cursor<'b, A>) -> Step<T, A> {
-        T::read_nested(scope, cursor)
+        T::read(scope, TAG, cursor)
     }
 
-    #[tactic(auto, unfolding(kmip_ttlv_reader::specs::Outcomes::field_outcome), using(kmip_ttlv_reader::proofs::Steps::fault_is))]
+    #[tactic(auto, unfolding(kmip_ttlv_reader::specs::Outcomes::field_outcome, crate::specs::Parts::within), using(kmip_ttlv_reader::proofs::Steps::fault_is))]
     #[inline(always)]
     fn read_field<'b>(scope: &Scope<'b, A>, cursor: &mut Cursor<'b, A>) -> Step<T, A> {
         if cursor.pos() == scope.end {
             return Err(missing_field(scope));
         }
-        T::read_nested(scope, cursor)
+        T::read(scope, TAG, cursor)
     }
 
     #[inline(always)]
     fn visit_one<V: Visitor>(held: &T, visitor: &mut V) -> Result<(), AllocError> {
-        held.visit_parts(visitor)
+        visit_structure(held, TAG, visitor)
     }
 
     #[inline(always)]
     fn is_whole(held: &T) -> bool {
-        held.is_whole()
+        is_structure_whole(held)
+    }
+}
+
+/// A structure under this tag, as an element that holds what is in it, of this type of Rust.
+#[derive(Drop)]
+pub struct Inside<T, I, const TAG: u32> {
+    kind: PhantomData<(T, I)>,
+}
+
+impl<T: Wrapper<I, A>, I: Drop, const TAG: u32, A: Allocator + Copy> Element<A>
+    for Inside<T, I, TAG> {
+    type Holds = I;
+
+    ghost form = { structure_form TAG T.Structure.rules.fields T.Structure.rules.closed };
+
+    ghost value = { λ x. structure_value TAG (within T.Structure.rules.values) (T.wrap x) };
+
+    ghost rules = { item_of T.wrap (structure_item TAG T.Structure.rules) };
+
+    #[inline(always)]
+    fn number() -> u32 {
+        TAG
+    }
+
+    #[inline(always)]
+    fn read_one<'b>(scope: &Scope<'b, A>, cursor: &mut Cursor<'b, A>) -> Step<I, A> {
+        match <Of<T, TAG> as Element<A>>::read_one(scope, cursor) {
+            Ok(outer) => Ok(outer.into_inner()),
+            Err(failure) => Err(failure),
+        }
+    }
+
+    #[inline(always)]
+    fn read_field<'b>(scope: &Scope<'b, A>, cursor: &mut Cursor<'b, A>) -> Step<I, A> {
+        match <Of<T, TAG> as Element<A>>::read_field(scope, cursor) {
+            Ok(outer) => Ok(outer.into_inner()),
+            Err(failure) => Err(failure),
+        }
+    }
+
+    #[tactic(auto, unfolding(crate::specs::Parts::within))]
+    #[inline(always)]
+    fn visit_one<V: Visitor>(held: &I, visitor: &mut V) -> Result<(), AllocError> {
+        begin_structure(visitor, TAG)?;
+        T::tell_inner::<Visits<V>>(held, visitor)?;
+        end_structure(visitor, TAG)
+    }
+
+    #[tactic(auto, unfolding(crate::specs::Parts::IsWithinSound))]
+    #[inline(always)]
+    fn is_whole(held: &I) -> bool {
+        let mut good = true;
+        match T::tell_inner::<Judges>(held, &mut good) {
+            Ok(()) => good,
+            Err(_) => false,
+        }
+    }
+}
+
+/// An element on the heap.
+#[derive(Drop)]
+pub struct InBox<E> {
+    kind: PhantomData<E>,
+}
+
+impl<E: Element<A>, A: Allocator + Copy> Element<A> for InBox<E> {
+    type Holds = Boxed<E::Holds, A>;
+
+    ghost form = { E.form };
+
+    ghost value = { boxed E.value };
+
+    ghost rules = { in_a_box E.rules };
+
+    #[inline(always)]
+    fn number() -> u32 {
+        E::number()
+    }
+
+    #[inline(always)]
+    fn read_one<'b>(
+        scope: &Scope<'b, A>,
+        cursor: &mut Cursor<'b, A>,
+    ) -> Step<Boxed<E::Holds, A>, A> {
+        match E::read_one(scope, cursor) {
+            Ok(inner) => Ok(Boxed::new(scope.alloc, inner)?),
+            Err(failure) => Err(failure),
+        }
+    }
+
+    #[inline(always)]
+    fn read_field<'b>(
+        scope: &Scope<'b, A>,
+        cursor: &mut Cursor<'b, A>,
+    ) -> Step<Boxed<E::Holds, A>, A> {
+        match E::read_field(scope, cursor) {
+            Ok(inner) => Ok(Boxed::new(scope.alloc, inner)?),
+            Err(failure) => Err(failure),
+        }
+    }
+
+    #[inline(always)]
+    fn visit_one<V: Visitor>(held: &Boxed<E::Holds, A>, visitor: &mut V) -> Result<(), AllocError> {
+        E::visit_one(held.inner.as_ref(), visitor)
+    }
+
+    #[inline(always)]
+    fn is_whole(held: &Boxed<E::Holds, A>) -> bool {
+        E::is_whole(held.inner.as_ref())
     }
 }
 

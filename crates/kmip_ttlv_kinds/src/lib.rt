@@ -24,19 +24,25 @@ mod counts;
 mod elements;
 mod laws;
 mod leaves;
+mod listed;
 mod lists;
 mod reading;
 mod structure;
+mod walks;
 
-pub use crate::choices::{AsItem, Choice, ChoiceElement, MaybeOneOf, OneOf};
-pub use crate::counts::{Any, AsField, Maybe, One, Part, Several};
-pub use crate::elements::{AsElement, Element, Leaf, LeafItem, MaybeLeaf, Of, Under};
-pub use crate::laws::{equal_structures, structures_are_read_back};
-pub use crate::leaves::{BigNumber, Held, LeafKind};
-pub use crate::lists::{Alone, AsFields, Four, PartList};
-pub use crate::reading::{read_message_parts, read_parts};
-pub use crate::structure::{
-    Structure, are_whole_four, are_whole_one, are_whole_three, are_whole_two, both,
-    structures_come_back, visit_four, visit_one, visit_structure_four, visit_structure_one,
-    visit_structure_three, visit_structure_two, visit_three, visit_two,
+pub use crate::choices::{
+    Case, Choice, ChoiceElement, MaybeOneOf, OneOf, is_choice_whole, texts_in,
 };
+pub use crate::counts::{Any, AsField, Maybe, One, Part, Several};
+pub use crate::elements::{
+    AsElement, Element, InBox, Inside, Leaf, LeafItem, MaybeLeaf, Of, Under,
+};
+pub use crate::laws::{
+    equal_choices, equal_structures, structures_are_read_back, structures_come_back,
+};
+pub use crate::leaves::{BigNumber, Held, LeafKind};
+pub use crate::listed::{Listed, ListedItem};
+pub use crate::lists::{Alone, AsFields, Four, Holds, PartList};
+pub use crate::reading::{decode_structure, read_structure};
+pub use crate::structure::{FromParts, Structure, Wrapper, is_structure_whole, visit_structure};
+pub use crate::walks::{Decided, Judges, Visits, Walk};

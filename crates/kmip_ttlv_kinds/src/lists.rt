@@ -15,6 +15,9 @@ use kmip_ttlv_reader::reader::{self, Cursor, FieldList, Scope, Step};
 use std::alloc::Allocator;
 use std::marker::PhantomData;
 
+/// What a list of these parts holds.
+pub type Holds<L, A> = <L as PartList<A>>::Holds;
+
 /// The parts of a structure, in their order.
 pub trait PartList<A: Allocator + Copy> {
     ghost use Rattle.kmip_ttlv_base.specs.Forms.{Fields};
@@ -165,15 +168,15 @@ impl<P: Part<A>, Q: Part<A>, R: Part<A>, S: Part<A>, A: Allocator + Copy> PartLi
     }
 }
 
-/// Four parts, and others behind them.
+/// Four parts, as a tuple of their kinds, and others behind them.
 #[derive(Drop)]
-pub struct Four<P, Q, R, S, L> {
-    kind: PhantomData<(P, Q, R, S, L)>,
+pub struct Four<F, L> {
+    kind: PhantomData<(F, L)>,
 }
 
 impl<P: Part<A>, Q: Part<A>, R: Part<A>, S: Part<A>, L: PartList<A>, A: Allocator + Copy> PartList<
     A,
-> for Four<P, Q, R, S, L> {
+> for Four<(P, Q, R, S), L> {
     type Holds = (P::Holds, Q::Holds, R::Holds, S::Holds, L::Holds);
 
     ghost fields = { field (tag_text P.rules.tag) P.form (field (tag_text Q.rules.tag) Q.form (field (tag_text R.rules.tag) R.form (field (tag_text S.rules.tag) S.form L.fields))) };

@@ -5,9 +5,11 @@ ghost use Rattle.kmip_ttlv_types.specs.Digits.{tag_text};
 ghost use Rattle.kmip_ttlv_reader.specs.Outcomes.{all_outcome, fields_outcome, first_outcome, ignored, opened, outcome, rest_outcome, root_outcome, struct_outcome};
 ghost use Rattle.kmip_ttlv_reader.specs.ReadResults.{IsReadAs};
 ghost use Rattle.kmip_ttlv_reader.specs.Results.{IsStep};
+ghost use Rattle.kmip_ttlv_kinds.specs.Parts.{within};
 ghost use Rattle.kmip_ttlv_reader.specs.Spots.{IsReadTo, IsWithin, at, structure_form, structure_value};
 
 use crate::lists::PartList;
+use crate::structure::FromParts;
 use kmip_ttlv_base::error::{Error, SerdeError};
 use kmip_ttlv_base::types::TtlvType;
 use kmip_ttlv_reader::cursor::tag_is;
@@ -22,13 +24,13 @@ use std::alloc::Allocator;
 // Where the content of a structure of this tag ends.
 #[tactic(auto, unfolding(kmip_ttlv_reader::specs::Outcomes::opened), using(kmip_ttlv_reader::proofs::Steps::failure_then))]
 #[inline(always)]
-fn opened<A: Allocator + Copy>(alloc: A, number: u32, bytes: &[u8], pos: usize) -> Step<usize, A>
+fn opened<A: Allocator + Copy>(alloc: A, tag: u32, bytes: &[u8], pos: usize) -> Step<usize, A>
     requires inside { pos ≤ length bytes.now }
-    ensures step { IsStep (λ q. q) (opened (tag_text number) bytes.now pos) result }
+    ensures step { IsStep (λ q. q) (opened (tag_text tag) bytes.now pos) result }
     ensures there { IfOk result (λ q. (pos + 8 ≤ length bytes.now) × (pos + 8 ≤ q)) }
 {
     let typ = type_there(alloc, bytes, pos)?;
-    tag_is(alloc, number, bytes, pos, typ)?;
+    tag_is(alloc, tag, bytes, pos, typ)?;
     structure_wanted(alloc, bytes, pos, typ)?;
     let n = length_there(bytes, pos)?;
     Ok(pos + 8 + n as usize)
@@ -85,39 +87,39 @@ fn read_rest<'b, L: PartList<A>, A: Allocator + Copy>(
 // All that the structure contains.
 #[tactic(auto, unfolding(kmip_ttlv_reader::specs::Outcomes::all_outcome), using(kmip_ttlv_reader::proofs::Steps::failure_then))]
 #[inline(always)]
-fn read_content<'b, L: PartList<A>, A: Allocator + Copy>(
+fn read_content<'b, L: PartList<A>, T: FromParts<A, L>, A: Allocator + Copy>(
     scope: &Scope<'b, A>,
     closed: bool,
     cursor: &mut Cursor<'b, A>,
-) -> Step<L::Holds, A>
+) -> Step<T, A>
     requires within { IsWithin scope.now cursor.old }
-    ensures read { IsReadTo L.values cursor.new
+    ensures read { IsReadTo (λ x. L.values (T.parts x)) cursor.new
         (at (all_outcome L.fields closed (fields_outcome L.fields)) scope.now cursor.old) result }
     ensures whole { IfOk result (λ _. (cursor.new.pos ≡ scope.now.end) × (scope.now.end ≤ length scope.now.bytes.now)) }
 {
-    let held = L::read_list(scope, cursor)?;
+    let parts = L::read_list(scope, cursor)?;
     let next = read_rest::<L, A>(scope, closed, cursor.pos())?;
     cursor.go_to(next);
-    Ok(held)
+    Ok(T::from_parts(parts))
 }
 
-// The parts of a structure of this tag within another, header and all.
+// A structure of this tag within another, header and all.
 #[tactic(auto, unfolding(kmip_ttlv_reader::specs::Outcomes::struct_outcome), using(kmip_ttlv_reader::proofs::Steps::failure_then))]
 #[inline(always)]
-fn read_whole<'b, L: PartList<A>, A: Allocator + Copy>(
+fn read_whole<'b, L: PartList<A>, T: FromParts<A, L>, A: Allocator + Copy>(
     scope: &Scope<'b, A>,
-    number: u32,
+    tag: u32,
     closed: bool,
     cursor: &mut Cursor<'b, A>,
-) -> Step<L::Holds, A>
+) -> Step<T, A>
     requires within { IsWithin scope.now cursor.old }
-    ensures read { IsReadTo L.values cursor.new
-        (at (struct_outcome (tag_text number) L.fields closed (fields_outcome L.fields)) scope.now cursor.old) result }
+    ensures read { IsReadTo (λ x. L.values (T.parts x)) cursor.new
+        (at (struct_outcome (tag_text tag) L.fields closed (fields_outcome L.fields)) scope.now cursor.old) result }
     ensures within { IfOk result (λ _. IsWithin scope.now cursor.new) }
     ensures further { IfOk result (λ _. cursor.old.pos + 8 ≤ cursor.new.pos) }
 {
     let pos = cursor.pos();
-    let end = opened(scope.alloc, number, scope.bytes, pos)?;
+    let end = opened(scope.alloc, tag, scope.bytes, pos)?;
     let owner = tag_at(scope.bytes, pos);
     let content = Scope {
         alloc: scope.alloc,
@@ -126,8 +128,8 @@ fn read_whole<'b, L: PartList<A>, A: Allocator + Copy>(
         end,
     };
     cursor.go_to(pos + 8);
-    match read_content::<L, A>(&content, closed, cursor) {
-        Ok(held) => {
+    match read_content::<L, T, A>(&content, closed, cursor) {
+        Ok(structure) => {
             inside(
                 scope.alloc,
                 scope.bytes,
@@ -136,44 +138,44 @@ fn read_whole<'b, L: PartList<A>, A: Allocator + Copy>(
                 TtlvType::Structure,
                 end,
             )?;
-            Ok(held)
+            Ok(structure)
         }
         Err(failure) => Err(within(owner, failure)),
     }
 }
 
-/// The parts of a structure of this tag, from the cursor on, header and all, for a `read_nested`. If it is closed, an item behind the
+/// The structure of this tag and these parts from the cursor on, header and all, for a `read`. If it is closed, an item behind the
 /// parts is an error.
 #[inline(always)]
-pub fn read_parts<'b, L: PartList<A>, A: Allocator + Copy>(
+pub fn read_structure<'b, L: PartList<A>, T: FromParts<A, L>, A: Allocator + Copy>(
     scope: &Scope<'b, A>,
-    number: u32,
+    tag: u32,
     closed: bool,
     cursor: &mut Cursor<'b, A>,
-) -> Step<L::Holds, A>
+) -> Step<T, A>
     requires within { IsWithin scope.now cursor.old }
-    ensures read { IsReadTo (structure_value number L.values) cursor.new
-        (at (outcome (structure_form number L.fields closed)) scope.now cursor.old) result }
+    ensures read { IsReadTo (structure_value tag (λ x. L.values (T.parts x))) cursor.new
+        (at (outcome (structure_form tag L.fields closed)) scope.now cursor.old) result }
     ensures within { IfOk result (λ _. IsWithin scope.now cursor.new) }
     ensures further { IfOk result (λ _. cursor.old.pos + 8 ≤ cursor.new.pos) }
 {
-    match read_whole::<L, A>(scope, number, closed, cursor) {
-        Ok(held) => Ok(held),
+    match read_whole::<L, T, A>(scope, tag, closed, cursor) {
+        Ok(structure) => Ok(structure),
         Err(failure) => Err(failure),
     }
 }
 
-// The parts of the structure that a message is.
+// The structure that a message is.
 #[tactic(auto, unfolding(kmip_ttlv_reader::specs::Outcomes::first_outcome), using(kmip_ttlv_reader::proofs::Steps::failure_then))]
-fn read_first<L: PartList<A>, A: Allocator + Copy>(
+fn read_first<L: PartList<A>, T: FromParts<A, L>, A: Allocator + Copy>(
     alloc: A,
-    number: u32,
+    tag: u32,
     closed: bool,
     bytes: &[u8],
-) -> Step<L::Holds, A>
-    ensures step { IsStep L.values (first_outcome (tag_text number) L.fields closed (fields_outcome L.fields) bytes.now) result }
+) -> Step<T, A>
+    ensures step { IsStep (λ x. L.values (T.parts x)) (first_outcome (tag_text tag) L.fields closed (fields_outcome L.fields) bytes.now) result }
 {
-    let end = opened(alloc, number, bytes, 0)?;
+    let end = opened(alloc, tag, bytes, 0)?;
     let owner = tag_at(bytes, 0);
     let content = Scope {
         alloc,
@@ -182,24 +184,25 @@ fn read_first<L: PartList<A>, A: Allocator + Copy>(
         end,
     };
     let mut cursor = Cursor::new(alloc, 8);
-    match read_content::<L, A>(&content, closed, &mut cursor) {
-        Ok(held) => Ok(held),
+    match read_content::<L, T, A>(&content, closed, &mut cursor) {
+        Ok(structure) => Ok(structure),
         Err(failure) => Err(within(owner, failure)),
     }
 }
 
-/// The parts of a structure of this tag with which the bytes begin, for a `decode`. It has the errors of `from_slice`.
-pub fn read_message_parts<L: PartList<A>, A: Allocator + Copy>(
+/// The structure of this tag and these parts with which the bytes begin, for a `decode`. It has the errors of `from_slice`.
+#[tactic(auto, unfolding(crate::specs::Parts::within))]
+pub fn decode_structure<L: PartList<A>, T: FromParts<A, L>, A: Allocator + Copy>(
     alloc: A,
-    number: u32,
+    tag: u32,
     closed: bool,
     bytes: &[u8],
-) -> Result<L::Holds, Error<A>>
-    ensures equals { IsReadAs (λ v x. v ≡ structure_value number L.values x)
-        (root_outcome (structure_form number L.fields closed) bytes.now) result }
+) -> Result<T, Error<A>>
+    ensures equals { IsReadAs (λ v x. v ≡ structure_value tag (within (λ y. L.values (T.parts y))) x)
+        (root_outcome (structure_form tag L.fields closed) bytes.now) result }
 {
-    match read_first::<L, A>(alloc, number, closed, bytes) {
-        Ok(held) => Ok(held),
+    match read_first::<L, T, A>(alloc, tag, closed, bytes) {
+        Ok(structure) => Ok(structure),
         Err(failure) => Err(error(failure)),
     }
 }
