@@ -1,24 +1,18 @@
-"""Writes the files of types that are lists of parts, by kmip_ttlv_kinds: for tables whose crate is `crate NAME lists`."""
+"""Writes the files of message types, which are lists of their parts, by kmip_ttlv_kinds."""
 
 import re
 
-CLAIM = "Written by codegen from types.table: change that, and run codegen/codegen."
+from tables import snake
 
-# What a leaf is in Rust, by its word in a table.
-RUST = {
-    "integer": "i32", "long_integer": "i64", "date_time": "DateTime", "boolean": "bool", "interval": "Interval", "enumeration": "u32",
-    "text_string": "String<A>", "byte_string": "Vec<u8, A>", "big_integer": "BigNumber<A>",
-}  # fmt: skip
+CLAIM = "Written by codegen from types.table: change that, and run codegen/codegen."
 
 # What a module imports, by its path, if it names it.
 RUST_NAMES = {
     "kmip_ttlv::error": "Error",
-    "kmip_ttlv_kinds": "Alone Any AsElement BigNumber Choice ChoiceElement Element Four Leaf LeafItem Maybe MaybeLeaf MaybeOneOf Of One OneOf PartList Several"
-    " Structure Under are_whole_one are_whole_two are_whole_three are_whole_four both read_message_parts read_parts structures_come_back visit_one"
-    " visit_two visit_three visit_four visit_structure_one visit_structure_two visit_structure_three visit_structure_four",
+    "kmip_ttlv_kinds": "Alone Any AsElement BigNumber Case Choice ChoiceElement Decided Element Four FromParts Holds InBox Inside Leaf LeafItem Listed ListedItem Maybe MaybeLeaf MaybeOneOf Of One OneOf"
+    " PartList Several Structure Under Walk Wrapper decode_structure is_structure_whole read_structure structures_come_back texts_in visit_structure",
     "kmip_ttlv_parts": "Boxed Enumeration",
     "kmip_ttlv_parts::laws": "Message Sound is_none_of",
-    "kmip_ttlv_parts::messages": "writing",
     "kmip_ttlv_parts::reader": "ChoiceValue Cursor DateTime Interval Rule RuleParts Scope Step Variant VariantList VariantOf",
     "kmip_ttlv_parts::shape": "Decode Serialize",
     "kmip_ttlv_parts::types": "TtlvType",
@@ -28,26 +22,30 @@ RUST_NAMES = {
 
 GHOST_NAMES = {
     "Rattle.std.specs.Prelude": "◌≡◌ ◌↔◌ ◌+◌ None IfSome IsTrue Some codes false refl string_bytes true",
+    "Rattle.std.proofs.Common": "ap",
     "Rattle.std.specs.Option": "IsSomeAnd",
-    "Rattle.kmip_ttlv_parts.specs.Returns": "IsNoneOf",
-    "Rattle.kmip_ttlv_kinds.specs.Parts": "of structure structure_where",
-    "Rattle.kmip_ttlv_kinds.specs.Choices": "held held_choice",
+    "denote.Enum.Bare": "true_same",
+    "Rattle.kmip_ttlv_parts.specs.Digits": "tag_text",
+    "Rattle.kmip_ttlv_parts.specs.Returns": "IsNoneOf text_of_number",
+    "Rattle.kmip_ttlv_parts.specs.Values": "unit_variant_value",
+    "Rattle.kmip_ttlv_kinds.specs.Parts": "all_enough structure structure_where",
+    "Rattle.kmip_ttlv_kinds.specs.Choices": "held held_choice numbered_where",
     "Rattle.kmip_ttlv_parts.specs.MessageParts": "there",
 }
 
 SPEC_NAMES = {
-    "Rattle.std.proofs.Common": "ap refl subst sym true ◌∙◌",
+    "Rattle.std.proofs.Common": "ap refl true ◌∙◌",
+    "Rattle.std.proofs.Math.Logic": "⊎_elim",
     "Rattle.std.specs.Option": "IsSomeAnd",
-    "Rattle.std.specs.Prelude": "IfSome IsTrue List None Option Some codes false option_map ℕ ◌+◌ ◌≡◌ ◌↔◌ ◌⊎◌ [] ◌∷◌ inl inr",
+    "Rattle.std.specs.Prelude": "IfSome IsTrue List None Option Some codes false ℕ ◌+◌ ◌≡◌ ◌↔◌ ◌⊎◌ [] ◌∷◌",
     "Rattle.std.specs.Str": "chars trim_end trim_start",
     "lib.Utf8": "encode",
-    "Rattle.kmip_ttlv_kinds.specs.Choices": "Case ChoiceOf Held HeldChoice Picks TypedCase case_of case_within choice_by choice_by_type typed_case",
+    "Rattle.kmip_ttlv_kinds.specs.Choices": "Case ChoiceOf Held HeldChoice Meaning TypedCase as_choice as_item case_of case_within choice_by choice_by_type typed_case",
     "Rattle.kmip_ttlv_parts.proofs.Equal": "apart in_variant",
     "Rattle.kmip_ttlv_parts.proofs.MessageRules": "not_first",
     "Rattle.kmip_ttlv_parts.specs.Agreements": "first_variant later_variant",
-    "Rattle.kmip_ttlv_parts.specs.Forms": "Form Variants enum no_variants variant wrapped",
+    "Rattle.kmip_ttlv_parts.specs.Forms": "Variants enum no_variants variant wrapped",
     "Rattle.kmip_ttlv_parts.specs.MessageParts": "there",
-    "Rattle.kmip_ttlv_parts.specs.Values": "Value newtype_variant_value",
     "Rattle.kmip_ttlv_parts.specs.Names": "number tag_of",
     "Rattle.kmip_ttlv_parts.specs.Returns": "IsNoneOf text_of_number",
     "Rattle.kmip_ttlv_parts.specs.Rules": "at_least chosen choice equal in_brackets member past rule sides",
@@ -55,8 +53,14 @@ SPEC_NAMES = {
 }
 
 
-def snake(name):
-    return re.sub(r"(?<!^)([A-Z])", r"_\1", name).lower()
+LISTED_NAMES = {
+    "Rattle.kmip_ttlv_parts.proofs.Equal": "found_same row_of",
+    "Rattle.kmip_ttlv_parts.proofs.MessageParts": "IsUnit",
+    "Rattle.kmip_ttlv_parts.specs.Rules": "rule",
+    "Rattle.kmip_ttlv_parts.specs.Names": "number",
+    "Rattle.kmip_ttlv_parts.specs.Forms": "Variants no_variants unit variant",
+    "Rattle.std.specs.Prelude": "List Some codes refl ℕ [] ◌∷◌ ◌≡◌",
+}
 
 
 def named(text, names):
@@ -80,6 +84,32 @@ def brackets(items):
     return "(" + ", (".join(items) + ")" * len(items)
 
 
+def has_a(rust):
+    return bool(re.search(r"\bA\b", rust))
+
+
+def names_of(t):
+    """The names that the written files have of a type."""
+    names = [t.name, *(one.relation for one in t.one_ofs)]
+    if t.kind in ("choice", "group") or t.is_enumeration:
+        names.append(t.snake)
+    if t.kind in ("structure", "message", "wrapper"):
+        names += [f"{t.name}{order}" for order in ORDER[: (len(t.parts) + 3) // 4] if len(t.parts) > 4] + [f"{t.name}Parts"]
+    listed = [t.name] if t.kind == "enumeration" else [part.constant for part in t.parts if part.is_constant]
+    listed += [v.constant for v in t.variants if t.kind == "choice" and v.number]
+    names += [name for name in listed if name != t.name] + [snake(name) for name in listed if name != t.name]
+    for name in map(snake, listed):
+        names += [name.upper(), *(f"{name}_{word}" for word in ("variants", "number", "is_unit", "rows", "found", "same", "contract"))]
+    names += [f"{t.name}{v.name}Rule" for v in t.variants if v.is_deciding]
+    if t.kind == "choice":
+        names += [f"{t.name}{word}" for word in ("Cases", "Items")] + [f"{t.snake}_{word}" for word in ("variants", "cases", "case", "by", "same", "choice")]
+        names += [f"{t.snake}_chosen_by"] if t.is_by_numbers else [f"Chooses{t.name}"] if t.rule_tag else []
+        names += [f"{t.snake}_typ"] if t.has_heads else []
+        names += [f"{t.snake}_names", f"{t.snake}_unnamed", f"{t.screaming}_NAMES", f"is_no_{t.snake}"] if t.is_mixed else []
+        names += [v.rule_type for v in t.variants] + [f"{t.name}Later{at}" for at, _ in t.chunks[1:]]
+    return names
+
+
 class Kinds:
     """How a structure of a table is written by the kinds of its parts."""
 
@@ -90,13 +120,25 @@ class Kinds:
     def a(t):
         return "<A>" if t.owns else ""
 
+    @staticmethod
+    def only(part):
+        """The value of a constant, in Rust."""
+        return f"{part.constant}::Only"
+
     @classmethod
     def once(cls, part):
         """The type in Rust of one of a part."""
         if part.leaf:
-            return RUST[part.leaf.word]
+            return part.leaf.rust
+        if part.type.kind == "wrapper":
+            return cls.inner(part.type)
         name = f"{part.type.name}{cls.a(part.type)}"
         return f"Boxed<{name}, A>" if part.is_boxed else name
+
+    @classmethod
+    def inner(cls, t):
+        """What is in a wrapper, in Rust."""
+        return cls.rust(t.given[0])
 
     @classmethod
     def rust(cls, part):
@@ -105,27 +147,46 @@ class Kinds:
     @classmethod
     def element(cls, part):
         if part.leaf:
-            return f"LeafItem<{RUST[part.leaf.word]}, 0x{part.tag}>"
-        return part.type.name if part.type.is_open else f"Of<{cls.once(part)}>"
+            return f"LeafItem<{part.leaf.rust}, 0x{part.tag}>"
+        if part.is_constant:
+            return f"ListedItem<{part.constant}>"
+        if part.type.is_open:
+            return part.type.name
+        if part.type.is_enumeration:
+            return f"ListedItem<{part.type.name}>"
+        element = cls.structure(part.type, part.tag)
+        return f"InBox<{element}>" if part.is_boxed else element
+
+    @classmethod
+    def structure(cls, t, tag):
+        """A structure as an element; a wrapper by what is in it."""
+        name = f"{t.name}{cls.a(t)}"
+        return f"Inside<{name}, {cls.inner(t)}, 0x{tag}>" if t.kind == "wrapper" else f"Of<{name}, 0x{tag}>"
 
     @classmethod
     def kind(cls, part):
         if part.type and part.type.kind == "choice":
             return f"{'OneOf' if part.count == 'one' else 'MaybeOneOf'}<{cls.once(part)}, 0x{part.tag}>"
         if part.leaf and part.count in ("one", "optional"):
-            return f"{'Leaf' if part.count == 'one' else 'MaybeLeaf'}<{RUST[part.leaf.word]}, 0x{part.tag}>"
+            return f"{'Leaf' if part.count == 'one' else 'MaybeLeaf'}<{part.leaf.rust}, 0x{part.tag}>"
         if part.count == "one":
             return f"One<{cls.element(part)}>"
         return f"{ {'optional': 'Maybe', 'several': 'Several', 'any': 'Any'}[part.count]}<{cls.element(part)}, 0x{part.tag}>"
 
     @property
-    def parts(self):
-        """The list of its parts, in Rust."""
-        return self.listed([self.kind(part) for part in self.t.parts])
+    def lists(self):
+        """The lists of its parts by their names, four parts in each, and the whole list, which comes last."""
+        chunks, whole = self.chunks, f"{self.t.name}Parts"
+        if len(chunks) == 1:
+            return {whole: self.tuple(chunks[0])}
+        found = {f"{self.t.name}{order}": self.tuple(chunk) for order, chunk in zip(ORDER, chunks)}
+        *firsts, behind = [name + ("<A>" if has_a(listed) else "") for name, listed in found.items()]
+        for first in reversed(firsts):
+            behind = f"Four<{first}, {behind}>"
+        return {**found, whole: behind}
 
-    def listed(self, kinds):
-        if len(kinds) > 4:
-            return f"Four<{', '.join(kinds[:4])}, {self.listed(kinds[4:])}>"
+    def tuple(self, parts):
+        kinds = [self.kind(part) for part in parts]
         return f"({', '.join(kinds)})" if len(kinds) > 1 else f"Alone<{kinds[0]}>"
 
     def held(self, names):
@@ -137,7 +198,7 @@ class Kinds:
     @property
     def record(self):
         """The same of x, in definitions."""
-        names = [f"x.{part.name}" for part in self.t.parts]
+        names = [f"{snake(part.constant)}.Only" if part.is_constant else f"x.{part.name}" for part in self.t.parts]
         return self.held(names)
 
     @property
@@ -147,6 +208,7 @@ class Kinds:
 
 
 COUNT = {1: "one", 2: "two", 3: "three", 4: "four"}
+ORDER = ["First", "Second", "Third", "Fourth", "Fifth"]
 
 
 class Writer:
@@ -161,21 +223,21 @@ class Writer:
         files = {f"src/{module.name}.rt": self.code(module) for module in self.table.own_modules}
         if self.definitions_of():
             files["specs/Choices.antt"] = self.definitions()
+        if self.listings():
+            files["specs/Listed.antt"] = self.listed_definitions()
         for t in self.table.types:
-            if t.module.is_own and t.kind == "choice":
-                folder = f"proofs/{t.module.name}/{self.impl_of(t, 'Choice')}"
-                files[f"{folder}/is_whole/Answers.antt"] = self.wholes(t)
-                files[f"{folder}/visit_chosen/Answers.antt"] = self.visits(t)
-            if t.module.is_own and t.kind in ("structure", "message") and len(t.parts) > 4:
-                files[f"proofs/{t.module.name}/{self.impl_of(t, 'Structure')}/visit_parts/Answers.antt"] = self.visited(t)
-            if t.module.is_own and t.kind in ("structure", "message") and (self.decided(t) or len(t.parts) > 4):
-                files[f"proofs/{t.module.name}/{self.impl_of(t, 'Structure')}/is_whole/Answers.antt"] = self.whole(t)
+            folder = f"proofs/{t.module.name}" if t.module.is_own else ""
+            if folder and t.kind == "choice":
+                files[f"{folder}/{self.impl_of(t, 'Choice')}/tell_held/Answers.antt"] = self.held_told(t)
+            if folder and t.kind in ("structure", "message") and (t.choices or t.one_ofs or len(t.parts) > 4):
+                files[f"{folder}/{self.impl_of(t, 'Structure')}/tell_parts/Answers.antt"] = self.parts_told(t)
         return {path: f"{'//' if path.endswith('.rt') else '--'} {CLAIM}\n{text}" for path, text in files.items()}
 
     def own_files(self):
         own = {"src/lib.rt": "//! The message types of `types.table`.\n#![tactic(auto)]\n\n" + "".join(f"pub mod {m.name};\n" for m in self.table.own_modules)}
-        if self.definitions_of():
-            own["specs/Lib.antt"] = "pub mod Choices\n"
+        modules = [name for name, is_there in (("Choices", self.definitions_of()), ("Listed", self.listings())) if is_there]
+        if modules:
+            own["specs/Lib.antt"] = "".join(f"pub mod {name}\n" for name in modules)
         if any(path.startswith("proofs/") for path in self.files()):
             own["proofs/Lib.antt"] = "-- The answers of this crate's functions.\n"
         return own
@@ -184,11 +246,52 @@ class Writer:
         own = [t for t in self.table.types if t.module.is_own]
         return [t for t in own if t.kind == "choice" or t.one_ofs]
 
+    def listings(self):
+        """The closed Enumerations and the constants of this crate: the name of each, its module, its tag, and its values with their numbers."""
+        found = []
+        for t in self.table.types:
+            if t.module.is_own and t.kind == "enumeration":
+                found.append((t.name, t.module, t.tag, [(v.name, v.number) for v in t.variants]))
+            constants = [part for part in t.parts if part.is_constant] + [v for v in t.variants if t.kind == "choice" and v.number]
+            found += [(one.constant, t.module, one.tag, [("Only", one.number)]) for one in constants if t.module.is_own]
+        return found
+
+    def listed_definitions(self):
+        """Of each Enumeration of listed numbers its variants, the number of each value, and that these are units of it, one for each value."""
+        lines = ["-- The numbers of Enumerations of listed numbers, and of constants."]
+        body = ""
+        for name, module, tag, rows in self.listings():
+            called = snake(name)
+            path = f"Rattle.{self.table.crate}.specs.declared.{module.name}.{name}"
+            lines += [f"use {path}.{{{name}}}", f"use {path}.TheVariants as {called}"]
+            variants = " (\n    ".join(f'variant (codes "0x{number}") unit' for _, number in rows) + " no_variants" + ")" * (len(rows) - 1)
+            numbers = "".join(f'{called}_number {called}.{variant} = codes "0x{number}"\n' for variant, number in rows)
+            units = "".join(
+                f"{called}_is_unit {called}.{variant} = record {{ n = 0x{number}; numbered = refl; text = refl; units = λ k. record {{ no_rule = refl; named = refl }} }}\n"
+                for variant, number in rows
+            )
+            table = "".join(f'    (codes "0x{number}", {called}.{variant}) ∷\n' for variant, number in rows)
+            found = "".join(f"{called}_found {called}.{variant} = refl\n" for variant, _ in rows)
+            body += (
+                f"\n-- the numbers of `{name}`\nabbrev pub {called}_variants : Variants\n{called}_variants =\n    {variants}\n"
+                f"\n-- the number of each\nabbrev pub {called}_number : {name} → List ℕ\n{numbers}"
+                f"\npub {called}_is_unit : (x : {name}) → IsUnit {called}_variants ({called}_number x)\nunfolding number rule\n{units}"
+            )
+            if len(rows) > 1:
+                body += (
+                    f"\nabbrev {called}_rows : List (List ℕ × {name})\n{called}_rows =\n{table}    []\n"
+                    f"\n{called}_found : (x : {name}) → row_of ({called}_number x) {called}_rows ≡ Some x\n{found}"
+                    f"\npub {called}_same : (x y : {name}) → {called}_number x ≡ {called}_number y → x ≡ y\n{called}_same x y e = found_same {called}_number {called}_rows {called}_found x y e\n"
+                )
+        for module, names in named(body, LISTED_NAMES).items():
+            lines.insert(1, f"use {module}.{{{', '.join(names)}}}")
+        return "\n".join(lines) + "\n" + body
+
     # ---- code
 
     def code(self, module):
         types = self.table.types_of(module)
-        body = "".join(getattr(self, t.kind if t.kind != "message" else "structure")(t) for t in types)
+        body = "".join(getattr(self, t.kind if t.kind not in ("message", "wrapper") else "structure")(t) for t in types)
         ghosts = "\n".join(re.findall(r"(?:ghost \w+ = \{.*?\};|ensures .*|requires .*)", body, flags=re.DOTALL))
         lines = [f"//! {module.doc}", ""]
         for path, names in named(ghosts, GHOST_NAMES).items():
@@ -200,6 +303,15 @@ class Writer:
                 if names:
                     specs.setdefault(self.crate(t), []).extend(names)
         lines += [f"ghost use Rattle.{crate}.specs.Choices.{{{', '.join(names)}}};" for crate, names in specs.items()]
+        for name, home, _, rows in self.listings():
+            called, path = snake(name), f"{self.table.crate}.specs"
+            if home is module:
+                cited = [f"{called}_is_unit", f"{called}_number"] + [f"{called}_same"] * (len(rows) > 1) + [f"{called}_variants"]
+                lines.append(f"ghost use Rattle.{path}.Listed.{{{', '.join(cited)}}};")
+                more = [f"contracts.{home.name}.{name} as {called}_contract"] if len(rows) > 1 else [f"declared.{home.name}.{name}.TheVariants as {called}"]
+                lines += [f"ghost use Rattle.{path}.{word};" for word in more]
+            elif re.search(rf"\b{called}_number\b", ghosts):
+                lines.append(f"ghost use Rattle.{path}.Listed.{{{called}_number}};")
         lines.append("")
         uses = named(re.sub(r"ghost (use )?[^;]*;", "", body, flags=re.DOTALL), RUST_NAMES)
         for path, names in named("\n".join(re.findall(r"⟦<(.*?)>⟧", body, flags=re.DOTALL)), RUST_NAMES).items():
@@ -207,11 +319,16 @@ class Writer:
         for t in self.table.types:
             if t not in types and re.search(rf"\b{t.name}\b", body):
                 uses.setdefault(f"{'crate' if t.module.is_own else t.module.crate}::{t.module.name}", []).append(t.name)
+        for t in self.table.types:
+            if t.is_open and t not in types:
+                rules = [f"{t.name}{row.name}Rule" for row in t.variants if row.is_deciding and re.search(rf"\b{t.name}{row.name}Rule\b", body)]
+                uses.setdefault(f"{'crate' if t.module.is_own else t.module.crate}::{t.module.name}", []).extend(rules)
+        uses = {path: names for path, names in uses.items() if names}
         if any(t.kind == "message" for t in types):
             uses = {path.replace("kmip_ttlv_parts::", "kmip_ttlv::") if path.endswith(("laws", "shape")) else path: names for path, names in uses.items()}
         for path, names in sorted(uses.items()):
             lines.append(f"use {path}::{names[0]};" if len(names) == 1 else f"use {path}::{{{', '.join(sorted(names))}}};")
-        if "reader::Choice" in body or "reader::read_choice" in body or "reader::Element" in body:
+        if re.search(r"\breader::(Choice|read_choice|Element|Listed)\b", body):
             lines.append("use kmip_ttlv_parts::reader;")
         text = "\n".join(lines) + "\n" + body.rstrip() + "\n"
         return text
@@ -222,7 +339,7 @@ class Writer:
     def names_of(self, t):
         names = [one.relation for one in t.one_ofs]
         if t.kind == "choice":
-            names += [f"{t.snake}_choice", f"Chooses{t.name}", f"Chooses{t.name}Number", f"{t.snake}_numbered", f"{t.snake}_numbered_where", f"{t.snake}_names"]
+            names += [f"{t.snake}_choice", f"Chooses{t.name}", f"{t.snake}_chosen_by", f"{t.snake}_names"]
         return names
 
     def open(self, t):
@@ -230,6 +347,29 @@ class Writer:
         return (
             f"\n/// {t.doc}\npub type {t.name} = Enumeration<0x{t.tag}>;\n\n/// The numbers of `{t.name}` that have a name.\npub mod {t.snake} {{\n"
             f"    use super::{t.name};\n\n{rows}}}\n"
+        ) + "".join(self.rule(f"{t.name}{v.name}Rule", f"{t.name}::{v.name}", f"if 0x{t.tag}==0x{v.number}", t.tag, [f"0x{v.number}"]) for v in t.variants if v.is_deciding)
+
+    def enumeration(self, t):
+        return self.listed(t.name, t.doc, t.tag, [(v.name, v.number, v.doc) for v in t.variants], False)
+
+    def listed(self, name, doc, tag, rows, is_constant):
+        """A closed Enumeration: the type, the table of its numbers, and how it is an element. Of a constant all values are equal."""
+        called, table = snake(name), snake(name).upper()
+        variants = "".join(f"    /// {doc}\n    {variant},\n" for variant, _, doc in rows)
+        numbers = ", ".join(f'("0x{number}", {name}::{variant})' for variant, number, _ in rows)
+        arms = "".join(f'            {name}::{variant} => "0x{number}",\n' for variant, number, _ in rows)
+        equal = "λ x y. true" if is_constant else f"⟦<{name} as PartialEq>⟧.eq"
+        same = "λ x y e. refl" if is_constant else f"λ x y e. true_same {called}_contract.the_type x y ({called}_same x y e)"
+        return (
+            f"\n/// {doc}\n#[derive(Clone, Copy, {'' if is_constant else 'Debug, '}PartialEq, Eq)]\npub enum {name} {{\n{variants}}}\n"
+            f"\n// Each number, and what it stands for.\nconst {table}: [(&str, {name}); {len(rows)}] = [{numbers}];\n"
+            f"\nimpl reader::Listed for {name} {{\n    ghost own = {{ tag_text 0x{tag} }};\n\n    ghost variants = {{ {called}_variants }};\n\n"
+            f"    ghost value = {{ λ x. unit_variant_value (tag_text 0x{tag}) ({called}_number x) }};\n}}\n"
+            f"\nimpl Listed for {name} {{\n    ghost tag = {{ 0x{tag} }};\n\n    ghost variants = {{ {called}_variants }};\n\n"
+            f"    ghost rules = {{ record {{\n      number = {called}_number;\n      units = {called}_is_unit;\n      eq = {equal};\n      same = {same};\n    }} }};\n\n"
+            f"    fn read_listed<'b, A: Allocator + Copy>(scope: &Scope<'b, A>, cursor: &mut Cursor<'b, A>) -> Step<Self, A> {{\n        cursor.listed(scope, &{table})\n    }}\n\n"
+            f"    fn tag() -> u32 {{\n        0x{tag}\n    }}\n\n    #[tactic(auto, unfolding(kmip_ttlv_types::specs::Digits::six_digits))]\n    fn name() -> &'static str {{\n        \"0x{tag}\"\n    }}\n\n"
+            f"    fn number_text(self) -> &'static str {{\n        match self {{\n{arms}        }}\n    }}\n}}\n"
         )
 
     def declared(self, t):
@@ -238,93 +378,55 @@ class Writer:
 
     def structure(self, t):
         k, a = Kinds(t), Kinds.a(t)
-        text = self.declared(t) + "".join(f"    /// {part.doc}\n    pub {part.name}: {k.rust(part)},\n" for part in t.parts) + "}\n"
+        constants = [part for part in t.parts if part.is_constant]
+        text = self.declared(t) + "".join(f"    /// {part.doc}\n    pub {part.name}: {k.rust(part)},\n" for part in t.parts if part not in constants) + "}\n"
+        for part in constants:
+            text += self.listed(part.constant, f"What `{part.name}` of a `{t.name}` always is.", part.tag, [("Only", part.number, "The number.")], True)
         for one in t.one_ofs:
             text += self.one_of(t, one)
-        for found in t.choices:
-            if found.is_simple and found.decider.is_open:
-                continue
-            bound = "<A: Allocator>" if t.owns else ""
-            lines = "".join(f"        {line}\n" for line in ([found.test] if found.is_simple else found.body))
-            relation = self.relation(found).replace("x.", "self.now.")
-            text += (
-                f"\nimpl{bound} {t.name}{a} {{\n    // {found.purpose}\n    fn {found.function}(&self) -> bool\n        ensures {{ IsTrue result ↔ {relation} }}\n"
-                f"    {{\n{lines}    }}\n}}\n"
-            )
-        has_a = bool(re.search(r"\bA\b", k.parts))
-        la = "<A>" if has_a else ""
-        quoted = f"⟦<{t.name}Parts{la} as PartList<A>>⟧"
+        text += self.decision(t)
+        lists = k.lists
+        *_, whole = lists
+        parts = f"{whole}{'<A>' if any(has_a(listed) for listed in lists.values()) else ''}"
+        for name, listed in lists.items():
+            text += f"\ntype {name}{'<A>' if has_a(listed) else ''} = {listed};\n"
         closed = "true" if t.denies else "false"
-        text += f"\ntype {t.name}Parts{la} = {k.parts};\n"
-        rules = f"(of (λ x. {k.record}) {quoted}.rules) refl"
         decides, needed = self.decides(t)
-        if decides:
-            item = f"structure_where 0x{t.tag} {closed} {rules}\n        (λ x. {decides}) (λ x d. {needed})"
-        else:
-            item = f"structure 0x{t.tag} {closed} {rules}"
-        names = [part.name for part in t.parts]
-        text += (
+        held, names = k.held(["_" if part in constants else part.name for part in t.parts]), ", ".join(part.name for part in t.parts if part not in constants)
+        rules = f"structure{'_where' if decides else ''} {closed} ⟦<{parts} as PartList<A>>⟧.rules ⟦<{t.name}{a} as FromParts<A, {parts}>>⟧.parts refl"
+        rules += f"\n        (λ x. {decides}) (λ x d. {needed})" if decides else ""
+        return text + (
+            f"\nimpl<A: Allocator + Copy> FromParts<A, {parts}> for {t.name}{a} {{\n    ghost parts = {{ λ x. {k.record} }};\n\n"
+            f"    fn from_parts({held}: Holds<{parts}, A>) -> Self {{\n        {t.name} {{ {names} }}\n    }}\n}}\n"
             f"\nimpl<A: Allocator + Copy> Structure<A> for {t.name}{a} {{\n"
-            f"    ghost item = {{ {item}\n        ⟦<{t.name}{a} as PartialEq>⟧.eq (λ x y e. e) }};\n\n"
-            f"    fn number() -> u32 {{\n        0x{t.tag}\n    }}\n\n"
-            f"    fn read_nested<'b>(scope: &Scope<'b, A>, cursor: &mut Cursor<'b, A>) -> Step<Self, A> {{\n"
-            f"        match read_parts::<{t.name}Parts{la}, A>(scope, 0x{t.tag}, {closed}, cursor) {{\n            Ok(parts) => {{\n"
-            f"{self.taken(t, names)}            }}\n            Err(failure) => Err(failure),\n        }}\n    }}\n\n"
-            f"{self.visit(t, k)}\n{self.is_whole(t, k)}\n    ghost structured = {{ (refl, refl) }};\n}}\n"
-        )
-        return text + (self.message(t, la, closed, names) if t.kind == "message" else "")
+            f"    ghost rules = {{ {rules} ⟦<{t.name}{a} as PartialEq>⟧.eq (λ x y e. e) }};\n\n"
+            f"    fn read<'b>(scope: &Scope<'b, A>, tag: u32, cursor: &mut Cursor<'b, A>) -> Step<Self, A> {{\n"
+            f"        read_structure::<{parts}, Self, A>(scope, tag, {closed}, cursor)\n    }}\n\n"
+            f"    fn tell_parts<W: Walk<A>>(&self, state: &mut W::State) -> Result<(), AllocError> {{\n{self.telling(t, k)}    }}\n}}\n"
+        ) + (self.message(t, parts, closed) if t.kind == "message" else self.wrapper(t, k) if t.kind == "wrapper" else "")
 
-    def taken(self, t, names):
-        """The lines that make a value of its parts."""
-        lines, at, rest = [], "parts", names
-        while len(rest) > 4:
-            behind = "others" if len(rest) <= 8 else f"others_{len(rest) - 4}"
-            lines.append(f"let ({', '.join(rest[:4])}, {behind}) = {at};")
-            at, rest = behind, rest[4:]
-        lines.append(f"let ({', '.join(rest)}) = {at};" if len(rest) > 1 else f"let {rest[0]} = {at};")
-        lines.append(f"Ok({t.name} {{ {', '.join(names)} }})")
-        return "".join(f"                {line}\n" for line in lines)
-
-    def visit(self, t, k):
-        head = "    fn visit_parts<V: Visitor>(&self, visitor: &mut V) -> Result<(), AllocError> {\n"
-        calls = []
-        for chunk in k.chunks:
-            kinds = ", ".join(k.kind(part) for part in chunk)
-            lent = ", ".join(f"&self.{part.name}" for part in chunk)
-            calls.append((COUNT[len(chunk)], kinds, lent))
-        if len(calls) == 1:
-            count, kinds, lent = calls[0]
-            return f"{head}        visit_structure_{count}::<{kinds}, V, A>(visitor, 0x{t.tag}, {lent})\n    }}\n"
-        lines = "".join(f"        visit_{count}::<{kinds}, V, A>(visitor, {lent})?;\n" for count, kinds, lent in calls)
+    def wrapper(self, t, k):
+        """How a type may hold what is in it, without it."""
+        inner, name = k.inner(t), t.given[0].name
         return (
-            f"{head}        writing::begin_structure(visitor, 0x{t.tag})?;\n{lines}        writing::end_structure(visitor, 0x{t.tag})?;\n        Ok(())\n    }}\n"
+            f"\nimpl<A: Allocator + Copy> Wrapper<{inner}, A> for {t.name}{k.a(t)} {{\n    ghost wrap = {{ λ x. record {{ {name} = x }} }};\n\n"
+            f"    fn into_inner(self) -> {inner} {{\n        self.{name}\n    }}\n\n"
+            f"    fn tell_inner<W: Walk<A>>(inner: &{inner}, state: &mut W::State) -> Result<(), AllocError> {{\n{self.telling(t, k, 'inner')}    }}\n}}\n"
         )
 
-    def is_whole(self, t, k):
+    def telling(self, t, k, inner=""):
+        """The lines that tell a walk of its parts, and what is decided of them."""
+        if t.kind == "wrapper" and not inner:
+            return f"        Self::tell_inner::<W>(&self.{t.given[0].name}, state)\n"
         calls = []
         for chunk in k.chunks:
-            kinds = ", ".join(k.kind(part) for part in chunk)
-            lent = ", ".join(f"&self.{part.name}" for part in chunk)
-            calls.append(f"are_whole_{COUNT[len(chunk)]}::<{kinds}, A>({lent})")
-        lines, whole = [], calls[-1]
-        names = ["first_four", "next_four", "further_four"]
-        for place, call in enumerate(calls[:-1]):
-            lines.append(f"let {names[place]} = {call};")
-        if len(calls) > 1:
-            lines.append(f"let others = {calls[-1]};")
-            whole = "others"
-            for place in reversed(range(len(calls) - 1)):
-                if place:
-                    lines.append(f"let others_{place} = both({names[place]}, {whole});")
-                    whole = f"others_{place}"
-                else:
-                    whole = f"both({names[place]}, {whole})"
-        test = self.decided(t)
-        if test:
-            lines += [f"let parts = {whole};", f"let chosen = {test};"]
-            whole = "both(parts, chosen)"
-        body = "".join(f"        {line}\n" for line in [*lines, whole])
-        return f"    fn is_whole(&self) -> bool {{\n{body}    }}\n"
+            kinds, lent = ", ".join(k.kind(part) for part in chunk), ", ".join(inner if inner and part is t.given[0] else f"&{k.only(part) if part.kind == 'constant' else f'self.{part.name}'}" for part in chunk)
+            calls.append(f"W::{COUNT[len(chunk)]}::<{kinds}>(state, {lent})")
+        decides = bool(t.choices or t.one_ofs)
+        if len(calls) == 1 and not decides:
+            return f"        {calls[0]}\n"
+        lines = [f"{call}?;" for call in calls] + (["W::check(state, self);"] if decides else []) + ["Ok(())"]
+        return "".join(f"        {line}\n" for line in lines)
 
     # ---- what a rule decides
 
@@ -344,14 +446,26 @@ class Writer:
             return "", ""
         return " × ".join(says), self.needed(t, needs, says)
 
+    def decision(self, t):
+        """How it is decided that the rules choose what is there, or that one of a group is."""
+        says = [self.relation(found) for found in t.choices] + [f"({one.is_one})" for one in t.one_ofs]
+        if not says:
+            return ""
+        (lines,) = [found.body for found in t.choices] + [[f"self.{one.name}().is_some()"] for one in t.one_ofs]
+        return (
+            f"\nimpl{'<A: Allocator>' if t.owns else ''} Decided for {t.name}{Kinds.a(t)} {{\n    ghost IsDecided = {{ λ x. {says[0]} }};\n\n"
+            f"    fn is_decided(&self) -> bool {{\n{''.join(f'        {line}{chr(10)}' for line in lines)}    }}\n}}\n"
+        )
+
     def relation(self, found):
         part, decider = found.part, found.decider
-        number = decider.is_open
-        chooses = f"Chooses{part.type.name}{'Number' if number else ''}"
-        key = (lambda at: f"{at}.number") if number else (lambda at: f"(string_bytes {at})")
+        if decider.is_open:
+            chosen = lambda z, y: f"{z}.number ≡ {part.type.snake}_chosen_by {y}"
+        else:
+            chosen = lambda z, y: f"Chooses{part.type.name} {decider.said(z)} {y}"
         if part.count == "one" and decider.count == "one":
-            return f"{chooses} {key('x.' + decider.name)} x.{part.name}"
-        inner = f"IsSomeAnd x.{decider.name} (λ z. {chooses} {key('z')} y)" if decider.count == "optional" else f"{chooses} {key('x.' + decider.name)} y"
+            return f"({chosen(f'x.{decider.name}', f'x.{part.name}')})"
+        inner = f"IsSomeAnd x.{decider.name} (λ z. {chosen('z', 'y')})" if decider.count == "optional" else chosen(f"x.{decider.name}", "y")
         return f"IfSome x.{part.name} (λ y. {inner})"
 
     def needed(self, t, needs, says):
@@ -359,37 +473,33 @@ class Writer:
         place, terms = 0, []
         for part, found in zip(t.parts, needs):
             if not found:
-                terms.append("tt")
+                is_typed = part.type and part.type.kind == "choice" and part.count == "optional"
+                terms.append(f"all_enough x.{part.name} (λ y. tt)" if is_typed else "tt")
                 continue
             known = "d" if len(says) == 1 else f"d.{place}"
             place += 1
-            if found.part.count == "one" and found.decider.count == "one":
-                if found.decider.is_open:
-                    terms.append(f"{found.part.type.snake}_numbered x.{found.decider.name}.number x.{found.part.name} {known}")
-                else:
-                    terms.append(known)
+            if not found.decider.is_open:
+                terms.append(known)
+            elif found.part.count == "one" and found.decider.count == "one":
+                terms.append(f"ap text_of_number {known}")
             else:
-                terms.append(f"{found.part.type.snake}_numbered_where x.{found.decider.name} x.{found.part.name} {known}")
+                terms.append(f"numbered_where {found.part.type.snake}_chosen_by x.{found.decider.name} x.{found.part.name} {known}")
         return brackets(terms)
 
-    def decided(self, t):
-        tests = [test for _, test in self.tests_of(t)]
-        return " && ".join(tests)
-
-    def message(self, t, la, closed, names):
-        a = Kinds.a(t)
-        item = f"⟦<{t.name}{a} as Structure<A>>⟧.item"
+    def message(self, t, parts, closed):
+        a, bound, any_a = Kinds.a(t), "<A: Allocator + Copy>", "A" if t.owns else "Global"
+        item = lambda alloc: f"⟦<Of<{t.name}{a}, 0x{t.tag}> as Element<{alloc}>>⟧"
+        own = bound if t.owns else ""
         return (
-            f"\nimpl<A: Allocator + Copy> Serialize for {t.name}{a} {{\n    ghost stated = {{ {item}.rules.written }};\n\n"
-            f"    fn visit<V: Visitor>(&self, visitor: &mut V) -> Result<(), AllocError> {{\n        <{t.name}{a} as Structure<A>>::visit_parts(self, visitor)\n    }}\n}}\n"
-            f"\nimpl<A: Allocator + Copy> Decode<A> for {t.name}{a} {{\n    ghost form = {{ {item}.form }};\n\n"
-            f"    ghost is_value = {{ λ v x. v ≡ {item}.value x }};\n\n"
-            f"    fn decode(alloc: A, bytes: &[u8]) -> Result<Self, Error<A>> {{\n"
-            f"        match read_message_parts::<{t.name}Parts{la}, A>(alloc, 0x{t.tag}, {closed}, bytes) {{\n            Ok(parts) => {{\n"
-            f"{self.taken(t, names)}            }}\n            Err(error) => Err(error),\n        }}\n    }}\n}}\n"
-            f"\nimpl<A: Allocator + Copy> Sound for {t.name}{a} {{\n    ghost IsSound = {{ {item}.rules.IsSound }};\n\n"
-            f"    fn is_sound(&self) -> bool {{\n        <{t.name}{a} as Structure<A>>::is_whole(self)\n    }}\n}}\n"
-            f"\nimpl<A: Allocator + Copy> Message<A> for {t.name}{a} {{\n    fn comes_back() {{\n        structures_come_back::<{t.name}{a}, A>();\n    }}\n}}\n"
+            f"\nimpl{own} Serialize for {t.name}{a} {{\n    ghost stated = {{ {item(any_a)}.rules.written }};\n\n"
+            f"    fn visit<V: Visitor>(&self, visitor: &mut V) -> Result<(), AllocError> {{\n"
+            f"        {'visit_structure' if t.owns else f'visit_structure::<{t.name}, V, Global>'}(self, 0x{t.tag}, visitor)\n    }}\n}}\n"
+            f"\nimpl{bound} Decode<A> for {t.name}{a} {{\n    ghost form = {{ {item('A')}.form }};\n\n"
+            f"    ghost is_value = {{ λ v x. v ≡ {item('A')}.value x }};\n\n"
+            f"    fn decode(alloc: A, bytes: &[u8]) -> Result<Self, Error<A>> {{\n        decode_structure::<{parts}, Self, A>(alloc, 0x{t.tag}, {closed}, bytes)\n    }}\n}}\n"
+            f"\nimpl{own} Sound for {t.name}{a} {{\n    ghost IsSound = {{ {item(any_a)}.rules.IsSound }};\n\n"
+            f"    fn is_sound(&self) -> bool {{\n        {'is_structure_whole' if t.owns else f'is_structure_whole::<{t.name}, Global>'}(self)\n    }}\n}}\n"
+            f"\nimpl{bound} Message<A> for {t.name}{a} {{\n    fn comes_back() {{\n        structures_come_back::<{t.name}{a}, 0x{t.tag}, A>();\n    }}\n}}\n"
         )
 
     # ---- groups
@@ -406,29 +516,37 @@ class Writer:
         return (
             f"\nimpl{bound} {t.name}{a} {{\n    /// {one.doc} None if none is there, or more than one.\n"
             f"    pub fn {one.name}(&self) -> Option<{one.group.name}<'_{', A' if one.group.owns else ''}>>\n"
-            f"        ensures {{ {one.relation} self.now result }}\n    {{\n        match ({lent}) {{\n{arms}            _ => None,\n        }}\n    }}\n\n    // Whether exactly one is there.\n    fn has_{one.name}(&self) -> bool\n"
-            f"        ensures {{ IsTrue result ↔ {one.is_one.replace('x.', 'self.now.')} }}\n    {{\n        self.{one.name}().is_some()\n    }}\n}}\n"
+            f"        ensures {{ {one.relation} self.now result }}\n    {{\n        match ({lent}) {{\n{arms}            _ => None,\n        }}\n    }}\n}}\n"
         )
 
     # ---- choices
 
     def element(self, t, variant):
         """The element that a variant holds, in kmip_ttlv_kinds; of a choice the choice itself."""
+        if variant.number:
+            return f"ListedItem<{variant.constant}>"
         if variant.leaf:
-            return f"LeafItem<{RUST[variant.leaf.word]}, 0x{t.tag}>"
+            return f"LeafItem<{variant.leaf.rust}, 0x{t.tag}>"
         inner = f"{variant.type.name}{Kinds.a(variant.type)}"
         if variant.type.kind == "choice":
             return inner
         if variant.type.is_open:
             return inner if variant.type.tag == t.tag else f"Under<{inner}, 0x{t.tag}>"
-        return f"Of<{inner}>"
+        return Kinds.structure(variant.type, t.tag)
 
     def inside(self, variant):
-        return RUST[variant.leaf.word] if variant.leaf else f"{variant.type.name}{Kinds.a(variant.type)}"
+        if variant.number:
+            return variant.constant
+        if variant.wrapper:
+            return Kinds.inner(variant.type)
+        return variant.leaf.rust if variant.leaf else f"{variant.type.name}{Kinds.a(variant.type)}"
 
     def choice(self, t):
         a, bound = Kinds.a(t), "<A: Allocator>" if t.owns else ""
-        text = self.declared(t) + "".join(f"    /// {v.doc}\n    {v.name}({self.inside(v)}),\n" for v in t.variants) + "}\n"
+        text = self.declared(t) + "".join(f"    /// {v.doc}\n    {v.name}{'' if v.number else f'({self.inside(v)})'},\n" for v in t.variants) + "}\n"
+        for v in t.variants:
+            if v.number:
+                text += self.listed(v.constant, f"What `{t.name}::{v.name}` is encoded as.", t.tag, [("Only", v.number, "The number.")], True)
         text += self.tests(t, a, bound)
         items = []
         for v in t.variants:
@@ -436,31 +554,25 @@ class Writer:
             if v.inner:
                 items.append(f"{snake(v.name)} = held_choice ⟦<{element} as Choice<A>>⟧.chosen refl (λ x. refl) (λ x said c. c) (λ x y e. e)")
             else:
-                items.append(f"{snake(v.name)} = held ⟦<{element} as Element<A>>⟧.rules refl refl (λ x y e. e)")
+                items.append(f"{snake(v.name)} = held ⟦<{element} as Element<A>>⟧.rules refl refl (λ x y e. {'refl' if v.number else 'e'})")
         lines = ";\n        ".join(items)
         eq = f"⟦<{t.name}{a} as PartialEq>⟧.eq"
-        visits, wholes = "", ""
+        arms = ""
         for v in t.variants:
-            element = self.element(t, v)
-            if v.inner:
-                visits += f"            {t.name}::{v.name}(inner) => <{element} as Choice<A>>::visit_chosen(inner, visitor),\n"
-                wholes += f"            {t.name}::{v.name}(inner) => <{element} as Choice<A>>::is_whole(inner),\n"
-            else:
-                visits += f"            {t.name}::{v.name}(inner) => <{element} as Element<A>>::visit_one(inner, visitor),\n"
-                wholes += f"            {t.name}::{v.name}(inner) => <{element} as Element<A>>::is_whole(inner),\n"
+            told = "inner.tell_held::<W>(state)" if v.inner else f"W::item::<{self.element(t, v)}>(state, inner)"
+            arms += f"            {t.name}::{v.name}{'' if v.number else '(inner)'} => {told.replace('inner', f'&{v.constant}::Only') if v.number else told},\n"
         text += (
             f"\nimpl<A: Allocator + Copy> Choice<A> for {t.name}{a} {{\n    ghost chosen = {{ {t.snake}_choice {eq} record {{\n        {lines};\n      }} }};\n\n"
             f"    fn read_chosen<'b>(scope: &Scope<'b, A>, cursor: &mut Cursor<'b, A>) -> Step<Self, A> {{\n        reader::read_choice(scope, cursor)\n    }}\n\n"
-            f"    fn visit_chosen<V: Visitor>(&self, visitor: &mut V) -> Result<(), AllocError> {{\n        match self {{\n{visits}        }}\n    }}\n\n"
-            f"    fn is_whole(&self) -> bool {{\n        match self {{\n{wholes}        }}\n    }}\n\n    ghost plain = {{ (refl, refl) }};\n}}\n"
+            f"    fn tell_held<W: Walk<A>>(&self, state: &mut W::State) -> Result<(), AllocError> {{\n        match self {{\n{arms}        }}\n    }}\n\n    ghost plain = {{ (refl, refl) }};\n}}\n"
         )
         for v in t.variants:
-            text += self.rule(t, v)
+            text += self.variant(t, v)
         for at, end in t.chunks[1:]:
             text += self.later(t, at, end)
         text += (
             f"\nimpl{bound.replace('Allocator', 'Allocator + Copy')} ChoiceValue for {t.name}{a} {{\n    ghost own = {{ codes \"{t.shape_name}\" }};\n\n"
-            f"    ghost value = {{ ⟦<{t.name}{a} as Choice<A>>⟧.chosen.value }};\n}}\n"
+            f"    ghost value = {{ ⟦<{t.name}{a} as Choice<{'A' if t.owns else 'Global'}>>⟧.chosen.value }};\n}}\n"
             f"\nimpl<A: Allocator + Copy> reader::Choice<A> for {t.name}{a} {{\n    ghost form = {{ ⟦<{t.name}{a} as Choice<A>>⟧.chosen.form }};\n\n"
             f"    type Variants = {self.variants(t, *t.chunks[0])};\n\n    fn has_form() {{}}\n}}\n"
         )
@@ -468,7 +580,7 @@ class Writer:
 
     def variants(self, t, at, end):
         behind = f"{t.name}Later{end}" if end < len(t.variants) else "()"
-        items = [f"Variant<{v.rule_type}, {self.as_element(t, v)}>" for v in t.variants[at:end]]
+        items = [f"Variant<{self.rule_type(v)}, {self.as_element(t, v)}>" if v.inner else f"Case<{self.rule_type(v)}, {self.element(t, v)}>" for v in t.variants[at:end]]
         return "".join(f"({item}, " for item in items) + behind + ")" * len(items)
 
     def as_element(self, t, v):
@@ -485,25 +597,41 @@ class Writer:
             f"        {quoted}::read_chosen(scope, cursor, typ)\n    }}\n\n    ghost ruled = {{ λ content. refl }};\n}}\n"
         )
 
-    def rule(self, t, v):
-        a = Kinds.a(t)
-        if v.rule_parts:
-            texts = ", ".join(f'"{text}"' for text in v.rule_parts[1])
-            parts = (
-                f"    #[tactic(auto, unfolding(kmip_ttlv_reader::specs::RuleParts::parts_of))]\n    fn parts() -> Option<RuleParts> {{\n"
-                f"        Some(RuleParts::Texts {{ tag: 0x{v.rule_parts[0]}, texts: &[{texts}] }})\n    }}\n"
-            )
+    def decider(self, v):
+        """The rule of a variant that an Enumeration has, if one has it."""
+        tag, texts = v.rule_parts or ("", [])
+        rows = [(t, row) for t in self.table.types if t.is_open and t.tag == tag for row in t.variants]
+        return next((f"{t.name}{row.name}Rule" for t, row in rows if row.is_deciding and f"0x{row.number}" == texts[0]), "")
+
+    def rule_type(self, v):
+        return self.decider(v) or v.rule_type
+
+    def rule(self, name, chosen, rule, tag, texts):
+        """The type of a rule by the text of a tag; without one, by the type of the item."""
+        if tag:
+            listed = ", ".join(f'"{text}"' for text in texts)
+            unfolded, parts = "parts_of", f"texts_in(0x{tag}, &[{listed}])"
         else:
-            parts = (
-                f"    #[tactic(auto, unfolding(kmip_ttlv_reader::specs::RuleParts::equal_sides))]\n    fn parts() -> Option<RuleParts> {{\n"
-                f"        Some(RuleParts::Type(TtlvType::{v.chosen_type}))\n    }}\n"
-            )
+            unfolded, parts = "equal_sides", f"Some(RuleParts::Type(TtlvType::{texts[0]}))"
         return (
-            f"\n/// The rule that chooses `{t.name}::{v.name}`.\npub struct {v.rule_type};\n\nimpl Rule for {v.rule_type} {{\n"
-            f"    ghost condition = {{ codes \"{v.rule.removeprefix('if ')}\" }};\n\n    fn name() -> &'static str {{\n        \"{v.rule}\"\n    }}\n\n{parts}}}\n"
-            f"\nimpl<A: Allocator + Copy> VariantOf<{self.as_element(t, v)}, {t.name}{a}, A> for {v.rule_type} {{\n"
-            f"    #[tactic(auto, unfolding(crate::specs::Choices::{t.snake}_by))]\n    fn from_content(inner: {self.inside(v)}) -> {t.name}{a} {{\n        {t.name}::{v.name}(inner)\n    }}\n}}\n"
+            f"\n/// The rule that chooses `{chosen}`.\npub struct {name};\n\nimpl Rule for {name} {{\n    ghost condition = {{ codes \"{rule.removeprefix('if ')}\" }};\n\n"
+            f"    fn name() -> &'static str {{\n        \"{rule}\"\n    }}\n\n    #[tactic(auto, unfolding(kmip_ttlv_reader::specs::RuleParts::{unfolded}))]\n"
+            f"    fn parts() -> Option<RuleParts> {{\n        {parts}\n    }}\n}}\n"
         )
+
+    def variant(self, t, v):
+        """How a variant is made of what is read, and its rule, unless an Enumeration has that."""
+        a, name = Kinds.a(t), self.rule_type(v)
+        tag, texts = v.rule_parts or ("", [v.chosen_type])
+        text = "" if self.decider(v) else self.rule(name, f"{t.name}::{v.name}", v.rule, tag, texts)
+        return text + (
+            f"\nimpl<A: Allocator + Copy> VariantOf<{self.as_element(t, v)}, {t.name}{a}, A> for {name} {{\n"
+            f"    #[tactic(auto, unfolding(crate::specs::Choices::{t.snake}_by))]\n    fn from_content(inner: {self.inside(v)}) -> {t.name}{a} {{\n        {self.made(t, v)}\n    }}\n}}\n"
+        )
+
+    def made(self, t, v):
+        """A variant, of what is read."""
+        return f"match inner {{ {v.constant}::Only => {t.name}::{v.name} }}" if v.number else f"{t.name}::{v.name}(inner)"
 
     def tests(self, t, a, bound):
         """What decides whether a text or a number chooses what is held."""
@@ -517,17 +645,16 @@ class Writer:
                 f"\n// Whether a text is none of these.\nfn is_no_{t.snake}(text: &str) -> bool\n    ensures {{ IsTrue result ↔ IsNoneOf text.now {t.snake}_names }}\n"
                 f"{{\n    is_none_of(text, &{t.screaming}_NAMES)\n}}\n"
             )
-        arms = "".join(f"            {t.name}::{v.name}({'inner' if v.inner else '_'}) => {v.test(t)},\n" for v in t.variants)
-        numbers = ""
         if t.is_by_numbers:
-            rows = "".join(f"            {t.name}::{v.name}(_) => {' || '.join(f'number == {text}' for text in v.rule_parts[1])},\n" for v in t.variants)
-            numbers = (
-                f"\n    /// The same of an Enumeration's number.\n    pub fn is_chosen_by_number(&self, number: u32) -> bool\n"
-                f"        ensures {{ IsTrue result ↔ Chooses{t.name}Number number self.now }}\n    {{\n        match self {{\n{rows}        }}\n    }}\n"
+            rows = "".join(f"            {t.name}::{v.name}(_) => {v.rule_parts[1][0]},\n" for v in t.variants)
+            return (
+                f"\nimpl{bound} {t.name}{a} {{\n    /// The number that chooses it, of the Enumeration 0x{t.rule_tag}.\n    pub fn chosen_by(&self) -> u32\n"
+                f"        ensures {{ result ≡ {t.snake}_chosen_by self.now }}\n    {{\n        match self {{\n{rows}        }}\n    }}\n}}\n"
             )
+        arms = "".join(f"            {t.name}::{v.name}{'' if v.number else '(inner)' if v.inner else '(_)'} => {v.test(t)},\n" for v in t.variants)
         return text + (
             f"\nimpl{bound} {t.name}{a} {{\n    /// Whether this text, if it is that of 0x{t.rule_tag}, chooses it.\n    pub fn is_chosen_by(&self, text: &str) -> bool\n"
-            f"        ensures {{ IsTrue result ↔ Chooses{t.name} text.now self.now }}\n    {{\n        match self {{\n{arms}        }}\n    }}\n{numbers}}}\n"
+            f"        ensures {{ IsTrue result ↔ Chooses{t.name} text.now self.now }}\n    {{\n        match self {{\n{arms}        }}\n    }}\n}}\n"
         )
 
     # ---- answers
@@ -535,84 +662,39 @@ class Writer:
     def impl_of(self, t, trait):
         """What the prover calls the impl of a trait for a type: in full where a type has that name, or the reader a trait of it."""
         is_taken = trait == "Choice" or any(other.name == f"{t.name}{trait}" for other in self.table.types)
-        return f"{t.name}Any{trait}Any" if is_taken else f"{t.name}{trait}"
+        return f"{t.name}{'Any' * t.owns}{trait}Any" if is_taken else f"{t.name}{trait}"
 
     def answers(self, t, trait, function, imports, rows):
         goal = f"Rattle.{self.table.crate}.proofs.{t.module.name}.{self.impl_of(t, trait)}.{function}.Goals"
         return "\n".join(["-- What it answers, by what it holds.", *imports, f"use {goal} as goal"]) + "\n" + rows
 
-    def wholes(self, t):
-        rows = ""
-        for at, v in enumerate(t.variants):
-            call = "c.is_whole" if at == 0 else f"c.is_whole-in-{v.name}"
-            rows += (
-                f"\npub returns-in-{v.name} : goal.returns-in-{v.name}\n"
-                f"returns-in-{v.name} g c = {t.snake}_fact_of_{snake(v.name)} _ c.in-{v.name}.is {call}.ensures\n"
-            )
-        return self.answers(t, "Choice", "is_whole", [
-            f"use Rattle.{self.table.crate}.specs.Choices.{{{', '.join(f'{t.snake}_fact_of_{snake(v.name)}' for v in t.variants)}}}",
-        ], rows)  # fmt: skip
-
-    def visits(self, t):
+    def held_told(self, t):
         rows, met = "", set()
         for v in t.variants:
-            name = "visit_chosen" if v.inner else "visit_one"
+            name = "tell_held" if v.inner else "item"
             call = f"c.{name}-in-{v.name}" if name in met else f"c.{name}"
             met.add(name)
             rows += (
-                f"\npub returns-in-{v.name}-clause-received : goal.returns-in-{v.name}-clause-received\n"
-                f"returns-in-{v.name}-clause-received g c =\n"
-                f"    let told : Value → Type 0 = λ v. OnOk {call}.result (Receives g.V.Visitor.knows g.V.Visitor.step v c.args.visitor.now {call}.new.visitor) in\n"
-                f"    subst told (sym ({t.snake}_value_of_{snake(v.name)} _ c.in-{v.name}.is)) {call}.ensures.received\n"
+                f"\npub returns-in-{v.name}-clause-told : goal.returns-in-{v.name}-clause-told\nunfolding {t.snake}_by\n"
+                f"returns-in-{v.name}-clause-told g c = told_as ({t.snake}_by _) (λ t. OnOk {call}.result (g.W.Walk.steps.Takes c.args.state.now t {call}.new.state)) c.in-{v.name}.is {call}.ensures.told\n"
             )
-        return self.answers(t, "Choice", "visit_chosen", [
-            "use Rattle.std.proofs.Common.{subst, sym}", "use Rattle.std.specs.Prelude.{OnOk}", "use Rattle.kmip_ttlv_parts.specs.Visits.{Receives}", "use Rattle.kmip_ttlv_parts.specs.Values.{Value}",
-            f"use Rattle.{self.table.crate}.specs.Choices.{{{', '.join(f'{t.snake}_value_of_{snake(v.name)}' for v in t.variants)}}}",
+        return self.answers(t, "Choice", "tell_held", [
+            "use Rattle.std.specs.Prelude.{OnOk}", "use Rattle.kmip_ttlv_kinds.specs.Choices.{told_as}", f"use Rattle.{self.table.crate}.specs.Choices.{{{t.snake}_by}}",
         ], rows)  # fmt: skip
 
-    def whole(self, t):
-        chunks = Kinds(t).chunks
-        names = ["first_four", "next_four", "further_four"]
-        calls = [f"c.are_whole_{COUNT[len(chunk)]}-{name}.ensures" for chunk, name in zip(chunks, [*names[: len(chunks) - 1], "others"])]
-        if len(chunks) == 1:
-            parts = f"c.are_whole_{COUNT[len(chunks[0])]}-parts.ensures"
-        else:
-            parts = calls[-1]
-            for place in reversed(range(len(chunks) - 1)):
-                both = "c.both" if place == 0 and not self.decided(t) else "c.both-parts" if place == 0 else f"c.both-others_{place}"
-                parts = f"(all_sound {both}.ensures {calls[place]} {parts})"
-        tests = [name for name, _ in self.tests_of(t)]
-        whole = f"all_sound c.both.ensures {parts} c.{tests[0]}-chosen.ensures" if tests else parts[1:-1]
-        rows = f"\npub returns : goal.returns\nreturns g c = {whole}\n"
-        return self.answers(t, "Structure", "is_whole", ["use Rattle.kmip_ttlv_kinds.proofs.Whole.{all_sound}"], rows)
-
-    def visited(self, t):
-        counts, behind = {}, ""
-        calls = []
+    def parts_told(self, t):
+        counts, calls = {}, []
         for chunk in Kinds(t).chunks:
-            name = f"visit_{COUNT[len(chunk)]}"
+            name = COUNT[len(chunk)]
             counts[name] = counts.get(name, 0) + 1
-            calls.append(f"c.in_ok-{name}{f'-{counts[name]}' if counts[name] > 1 else ''}.ensures.received")
-        behind = f"(record {{ receives = {calls[-1]} }})"
+            calls.append(f"c.in_ok-{name}{f'-{counts[name]}' if counts[name] > 1 else ''}.ensures.told")
+        told = calls[-1]
         for call in reversed(calls[:-1]):
-            behind = f"(block_received _ {call} {behind})"
-        rows = (
-            f"\npub returns-clause-received : goal.returns-clause-received\nreturns-clause-received g c =\n"
-            f"    structure_received g.V.Visitor.knows g.V.Visitor.step _ refl c.in_ok-begin_structure.ensures.received\n    {behind}\n    c.in_ok-end_structure.ensures.received\n"
-        )
-        return self.answers(t, "Structure", "visit_parts", [
-            "use Rattle.std.proofs.Common.{refl}", "use Rattle.kmip_ttlv_parts.proofs.Receiving.{structure_received}", "use Rattle.kmip_ttlv_kinds.proofs.Whole.{block_received}",
-        ], rows)  # fmt: skip
-
-    def tests_of(self, t):
-        """The calls that decide what is chosen, each by the name of the function."""
-        for found in t.choices:
-            if found.is_simple and found.decider.is_open:
-                yield "is_chosen_by_number", found.test
-            else:
-                yield found.function, f"self.{found.function}()"
-        for one in t.one_ofs:
-            yield f"has_{one.name}", f"self.has_{one.name}()"
+            told = f"(g.W.Walk.steps.behind _ _ _ _ _ {call} {told})"
+        if t.choices or t.one_ofs:
+            told = f"(g.W.Walk.steps.checked _ _ _ _ _ {told} c.check.ensures)"
+        rows = f"\npub returns-clause-told : goal.returns-clause-told\nreturns-clause-told g c = {told[1:-1]}\n"
+        return self.answers(t, "Structure", "tell_parts", [], rows)
 
     # ---- definitions
 
@@ -625,9 +707,18 @@ class Writer:
         lines += ["use Rattle.std.proofs.Common.{Bool as Boole}", "use Rattle.kmip_ttlv_parts.specs.declared.types.TtlvType.{TtlvType}", "use Rattle.kmip_ttlv_parts.specs.declared.types.TtlvType.TheVariants as types"]
         groups = {one.group.name: one.group for t in types for one in t.one_ofs}
         held = {v.type.name: v.type for t in types if t.kind == "choice" for v in t.variants if v.type and not v.type.is_open and v.type not in types}
+        for wrapper in [t for t in held.values() if t.kind == "wrapper"]:
+            inmost = wrapper
+            while inmost.kind == "wrapper" and inmost.given[0].type:
+                inmost = inmost.given[0].type
+            held.setdefault(inmost.name, inmost)
         if "Enumeration" in body:
             lines.append("use Rattle.kmip_ttlv_parts.specs.declared.enumeration.Enumeration.{Enumeration}")
-        if re.search(r"\bString A\b|\bVec ℕ A\b", body):
+        for name, module, _, _ in self.listings():
+            if re.search(rf"\b{name}\b", body):
+                path = f"Rattle.{self.table.crate}.specs.declared.{module.name}.{name}"
+                lines += [f"use {path}.{{{name}}}", f"use {path}.TheVariants as {snake(name)}"]
+        if re.search(r"\bString A\b|\bVec .* A\b", body):
             lines.append("use Rattle.std.proofs.Common.{String, Vec}")
         if "ℤ" in body:
             lines.append("use Rattle.std.proofs.Common.{ℤ}")
@@ -650,7 +741,8 @@ class Writer:
         arrow = "{A : Type 0} → " if t.owns else ""
         bound = "{A : Type 0} " if t.owns else ""
         own = f'codes "{t.shape_name}"'
-        cases = [f"({name}.{v.name} x)" for v in t.variants]
+        cases = [f"{name}.{v.name}" if v.number else f"({name}.{v.name} x)" for v in t.variants]
+        held = lambda v: f"{snake(v.constant)}.Only" if v.number else "x"
         rows = lambda head, each: "".join(f"{head} {case} = {each(v)}\n" for case, v in zip(cases, t.variants))
         functions = " ".join(f"f{at}" for at in range(len(t.variants)))
         place = {v.name: at for at, v in enumerate(t.variants)}
@@ -658,77 +750,52 @@ class Writer:
         if t.is_mixed:
             names = "".join(f'    codes "{v.rule_parts[1][0]}" ∷\n' for v in t.named)
             out.append(f"-- the texts of {t.rule_tag} that choose a variant of a `{t.name}` whatever the type of its item is\nabbrev pub {name}_names : List (List ℕ)\n{name}_names =\n{names}    []\n")
-        if t.rule_tag:
+        if t.is_by_numbers:
+            chosen = rows(f"{name}_chosen_by", lambda v: v.rule_parts[1][0])
+            out.append(f"-- the number that chooses what is in a `{t.name}`, of the Enumeration {t.rule_tag}\nabbrev pub {name}_chosen_by : {arrow}{of} → ℕ\n{chosen}")
+        elif t.rule_tag:
             chosen = rows(f"Chooses{t.name} said", lambda v: v.chooses(t))
             out.append(f"-- what is said, if it is the text of {t.rule_tag}, chooses what is in a `{t.name}`\nabbrev pub Chooses{t.name} : {arrow}List ℕ → {of} → Type 0\n{chosen}")
-        if t.is_by_numbers:
-            chosen = rows(f"Chooses{t.name}Number n", lambda v: " ⊎ ".join(f"(n ≡ {text})" for text in v.rule_parts[1]))
-            out.append(f"-- the same of an Enumeration's number\nabbrev pub Chooses{t.name}Number : {arrow}ℕ → {of} → Type 0\n{chosen}")
-            proved = "".join(f"{name}_numbered n {case} chooses = ap text_of_number chooses\n" for case in cases)
-            out.append(f"pub {name}_numbered : {bound}(n : ℕ) (x : {of}) → Chooses{t.name}Number n x → Chooses{t.name} (text_of_number n) x\n{proved}")
-            out.append(
-                f"pub {name}_numbered_where : {bound}{{t : ℕ}} (o : Option (Enumeration t)) (p : Option {self.in_brackets(of)}) → IfSome p (λ y. IsSomeAnd o (λ z. Chooses{t.name}Number z.number y))\n"
-                f"    → IfSome p (λ y. IsSomeAnd (option_map (λ z. text_of_number z.number) o) (λ text. Chooses{t.name} text y))\n"
-                f"{name}_numbered_where o None chooses = tt\n{name}_numbered_where None (Some y) chooses = absurd chooses\n"
-                f"{name}_numbered_where (Some z) (Some y) chooses = {name}_numbered z.number y chooses\n"
-            )
         if t.has_heads:
             out.append(f"-- the type of the item of a `{t.name}`\nabbrev pub {name}_typ : {arrow}{of} → TtlvType\n" + rows(f"{name}_typ", lambda v: f"types.{v.typ}"))
-        for what, name_by, typ_by, level in (("Values", f"{name}_by", "Value", "Type 0"), ("Facts", f"Is{t.name}By", "Type 0", "Type 1")):
-            fields = "".join(f"  pub {snake(v.name)} : {self.definition_of(v)} → {typ_by}\n" for v in t.variants)
-            said = "the value of each thing that a" if what == "Values" else "what is said of each thing that a"
-            out.append(f"-- {said} `{t.name}` may hold\npub record {t.name}{what}{' (A : Type 0)' if t.owns else ''} : {level} where\n{fields}")
-            said = "the value" if what == "Values" else "what is said"
-            out.append(
-                f"-- {said} of what it holds\nunfoldable pub {name_by} : {arrow}{t.name}{what}{A} → {of} → {typ_by}\n" + rows(f"{name_by} f", lambda v: f"f.{snake(v.name)} x")
-            )
-            for v, case in zip(t.variants, cases):
-                given = f"{bound}(f : {t.name}{what}{A}) {{x : {of}}} {{y : {self.definition_of(v)}}}"
-                case = f"{name}.{v.name} y"
-                if what == "Values":
-                    lemma = f"{name}_value_of_{snake(v.name)}"
-                    out.append(f"pub {lemma} : {given} → x ≡ {case} → {name_by} f x ≡ f.{snake(v.name)} y\nunfolding {name_by}\n{lemma} f is = ap ({name_by} f) is\n")
-                else:
-                    lemma = f"{name}_fact_of_{snake(v.name)}"
-                    out.append(
-                        f"pub {lemma} : {given} {{b : Boole}} → x ≡ {case} → IsTrue b ↔ f.{snake(v.name)} y → IsTrue b ↔ {name_by} f x\nunfolding {name_by}\n"
-                        f"{lemma} f {{b = b}} is of = subst (λ z. IsTrue b ↔ {name_by} f z) (sym is) of\n"
-                    )
+        fields = "".join(f"  pub {snake(v.name)} : {'' if v.number else f'{self.definition_of(v)} → '}Meaning\n" for v in t.variants)
+        out.append(f"-- what each thing means that a `{t.name}` may hold\npub record {t.name}Cases{' (A : Type 0)' if t.owns else ''} : Type 1 where\n{fields}")
+        out.append(f"-- what it means\nunfoldable pub {name}_by : {arrow}{t.name}Cases{A} → {of} → Meaning\n" + rows(f"{name}_by f", lambda v: f"f.{snake(v.name)}{'' if v.number else ' x'}"))
         fields = "".join(f"  pub {snake(v.name)} : {self.holds(t, v, A)}\n" for v in t.variants)
         out.append(f"-- what a `{t.name}` may hold\npub record {t.name}Items {'(A : Type 0) ' if t.owns else ''}(eq : {of} → {of} → Boole) : Type 1 where\n{fields}")
         items = f"{t.name}Items{A} eq"
         eq = f"{bound}{{eq : {of} → {of} → Boole}}"
         forms = [f'variant (codes "{v.rule}") (wrapped i.{snake(v.name)}.form)' for v in t.variants]
         out.append(f"-- its variants, by their rules\nabbrev pub {name}_variants : {eq} → {items} → Variants\n{name}_variants i =\n    " + " (\n    ".join(forms) + " no_variants" + ")" * (len(forms) - 1) + "\n")
-        of_all = lambda each: "record { " + " ".join(f"{snake(v.name)} = {each(v)};" for v in t.variants) + " }"
-        written = f"({name}_by " + of_all(lambda v: f"i.{snake(v.name)}.rules.written") + " {})"
-        value = f"({name}_by " + of_all(lambda v: f'(λ y. newtype_variant_value ({own}) (codes "{v.rule}") (i.{snake(v.name)}.value y))') + " {})"
-        sound = f"(Is{t.name}By " + of_all(lambda v: f"i.{snake(v.name)}.rules.IsSound") + " {})"
-        at = lambda term, x: term[:-3].rstrip() + (f" {x})" if x else ")")
+        meanings = "".join(f'  {snake(v.name)} = {"as_choice" if v.inner else "as_item"} ({own}) (codes "{v.rule}") i.{snake(v.name)}{f" {held(v)}" if v.number else ""};\n' for v in t.variants)
+        out.append(f"abbrev pub {name}_cases : {eq} → {items} → {t.name}Cases{A}\n{name}_cases i = record {{\n{meanings}}}\n")
+        means = f"{name}_by ({name}_cases i)"
         unfold = "unfolding tag_of number rule sides equal at_least member in_brackets trim_end chars trim_start encode"
         out += self.unnamed(t, eq, items, name, unfold)
         proved = ""
         for nth, v in enumerate(t.variants):
             at_place = "(later_variant " * nth + "first_variant" + ")" * nth
             call = "case_within" if v.inner else "case_of" if t.rule_tag else "typed_case"
-            picks = "(λ k. refl)" if not t.rule_tag else "(λ said chooses k found. rw (found ∙ ap Some chooses) refl)"
+            picks = "(λ k. refl)" if not t.rule_tag else f"(λ said chooses k found. {self.picked(v.rule_parts[1] if v.rule_parts else ())})"
             if t.is_mixed and v in t.typed:
                 picks = f"(λ said none k found. {name}_unnamed i said k types.{v.typ} {nth - len(t.named)} none found refl)"
-            proved += f"{name}_case i {cases[nth]} = {call} i.{snake(v.name)} x {at_place} {picks}\n"
+            proved += f"{name}_case i {cases[nth]} = {call} i.{snake(v.name)} {held(v)} {at_place} {picks}\n"
         typ = self.typ(t)("x")
         head = f"Case 0x{t.tag} 0x{t.rule_tag} {typ}" if t.rule_tag else f"TypedCase 0x{t.tag} {typ}"
-        chooses = f" (λ said. Chooses{t.name} said x)" if t.rule_tag else ""
+        relation = f"(λ said x. said ≡ text_of_number ({name}_chosen_by x))" if t.is_by_numbers else f"Chooses{t.name}"
+        said = f"said ≡ text_of_number ({name}_chosen_by x)" if t.is_by_numbers else f"Chooses{t.name} said x"
+        chooses = f" (λ said. {said})" if t.rule_tag else ""
         out.append(
-            f"pub {name}_case : {eq} (i : {items}) (x : {of})\n    → {head} (enum ({own}) ({name}_variants i)){chooses}\n    {at(written, 'x')}\n    {at(value, 'x')}\n    {at(sound, 'x')}\n"
-            f"{unfold} {name}_by Is{t.name}By\n{proved}"
+            f"pub {name}_case : {eq} (i : {items}) (x : {of})\n    → {head} (enum ({own}) ({name}_variants i)){chooses} ({means} x)\n{unfold} {name}_by\n{proved}"
         )
         proved = "".join(
-            f"{name}_same i ({name}.{v.name} x) ({name}.{v.name} y) e = i.{snake(v.name)}.same x y (i.{snake(v.name)}.rules.same x y (in_variant e))\n" for v in t.variants
+            f"{name}_same i {case} {case.replace(' x)', ' y)')} e = i.{snake(v.name)}.same {held(v)} {held(v).replace('x', 'y') if held(v) == 'x' else held(v)} (i.{snake(v.name)}.rules.same {held(v)} {held(v).replace('x', 'y') if held(v) == 'x' else held(v)} (in_variant e))\n"
+            for case, v in zip(cases, t.variants)
         )
         last = f"{name}_same i x y e = absurd (apart e refl)\n" if len(t.variants) > 1 else ""
-        out.append(f"pub {name}_same : {eq} (i : {items}) (x y : {of})\n    → {at(value, 'x')} ≡ {at(value, 'y')}\n    → eq x y ≡ true\nunfolding {name}_by\n{proved}{last}")
-        words = f"{{typ = {self.typ_function(t)}}}" + (f" {{C = Chooses{t.name}}}" if t.rule_tag else "")
-        words += f" {{written = {at(written, '')[1:-1]}}} {{value = {at(value, '')[1:-1]}}} {{IsSound = {at(sound, '')[1:-1]}}}"
+        out.append(f"pub {name}_same : {eq} (i : {items}) (x y : {of})\n    → ({means} x).value ≡ ({means} y).value\n    → eq x y ≡ true\nunfolding {name}_by\n{proved}{last}")
+        words = f"{{typ = {self.typ_function(t)}}}" + (f" {{C = {relation}}}" if t.rule_tag else "")
+        words += f" {{m = {means}}}"
         made = f"choice_by {words} 0x{t.tag} 0x{t.rule_tag}" if t.rule_tag else f"choice_by_type {words} 0x{t.tag}"
         out.append(
             f"-- the choice\nabbrev pub {name}_choice : {bound}(eq : {of} → {of} → Boole) → {items} → ChoiceOf {self.in_brackets(of)}\n"
@@ -736,16 +803,37 @@ class Writer:
         )
         return "".join("\n" + one for one in out)
 
+    def picked(self, texts):
+        """That a variant is the first whose rule holds, where what is said is one of these texts."""
+        if len(texts) < 2:
+            return "rw (found ∙ ap Some chooses) refl"
+        *others, last = [f'(λ (e : said ≡ codes "{text}"). rw (found ∙ ap Some e) refl)' for text in texts]
+        for one in reversed(others):
+            last = f"(⊎_elim {one} {last})"
+        return f"{last[1:-1]} chooses"
+
     def in_brackets(self, of):
         return f"({of})" if " " in of else of
 
     def definition_of(self, v):
         """What a variant holds, as a type of definitions."""
         if v.leaf:
-            return {"i32": "ℤ", "i64": "ℤ", "bool": "Boole", "u32": "ℕ", "String<A>": "String A", "Vec<u8, A>": "Vec ℕ A"}.get(RUST[v.leaf.word]) or RUST[v.leaf.word].replace("<A>", " A")
+            return v.leaf.definition
+        if v.number:
+            return v.constant
         if v.type.is_open:
             return f"Enumeration 0x{v.type.tag}"
+        if v.wrapper:
+            return self.inner_definition(v.type)
         return f"{v.type.name}{' A' if v.type.owns else ''}"
+
+    def inner_definition(self, wrapper):
+        """What is in a wrapper, as a type of definitions."""
+        part = wrapper.given[0]
+        if part.type and part.type.kind == "wrapper":
+            return self.inner_definition(part.type)
+        once = part.leaf.definition if part.leaf else f"{part.type.name}{' A' if part.type.owns else ''}"
+        return f"Vec {self.in_brackets(once)} A" if part.is_sequence else once
 
     def typ(self, t):
         return (lambda x: f"({t.snake}_typ {x})") if t.has_heads else (lambda x: f"types.{t.variants[0].typ}")
@@ -754,7 +842,7 @@ class Writer:
         return f"{t.snake}_typ" if t.has_heads else f"(λ x. types.{t.variants[0].typ})"
 
     def holds(self, t, v, A):
-        into = f"{t.snake}.{v.name}"
+        into = f"(λ (x : {v.constant}). {t.snake}.{v.name})" if v.number else f"{t.snake}.{v.name}"
         if v.inner:
             return f"HeldChoice 0x{t.tag} 0x{t.rule_tag} types.{v.typ} Chooses{v.type.name} {into} eq"
         return f"Held 0x{t.tag} types.{v.typ} {into} eq"

@@ -1,1 +1,1 @@
-pub mod Agreeing
+-- The answers of this crate's functions.

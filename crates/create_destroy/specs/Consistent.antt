@@ -8,11 +8,11 @@ use Rattle.create_destroy.specs.declared.operation.Operation.TheVariants as oper
 use Rattle.create_destroy.specs.declared.request.RequestPayload.{RequestPayload}
 use Rattle.create_destroy.specs.declared.request.RequestPayload.TheVariants as asked
 use Rattle.create_destroy.specs.declared.request.RequestItem.{RequestItem}
-use Rattle.create_destroy.specs.declared.request.Request.{Request}
+use Rattle.create_destroy.specs.declared.messages.Request.{Request}
 use Rattle.create_destroy.specs.declared.response.ResponsePayload.{ResponsePayload}
 use Rattle.create_destroy.specs.declared.response.ResponsePayload.TheVariants as answered
 use Rattle.create_destroy.specs.declared.response.ResponseItem.{ResponseItem}
-use Rattle.create_destroy.specs.declared.response.Response.{Response}
+use Rattle.create_destroy.specs.declared.messages.Response.{Response}
 
 -- a name chooses this kind of value
 abbrev pub Chooses : List ℕ → AttributeValue → Type 0

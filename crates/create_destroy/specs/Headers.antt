@@ -1,53 +1,39 @@
--- Written by codegen from types.table: change that, and run codegen/codegen.
--- Forms and values of the types in `header`.
-use Rattle.kmip_ttlv.specs.Digits.{tag_text}
-use Rattle.kmip_ttlv.specs.Forms.{Form, date_time, field, int32, no_fields, struct}
-use Rattle.kmip_ttlv.specs.MessageParts.{tagged}
-use Rattle.kmip_ttlv.specs.Spots.{wrapped_leaf}
-use Rattle.kmip_ttlv.specs.Values.{Value, date_time_value, i32_value, no_values, struct_value, value}
-use Rattle.std.specs.Prelude.{false}
-use Rattle.create_destroy.specs.declared.header.{ProtocolVersion.ProtocolVersion, RequestHeader.RequestHeader, ResponseHeader.ResponseHeader}
+-- The header that a message's own fields are, and that messages with one header have the same fields.
+use Rattle.std.proofs.Common.{◌≡◌, ◌∙◌, ap, subst, sym, Bool as Boole, true}
+use Rattle.std.specs.Prelude.{◌&&◌}
+use Rattle.std.proofs.Math.Bool.{and_assoc}
+use Rattle.kmip_ttlv_base.specs.Values.{Values}
+use Rattle.kmip_ttlv_kinds.specs.Parts.{IsWithinSound, Told, told_parts, within}
+use Rattle.create_destroy.specs.declared.header.{RequestHeader.RequestHeader, ResponseHeader.ResponseHeader}
+use Rattle.create_destroy.specs.declared.messages.{Request.Request, Response.Response}
 
--- the form of a `ProtocolVersion`
-abbrev pub protocol_version_form : Form
-protocol_version_form =
-    struct (tag_text 0x420069) (
-    field (tag_text 0x42006A) (wrapped_leaf 0x42006A int32) (
-    field (tag_text 0x42006B) (wrapped_leaf 0x42006B int32) no_fields)) false
+-- the header of a request
+abbrev pub request_header : {A : Type 0} → Request A → RequestHeader
+request_header x = record { version = record { major = x.major; minor = x.minor }; batch_count = x.batch_count }
 
--- the value of a `ProtocolVersion`
-unfoldable pub protocol_version_value : ProtocolVersion → Value
-protocol_version_value x =
-    struct_value (tag_text 0x420069) (
-    value (tagged 0x42006A (i32_value x.major)) (
-    value (tagged 0x42006B (i32_value x.minor)) no_values))
+-- the header of a response
+abbrev pub response_header : {A : Type 0} → Response A → ResponseHeader
+response_header x =
+    record { version = record { major = x.major; minor = x.minor }; time_stamp = record { 0 = x.timestamp }; batch_count = x.batch_count }
 
--- the form of a `RequestHeader`
-abbrev pub request_header_form : Form
-request_header_form =
-    struct (tag_text 0x420077) (
-    field (tag_text 0x420069) protocol_version_form (
-    field (tag_text 0x42000D) (wrapped_leaf 0x42000D int32) no_fields)) false
+-- what is decided of a version and a count, and of the items behind them, is decided of a request's fields
+pub of_request : (major minor count items : Boole) → ((major && minor) && count) && items ≡ true → major && (minor && (count && items)) ≡ true
+of_request major minor count items all = sym (and_assoc (major && minor) count items ∙ and_assoc major minor (count && items)) ∙ all
 
--- the value of a `RequestHeader`
-unfoldable pub request_header_value : RequestHeader → Value
-request_header_value x =
-    struct_value (tag_text 0x420077) (
-    value (protocol_version_value x.version) (
-    value (tagged 0x42000D (i32_value x.batch_count)) no_values))
+-- and of a response's
+pub of_response : (major minor time count items : Boole) → ((major && minor) && (time && count)) && items ≡ true
+    → major && (minor && (time && (count && items))) ≡ true
+of_response major minor time count items all =
+    sym (
+    and_assoc (major && minor) (time && count) items
+    ∙ and_assoc major minor ((time && count) && items)
+    ∙ ap (λ rest. major && (minor && rest)) (and_assoc time count items)
+    )
+    ∙ all
 
--- the form of a `ResponseHeader`
-abbrev pub response_header_form : Form
-response_header_form =
-    struct (tag_text 0x42007A) (
-    field (tag_text 0x420069) protocol_version_form (
-    field (tag_text 0x420092) (wrapped_leaf 0x420092 date_time) (
-    field (tag_text 0x42000D) (wrapped_leaf 0x42000D int32) no_fields))) false
-
--- the value of a `ResponseHeader`
-unfoldable pub response_header_value : ResponseHeader → Value
-response_header_value x =
-    struct_value (tag_text 0x42007A) (
-    value (protocol_version_value x.version) (
-    value (tagged 0x420092 (date_time_value x.time_stamp)) (
-    value (tagged 0x42000D (i32_value x.batch_count)) no_values)))
+-- what is told of one header, and of what is behind it, is told of an equal one
+pub told_alike : {H K : Type 0} (f : H × K → Values) (P : H × K → Type 0) (IsTold : Told → Type 0) {h k : H} (behind : K) → h ≡ k
+    → IsTold (told_parts (within f (h, behind)) (IsWithinSound P (h, behind)))
+    → IsTold (told_parts (within f (k, behind)) (IsWithinSound P (k, behind)))
+told_alike f P IsTold behind same told =
+    subst (λ x. IsTold (told_parts (within f (x, behind)) (IsWithinSound P (x, behind)))) same told

@@ -1,8 +1,4 @@
+pub mod Choices
+pub mod Listed
 pub mod Headers
-pub mod Operations
-pub mod Attributes
-pub mod Requests
-pub mod Responses
 pub mod Consistent
-pub mod Soundness
-pub mod Laws

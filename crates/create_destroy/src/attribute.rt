@@ -1,16 +1,21 @@
 // Written by codegen from types.table: change that, and run codegen/codegen.
 //! Attributes of a key, and the template that has them (KMIP 1.0, sections 2.1.1 and 2.1.8).
 
-ghost use Rattle.std.specs.Prelude.{◌≡◌, ◌↔◌, refl, IsTrue, OnErr, OnOk, codes, false};
-ghost use Rattle.kmip_ttlv.specs.Forms.{enum, no_variants, unit, variant};
-ghost use Rattle.kmip_ttlv.specs.Values.{unit_variant_value};
-ghost use Rattle.kmip_ttlv.specs.Visits.{Receives, leaf_value};
-ghost use Rattle.create_destroy.specs.Attributes.{attribute_value_form, written_attribute_value, read_attribute_value, attribute_value_content, ChoosesAttributeValue, attribute_form, written_attribute, read_attribute, template_form, written_template, read_template};
+ghost use Rattle.std.specs.Prelude.{◌↔◌, ◌+◌, IsTrue, codes, false, refl, string_bytes, true};
+ghost use Rattle.kmip_ttlv_parts.specs.Digits.{tag_text};
+ghost use Rattle.kmip_ttlv_parts.specs.Values.{unit_variant_value};
+ghost use Rattle.kmip_ttlv_kinds.specs.Parts.{structure, structure_where};
+ghost use Rattle.kmip_ttlv_kinds.specs.Choices.{held};
+ghost use Rattle.create_destroy.specs.Choices.{attribute_value_choice, ChoosesAttributeValue};
+ghost use Rattle.create_destroy.specs.Listed.{attribute_value_aes_is_unit, attribute_value_aes_number, attribute_value_aes_variants};
+ghost use Rattle.create_destroy.specs.declared.attribute.AttributeValueAes.TheVariants as attribute_value_aes;
 
-use kmip_ttlv::messages::writing;
-use kmip_ttlv::reader;
-use kmip_ttlv::shape::Serialize;
-use kmip_ttlv::visit::{Leaf, Visitor};
+use kmip_ttlv_kinds::{
+    Alone, AsElement, Case, Choice, Decided, Element, FromParts, Holds, Leaf, LeafItem, Listed,
+    ListedItem, Of, OneOf, PartList, Several, Structure, Walk, Wrapper, read_structure, texts_in,
+};
+use kmip_ttlv_parts::reader;
+use kmip_ttlv_parts::reader::{ChoiceValue, Cursor, Rule, RuleParts, Scope, Step, VariantOf};
 use std::alloc::{AllocError, Allocator, Global};
 
 /// What an attribute says.
@@ -22,27 +27,59 @@ pub enum AttributeValue {
     Integer(i32),
 }
 
-impl AttributeValue {
-    // What it holds, as a leaf.
-    #[tactic(auto, unfolding(crate::specs::Attributes::attribute_value_content))]
-    fn leaf(self) -> Leaf<'static>
-        ensures { leaf_value result ≡ attribute_value_content self }
-    {
-        match self {
-            AttributeValue::Aes => Leaf::UnitVariant {
-                name: "420028",
-                variant: "0x00000003",
-            },
-            AttributeValue::Integer(number) => Leaf::I32(number),
-        }
+/// What `AttributeValue::Aes` is encoded as.
+#[derive(Clone, Copy, PartialEq, Eq)]
+pub enum AttributeValueAes {
+    /// The number.
+    Only,
+}
+
+// Each number, and what it stands for.
+const ATTRIBUTE_VALUE_AES: [(&str, AttributeValueAes); 1] = [(
+    "0x00000003",
+    AttributeValueAes::Only,
+)];
+
+impl reader::Listed for AttributeValueAes {
+    ghost own = { tag_text 0x42000B };
+
+    ghost variants = { attribute_value_aes_variants };
+
+    ghost value = { λ x. unit_variant_value (tag_text 0x42000B) (attribute_value_aes_number x) };
+}
+
+impl Listed for AttributeValueAes {
+    ghost tag = { 0x42000B };
+
+    ghost variants = { attribute_value_aes_variants };
+
+    ghost rules = { record {
+      number = attribute_value_aes_number;
+      units = attribute_value_aes_is_unit;
+      eq = λ x y. true;
+      same = λ x y e. refl;
+    } };
+
+    fn read_listed<'b, A: Allocator + Copy>(
+        scope: &Scope<'b, A>,
+        cursor: &mut Cursor<'b, A>,
+    ) -> Step<Self, A> {
+        cursor.listed(scope, &ATTRIBUTE_VALUE_AES)
     }
 
-    // Sends what it holds.
-    pub(crate) fn send<V: Visitor>(&self, visitor: &mut V) -> Result<(), AllocError>
-        ensures received { OnOk result (Receives V.knows V.step (attribute_value_content self.now) visitor.old visitor.new) }
-        ensures stopped { OnErr result (V.stopped visitor.new) }
-    {
-        visitor.leaf(self.leaf())
+    fn tag() -> u32 {
+        0x42000B
+    }
+
+    #[tactic(auto, unfolding(kmip_ttlv_types::specs::Digits::six_digits))]
+    fn name() -> &'static str {
+        "0x42000B"
+    }
+
+    fn number_text(self) -> &'static str {
+        match self {
+            AttributeValueAes::Only => "0x00000003",
+        }
     }
 }
 
@@ -59,21 +96,33 @@ impl AttributeValue {
     }
 }
 
-impl Serialize for AttributeValue {
-    ghost stated = { written_attribute_value };
+impl<A: Allocator + Copy> Choice<A> for AttributeValue {
+    ghost chosen = { attribute_value_choice ⟦<AttributeValue as PartialEq>⟧.eq record {
+      aes = held ⟦<ListedItem<AttributeValueAes> as Element<A>>⟧.rules refl refl (λ x y e. refl);
+      integer = held ⟦<LeafItem<i32, 0x42000B> as Element<A>>⟧.rules refl refl (λ x y e. e);
+    } };
 
-    #[tactic(auto, unfolding(crate::specs::Attributes::written_attribute_value))]
-    fn visit<V: Visitor>(&self, visitor: &mut V) -> Result<(), AllocError> {
-        writing::begin_newtype_variant(visitor, "Override:0x42000B", "Transparent")?;
-        self.send(visitor)?;
-        writing::end_newtype_variant(visitor, "Override:0x42000B", "Transparent")
+    fn read_chosen<'b>(scope: &Scope<'b, A>, cursor: &mut Cursor<'b, A>) -> Step<Self, A> {
+        reader::read_choice(scope, cursor)
     }
+
+    fn tell_held<W: Walk<A>>(&self, state: &mut W::State) -> Result<(), AllocError> {
+        match self {
+            AttributeValue::Aes => W::item::<ListedItem<AttributeValueAes>>(
+                state,
+                &AttributeValueAes::Only,
+            ),
+            AttributeValue::Integer(inner) => W::item::<LeafItem<i32, 0x42000B>>(state, inner),
+        }
+    }
+
+    ghost plain = { (refl, refl) };
 }
 
 /// The rule that chooses `AttributeValue::Aes`.
 pub struct AttributeValueAesRule;
 
-impl reader::Rule for AttributeValueAesRule {
+impl Rule for AttributeValueAesRule {
     ghost condition = { codes "0x42000A==Cryptographic Algorithm" };
 
     fn name() -> &'static str {
@@ -81,56 +130,25 @@ impl reader::Rule for AttributeValueAesRule {
     }
 
     #[tactic(auto, unfolding(kmip_ttlv_reader::specs::RuleParts::parts_of))]
-    fn parts() -> Option<reader::RuleParts> {
-        Some(reader::RuleParts::Texts {
-            tag: 0x42000A,
-            texts: &["Cryptographic Algorithm"],
-        })
+    fn parts() -> Option<RuleParts> {
+        texts_in(0x42000A, &["Cryptographic Algorithm"])
     }
 }
 
-impl<A: Allocator + Copy> reader::VariantOf<
-    reader::ItemElement<AttributeValueAes>,
-    AttributeValue,
-    A,
-> for AttributeValueAesRule {
-    #[tactic(auto, unfolding(crate::specs::Attributes::read_attribute_value))]
-    fn from_content(_inner: AttributeValueAes) -> AttributeValue {
-        AttributeValue::Aes
-    }
-}
-
-/// What is in `AttributeValue::Aes`.
-#[derive(Clone, Copy)]
-pub struct AttributeValueAes;
-
-impl reader::Listed for AttributeValueAes {
-    ghost own = { codes "algorithm" };
-
-    ghost variants = { variant (codes "0x00000003") unit no_variants };
-
-    ghost value = { λ _. unit_variant_value (codes "algorithm") (codes "0x00000003") };
-}
-
-impl<A: Allocator + Copy> reader::ReadItem<A> for AttributeValueAes {
-    ghost form = { enum (codes "algorithm") (variant (codes "0x00000003") unit no_variants) };
-
-    ghost value = { λ _. unit_variant_value (codes "algorithm") (codes "0x00000003") };
-
-    ghost plain = { (refl, refl) };
-
-    fn read_item<'b>(
-        scope: &reader::Scope<'b, A>,
-        cursor: &mut reader::Cursor<'b, A>,
-    ) -> reader::Step<Self, A> {
-        cursor.listed(scope, &[("0x00000003", AttributeValueAes)])
+impl<A: Allocator + Copy> VariantOf<AsElement<ListedItem<AttributeValueAes>>, AttributeValue, A>
+    for AttributeValueAesRule {
+    #[tactic(auto, unfolding(crate::specs::Choices::attribute_value_by))]
+    fn from_content(inner: AttributeValueAes) -> AttributeValue {
+        match inner {
+            AttributeValueAes::Only => AttributeValue::Aes
+        }
     }
 }
 
 /// The rule that chooses `AttributeValue::Integer`.
 pub struct AttributeValueIntegerRule;
 
-impl reader::Rule for AttributeValueIntegerRule {
+impl Rule for AttributeValueIntegerRule {
     ghost condition = { codes "0x42000A in [Cryptographic Length, Cryptographic Usage Mask]" };
 
     fn name() -> &'static str {
@@ -138,55 +156,37 @@ impl reader::Rule for AttributeValueIntegerRule {
     }
 
     #[tactic(auto, unfolding(kmip_ttlv_reader::specs::RuleParts::parts_of))]
-    fn parts() -> Option<reader::RuleParts> {
-        Some(reader::RuleParts::Texts {
-            tag: 0x42000A,
-            texts: &["Cryptographic Length", "Cryptographic Usage Mask"],
-        })
+    fn parts() -> Option<RuleParts> {
+        texts_in(
+            0x42000A,
+            &["Cryptographic Length", "Cryptographic Usage Mask"],
+        )
     }
 }
 
-impl<A: Allocator + Copy> reader::VariantOf<reader::BareLeaf<i32>, AttributeValue, A>
+impl<A: Allocator + Copy> VariantOf<AsElement<LeafItem<i32, 0x42000B>>, AttributeValue, A>
     for AttributeValueIntegerRule {
-    #[tactic(auto, unfolding(crate::specs::Attributes::read_attribute_value))]
+    #[tactic(auto, unfolding(crate::specs::Choices::attribute_value_by))]
     fn from_content(inner: i32) -> AttributeValue {
         AttributeValue::Integer(inner)
     }
 }
 
-impl reader::ChoiceValue for AttributeValue {
+impl ChoiceValue for AttributeValue {
     ghost own = { codes "value" };
 
-    ghost value = { read_attribute_value };
+    ghost value = { ⟦<AttributeValue as Choice<Global>>⟧.chosen.value };
 }
 
 impl<A: Allocator + Copy> reader::Choice<A> for AttributeValue {
-    ghost form = { attribute_value_form };
+    ghost form = { ⟦<AttributeValue as Choice<A>>⟧.chosen.form };
 
     type Variants = (
-        reader::Variant<AttributeValueAesRule, reader::ItemElement<AttributeValueAes>>,
-        (
-            reader::Variant<AttributeValueIntegerRule, reader::BareLeaf<i32>>,
-            (),
-        ),
+        Case<AttributeValueAesRule, ListedItem<AttributeValueAes>>,
+        (Case<AttributeValueIntegerRule, LeafItem<i32, 0x42000B>>, ()),
     );
 
     fn has_form() {}
-}
-
-impl<A: Allocator + Copy> reader::ReadItem<A> for AttributeValue {
-    ghost form = { attribute_value_form };
-
-    ghost value = { read_attribute_value };
-
-    ghost plain = { (refl, refl) };
-
-    fn read_item<'b>(
-        scope: &reader::Scope<'b, A>,
-        cursor: &mut reader::Cursor<'b, A>,
-    ) -> reader::Step<Self, A> {
-        reader::read_choice(scope, cursor)
-    }
 }
 
 /// What is known of a key, by its name.
@@ -199,66 +199,44 @@ pub struct Attribute<A: Allocator = Global> {
     pub value: AttributeValue,
 }
 
-impl<B: Allocator> Serialize for Attribute<B> {
-    ghost stated = { written_attribute };
+impl<A: Allocator> Decided for Attribute<A> {
+    ghost IsDecided = { λ x. (ChoosesAttributeValue (string_bytes x.name) x.value) };
 
-    #[tactic(auto, unfolding(crate::specs::Attributes::written_attribute))]
-    fn visit<V: Visitor>(&self, visitor: &mut V) -> Result<(), AllocError> {
-        writing::begin_structure(visitor, 0x420008)?;
-        writing::string(visitor, 0x42000A, &self.name)?;
-        self.value.visit(visitor)?;
-        writing::end_structure(visitor, 0x420008)?;
-        Ok(())
+    fn is_decided(&self) -> bool {
+        self.value.is_chosen_by(self.name.as_str())
     }
 }
 
-impl<A: Allocator + Copy> reader::ReadStructure<A> for Attribute<A> {
-    ghost form = { attribute_form };
+type AttributeParts<A> = (Leaf<String<A>, 0x42000A>, OneOf<AttributeValue, 0x42000B>);
 
-    ghost value = { read_attribute };
+impl<A: Allocator + Copy> FromParts<A, AttributeParts<A>> for Attribute<A> {
+    ghost parts = { λ x. (x.name, x.value) };
 
-    ghost TAG = { 0x420008 };
-
-    ghost DENIES_UNKNOWN = { false };
-
-    type Fields = (
-        reader::Leaf<String<A>, 0x42000A>,
-        reader::Item<AttributeValue, 0x42000B>,
-    );
-
-    const TAG: u32 = 0x420008;
-
-    const DENIES_UNKNOWN: bool = false;
-
-    fn has_form() {}
-
-    #[tactic(auto, unfolding(crate::specs::Attributes::read_attribute))]
-    fn from_fields(fields: (String<A>, AttributeValue)) -> Self {
-        let (name, value) = fields;
+    fn from_parts((name, value): Holds<AttributeParts<A>, A>) -> Self {
         Attribute { name, value }
     }
 }
 
-impl<A: Allocator + Copy> reader::ReadNested<A> for Attribute<A> {
-    ghost form = { attribute_form };
+impl<A: Allocator + Copy> Structure<A> for Attribute<A> {
+    ghost rules = { structure_where false ⟦<AttributeParts<A> as PartList<A>>⟧.rules ⟦<Attribute<A> as FromParts<A, AttributeParts<A>>>⟧.parts refl
+        (λ x. (ChoosesAttributeValue (string_bytes x.name) x.value)) (λ x d. (tt, (d))) ⟦<Attribute<A> as PartialEq>⟧.eq (λ x y e. e) };
 
-    ghost value = { read_attribute };
+    fn read<'b>(scope: &Scope<'b, A>, tag: u32, cursor: &mut Cursor<'b, A>) -> Step<Self, A> {
+        read_structure::<AttributeParts<A>, Self, A>(scope, tag, false, cursor)
+    }
 
-    ghost TAG = { 0x420008 };
-
-    ghost structured = { (refl, refl) };
-
-    const TAG: u32 = 0x420008;
-
-    fn read_nested<'b>(
-        scope: &reader::Scope<'b, A>,
-        cursor: &mut reader::Cursor<'b, A>,
-    ) -> reader::Step<Self, A> {
-        reader::read_structure(scope, cursor)
+    fn tell_parts<W: Walk<A>>(&self, state: &mut W::State) -> Result<(), AllocError> {
+        W::two::<Leaf<String<A>, 0x42000A>, OneOf<AttributeValue, 0x42000B>>(
+            state,
+            &self.name,
+            &self.value,
+        )?;
+        W::check(state, self);
+        Ok(())
     }
 }
 
-/// The attributes of a key that is to be made, as they are read.
+/// The attributes of a key that is to be made.
 #[derive(Drop)]
 #[derive_where(PartialEq)]
 pub struct Template<A: Allocator = Global> {
@@ -266,62 +244,39 @@ pub struct Template<A: Allocator = Global> {
     pub attributes: Vec<Attribute<A>, A>,
 }
 
-impl<A: Allocator> Template<A> {
-    // Sends one that holds this.
-    #[tactic(auto, unfolding(crate::specs::Attributes::written_template))]
-    pub(crate) fn send<V: Visitor>(
-        visitor: &mut V,
-        attributes: &Vec<Attribute<A>, A>,
-    ) -> Result<(), AllocError>
-        ensures received { OnOk result (Receives V.knows V.step (written_template record { attributes = attributes.now }) visitor.old visitor.new) }
-        ensures stopped { OnErr result (V.stopped visitor.new) }
-    {
-        writing::begin_newtype(visitor, "0x420091")?;
-        writing::several(visitor, attributes)?;
-        writing::end_newtype(visitor, "0x420091")?;
-        Ok(())
-    }
-}
+type TemplateParts<A> = Alone<Several<Of<Attribute<A>, 0x420008>, 0x420008>>;
 
-impl<A: Allocator + Copy> reader::ReadStructure<A> for Template<A> {
-    ghost form = { template_form };
+impl<A: Allocator + Copy> FromParts<A, TemplateParts<A>> for Template<A> {
+    ghost parts = { λ x. x.attributes };
 
-    ghost value = { read_template };
-
-    ghost TAG = { 0x420091 };
-
-    ghost DENIES_UNKNOWN = { false };
-
-    type Fields = (reader::Several<Attribute<A>>,);
-
-    const TAG: u32 = 0x420091;
-
-    const DENIES_UNKNOWN: bool = false;
-
-    fn has_form() {}
-
-    #[tactic(auto, unfolding(crate::specs::Attributes::read_template))]
-    fn from_fields(fields: (Vec<Attribute<A>, A>,)) -> Self {
-        let (attributes,) = fields;
+    fn from_parts(attributes: Holds<TemplateParts<A>, A>) -> Self {
         Template { attributes }
     }
 }
 
-impl<A: Allocator + Copy> reader::ReadNested<A> for Template<A> {
-    ghost form = { template_form };
+impl<A: Allocator + Copy> Structure<A> for Template<A> {
+    ghost rules = { structure false ⟦<TemplateParts<A> as PartList<A>>⟧.rules ⟦<Template<A> as FromParts<A, TemplateParts<A>>>⟧.parts refl ⟦<Template<A> as PartialEq>⟧.eq (λ x y e. e) };
 
-    ghost value = { read_template };
+    fn read<'b>(scope: &Scope<'b, A>, tag: u32, cursor: &mut Cursor<'b, A>) -> Step<Self, A> {
+        read_structure::<TemplateParts<A>, Self, A>(scope, tag, false, cursor)
+    }
 
-    ghost TAG = { 0x420091 };
+    fn tell_parts<W: Walk<A>>(&self, state: &mut W::State) -> Result<(), AllocError> {
+        Self::tell_inner::<W>(&self.attributes, state)
+    }
+}
 
-    ghost structured = { (refl, refl) };
+impl<A: Allocator + Copy> Wrapper<Vec<Attribute<A>, A>, A> for Template<A> {
+    ghost wrap = { λ x. record { attributes = x } };
 
-    const TAG: u32 = 0x420091;
+    fn into_inner(self) -> Vec<Attribute<A>, A> {
+        self.attributes
+    }
 
-    fn read_nested<'b>(
-        scope: &reader::Scope<'b, A>,
-        cursor: &mut reader::Cursor<'b, A>,
-    ) -> reader::Step<Self, A> {
-        reader::read_structure(scope, cursor)
+    fn tell_inner<W: Walk<A>>(
+        inner: &Vec<Attribute<A>, A>,
+        state: &mut W::State,
+    ) -> Result<(), AllocError> {
+        W::one::<Several<Of<Attribute<A>, 0x420008>, 0x420008>>(state, inner)
     }
 }

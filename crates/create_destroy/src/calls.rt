@@ -4,28 +4,29 @@ ghost use Rattle.std.specs.Prelude.{◌≡◌, ◌↔◌, IfOk, IfErr, IsTrue};
 ghost use Rattle.kmip_ttlv.specs.EncodeResults.{Encodes};
 ghost use Rattle.kmip_ttlv.specs.Reads.{Begins};
 ghost use Rattle.kmip_ttlv.specs.Outcomes.{root_outcome};
+ghost use Rattle.kmip_ttlv.specs.Values.{Value};
 ghost use Rattle.kmip_ttlv.specs.ReadResults.{IsReadAs, ErrorStands, early_end, sort_of};
 ghost use Rattle.kmip_ttlv.specs.Wholes.{BeginsWhole};
-ghost use Rattle.create_destroy.specs.Requests.{read_request, request_form, written_request};
-ghost use Rattle.create_destroy.specs.Responses.{read_response, response_form, written_response};
 ghost use Rattle.create_destroy.specs.Consistent.{IsConsistentAttribute, IsConsistentItem, IsConsistentAnswer, IsConsistentRequest, IsConsistentResponse};
 
 use crate::attribute::{Attribute, AttributeValue};
+use crate::messages::{Request, Response};
 use crate::operation::Operation;
-use crate::request::{Request, RequestItem, RequestPayload};
-use crate::response::{Response, ResponseItem, ResponsePayload};
+use crate::request::{RequestItem, RequestPayload};
+use crate::response::{ResponseItem, ResponsePayload};
 use kmip_ttlv::error::Result;
 use kmip_ttlv::{from_slice, to_vec};
+use kmip_ttlv_kinds::{Element, Of};
 use std::alloc::Allocator;
 
 /// The canonical bytes of a request, consistent or not.
 ///
 /// `OutOfMemory` if memory ran out, and `LengthOverflow` where a length doesn't fit its four bytes.
-pub fn write_request<A: Allocator + Copy, B: Allocator>(
+pub fn write_request<A: Allocator + Copy, B: Allocator + Copy>(
     alloc: A,
     request: &Request<B>,
 ) -> Result<Vec<u8, A>, A>
-    ensures { Encodes (written_request request.now) result }
+    ensures { Encodes (⟦<Of<Request<B>, 0x420078> as Element<B>>⟧.rules.written request.now) result }
 {
     to_vec(alloc, request)
 }
@@ -37,11 +38,11 @@ pub fn write_request<A: Allocator + Copy, B: Allocator>(
 /// these are errors of bytes that no request begins with.
 pub fn read_request<A: Allocator + Copy>(alloc: A, bytes: &[u8]) -> Result<Request<A>, A>
     // Which request comes, or which error and where: unless memory runs out, what the form reads the bytes as.
-    ensures equals { IsReadAs (λ v x. v ≡ read_request x) (root_outcome request_form bytes.now) result }
+    ensures equals { IsReadAs (λ v x. v ≡ ⟦<Of<Request<A>, 0x420078> as Element<A>>⟧.value x) (root_outcome ⟦<Of<Request<A>, 0x420078> as Element<A>>⟧.form bytes.now) result }
     // The request is the one with which the bytes begin.
-    ensures found { IfOk result (λ x. Begins request_form bytes.now (read_request x)) }
+    ensures found { IfOk result (λ x. (v : Value) × Begins ⟦<Of<Request<A>, 0x420078> as Element<A>>⟧.form bytes.now v × (v ≡ ⟦<Of<Request<A>, 0x420078> as Element<A>>⟧.value x)) }
     // Bytes with an error begin with none; but for an early end, whatever bytes follow.
-    ensures refused { IfErr result (λ e. ErrorStands request_form bytes.now e) }
+    ensures refused { IfErr result (λ e. ErrorStands ⟦<Of<Request<A>, 0x420078> as Element<A>>⟧.form bytes.now e) }
     // A whole message never ends too early.
     ensures whole { IfErr result (λ e. BeginsWhole bytes.now → sort_of e ≡ early_end → ⊥) }
 {
@@ -51,11 +52,11 @@ pub fn read_request<A: Allocator + Copy>(alloc: A, bytes: &[u8]) -> Result<Reque
 /// The canonical bytes of a response, consistent or not.
 ///
 /// `OutOfMemory` if memory ran out, and `LengthOverflow` where a length doesn't fit its four bytes.
-pub fn write_response<A: Allocator + Copy, B: Allocator>(
+pub fn write_response<A: Allocator + Copy, B: Allocator + Copy>(
     alloc: A,
     response: &Response<B>,
 ) -> Result<Vec<u8, A>, A>
-    ensures { Encodes (written_response response.now) result }
+    ensures { Encodes (⟦<Of<Response<B>, 0x42007B> as Element<B>>⟧.rules.written response.now) result }
 {
     to_vec(alloc, response)
 }
@@ -67,11 +68,11 @@ pub fn write_response<A: Allocator + Copy, B: Allocator>(
 /// these are errors of bytes that no response begins with.
 pub fn read_response<A: Allocator + Copy>(alloc: A, bytes: &[u8]) -> Result<Response<A>, A>
     // Which response comes, or which error and where: unless memory runs out, what the form reads the bytes as.
-    ensures equals { IsReadAs (λ v x. v ≡ read_response x) (root_outcome response_form bytes.now) result }
+    ensures equals { IsReadAs (λ v x. v ≡ ⟦<Of<Response<A>, 0x42007B> as Element<A>>⟧.value x) (root_outcome ⟦<Of<Response<A>, 0x42007B> as Element<A>>⟧.form bytes.now) result }
     // The response is the one with which the bytes begin.
-    ensures found { IfOk result (λ x. Begins response_form bytes.now (read_response x)) }
+    ensures found { IfOk result (λ x. (v : Value) × Begins ⟦<Of<Response<A>, 0x42007B> as Element<A>>⟧.form bytes.now v × (v ≡ ⟦<Of<Response<A>, 0x42007B> as Element<A>>⟧.value x)) }
     // Bytes with an error begin with none; but for an early end, whatever bytes follow.
-    ensures refused { IfErr result (λ e. ErrorStands response_form bytes.now e) }
+    ensures refused { IfErr result (λ e. ErrorStands ⟦<Of<Response<A>, 0x42007B> as Element<A>>⟧.form bytes.now e) }
     // A whole message never ends too early.
     ensures whole { IfErr result (λ e. BeginsWhole bytes.now → sort_of e ≡ early_end → ⊥) }
 {

@@ -1,13 +1,11 @@
 // Written by codegen from types.table: change that, and run codegen/codegen.
 //! What requests and responses begin with (KMIP 1.0, sections 6.1, 6.4 and 6.5).
 
-ghost use Rattle.std.specs.Prelude.{refl, false};
-ghost use Rattle.create_destroy.specs.Headers.{protocol_version_form, protocol_version_value, request_header_form, request_header_value, response_header_form, response_header_value};
+ghost use Rattle.std.specs.Prelude.{false, refl};
+ghost use Rattle.kmip_ttlv_kinds.specs.Parts.{structure};
 
-use kmip_ttlv::messages::writing;
-use kmip_ttlv::reader;
-use kmip_ttlv::shape::Serialize;
-use kmip_ttlv::visit::{Leaf, Visitor};
+use kmip_ttlv_kinds::{FromParts, Holds, Leaf, Of, One, PartList, Structure, Walk, read_structure};
+use kmip_ttlv_parts::reader::{Cursor, DateTime, Scope, Step};
 use std::alloc::{AllocError, Allocator};
 
 /// The version of the protocol (KMIP 1.0, section 6.1).
@@ -19,58 +17,25 @@ pub struct ProtocolVersion {
     pub minor: i32,
 }
 
-impl Serialize for ProtocolVersion {
-    ghost stated = { protocol_version_value };
+type ProtocolVersionParts = (Leaf<i32, 0x42006A>, Leaf<i32, 0x42006B>);
 
-    fn visit<V: Visitor>(&self, visitor: &mut V) -> Result<(), AllocError> {
-        writing::begin_structure(visitor, 0x420069)?;
-        writing::tagged(visitor, 0x42006A, Leaf::I32(self.major))?;
-        writing::tagged(visitor, 0x42006B, Leaf::I32(self.minor))?;
-        writing::end_structure(visitor, 0x420069)?;
-        Ok(())
-    }
-}
+impl<A: Allocator + Copy> FromParts<A, ProtocolVersionParts> for ProtocolVersion {
+    ghost parts = { λ x. (x.major, x.minor) };
 
-impl<A: Allocator + Copy> reader::ReadStructure<A> for ProtocolVersion {
-    ghost form = { protocol_version_form };
-
-    ghost value = { protocol_version_value };
-
-    ghost TAG = { 0x420069 };
-
-    ghost DENIES_UNKNOWN = { false };
-
-    type Fields = (reader::Leaf<i32, 0x42006A>, reader::Leaf<i32, 0x42006B>);
-
-    const TAG: u32 = 0x420069;
-
-    const DENIES_UNKNOWN: bool = false;
-
-    fn has_form() {}
-
-    #[tactic(auto, unfolding(crate::specs::Headers::protocol_version_value))]
-    fn from_fields(fields: (i32, i32)) -> Self {
-        let (major, minor) = fields;
+    fn from_parts((major, minor): Holds<ProtocolVersionParts, A>) -> Self {
         ProtocolVersion { major, minor }
     }
 }
 
-impl<A: Allocator + Copy> reader::ReadNested<A> for ProtocolVersion {
-    ghost form = { protocol_version_form };
+impl<A: Allocator + Copy> Structure<A> for ProtocolVersion {
+    ghost rules = { structure false ⟦<ProtocolVersionParts as PartList<A>>⟧.rules ⟦<ProtocolVersion as FromParts<A, ProtocolVersionParts>>⟧.parts refl ⟦<ProtocolVersion as PartialEq>⟧.eq (λ x y e. e) };
 
-    ghost value = { protocol_version_value };
+    fn read<'b>(scope: &Scope<'b, A>, tag: u32, cursor: &mut Cursor<'b, A>) -> Step<Self, A> {
+        read_structure::<ProtocolVersionParts, Self, A>(scope, tag, false, cursor)
+    }
 
-    ghost TAG = { 0x420069 };
-
-    ghost structured = { (refl, refl) };
-
-    const TAG: u32 = 0x420069;
-
-    fn read_nested<'b>(
-        scope: &reader::Scope<'b, A>,
-        cursor: &mut reader::Cursor<'b, A>,
-    ) -> reader::Step<Self, A> {
-        reader::read_structure(scope, cursor)
+    fn tell_parts<W: Walk<A>>(&self, state: &mut W::State) -> Result<(), AllocError> {
+        W::two::<Leaf<i32, 0x42006A>, Leaf<i32, 0x42006B>>(state, &self.major, &self.minor)
     }
 }
 
@@ -83,39 +48,12 @@ pub struct RequestHeader {
     pub batch_count: i32,
 }
 
-impl Serialize for RequestHeader {
-    ghost stated = { request_header_value };
+type RequestHeaderParts = (One<Of<ProtocolVersion, 0x420069>>, Leaf<i32, 0x42000D>);
 
-    #[tactic(auto, unfolding(crate::specs::Headers::request_header_value))]
-    fn visit<V: Visitor>(&self, visitor: &mut V) -> Result<(), AllocError> {
-        writing::begin_structure(visitor, 0x420077)?;
-        self.version.visit(visitor)?;
-        writing::tagged(visitor, 0x42000D, Leaf::I32(self.batch_count))?;
-        writing::end_structure(visitor, 0x420077)?;
-        Ok(())
-    }
-}
+impl<A: Allocator + Copy> FromParts<A, RequestHeaderParts> for RequestHeader {
+    ghost parts = { λ x. (x.version, x.batch_count) };
 
-impl<A: Allocator + Copy> reader::ReadStructure<A> for RequestHeader {
-    ghost form = { request_header_form };
-
-    ghost value = { request_header_value };
-
-    ghost TAG = { 0x420077 };
-
-    ghost DENIES_UNKNOWN = { false };
-
-    type Fields = (reader::Nested<ProtocolVersion>, reader::Leaf<i32, 0x42000D>);
-
-    const TAG: u32 = 0x420077;
-
-    const DENIES_UNKNOWN: bool = false;
-
-    fn has_form() {}
-
-    #[tactic(auto, unfolding(crate::specs::Headers::request_header_value))]
-    fn from_fields(fields: (ProtocolVersion, i32)) -> Self {
-        let (version, batch_count) = fields;
+    fn from_parts((version, batch_count): Holds<RequestHeaderParts, A>) -> Self {
         RequestHeader {
             version,
             batch_count,
@@ -123,22 +61,19 @@ impl<A: Allocator + Copy> reader::ReadStructure<A> for RequestHeader {
     }
 }
 
-impl<A: Allocator + Copy> reader::ReadNested<A> for RequestHeader {
-    ghost form = { request_header_form };
+impl<A: Allocator + Copy> Structure<A> for RequestHeader {
+    ghost rules = { structure false ⟦<RequestHeaderParts as PartList<A>>⟧.rules ⟦<RequestHeader as FromParts<A, RequestHeaderParts>>⟧.parts refl ⟦<RequestHeader as PartialEq>⟧.eq (λ x y e. e) };
 
-    ghost value = { request_header_value };
+    fn read<'b>(scope: &Scope<'b, A>, tag: u32, cursor: &mut Cursor<'b, A>) -> Step<Self, A> {
+        read_structure::<RequestHeaderParts, Self, A>(scope, tag, false, cursor)
+    }
 
-    ghost TAG = { 0x420077 };
-
-    ghost structured = { (refl, refl) };
-
-    const TAG: u32 = 0x420077;
-
-    fn read_nested<'b>(
-        scope: &reader::Scope<'b, A>,
-        cursor: &mut reader::Cursor<'b, A>,
-    ) -> reader::Step<Self, A> {
-        reader::read_structure(scope, cursor)
+    fn tell_parts<W: Walk<A>>(&self, state: &mut W::State) -> Result<(), AllocError> {
+        W::two::<One<Of<ProtocolVersion, 0x420069>>, Leaf<i32, 0x42000D>>(
+            state,
+            &self.version,
+            &self.batch_count,
+        )
     }
 }
 
@@ -148,71 +83,41 @@ pub struct ResponseHeader {
     /// The version of the response.
     pub version: ProtocolVersion,
     /// When it was made, in seconds since 1970.
-    pub time_stamp: i64,
+    pub time_stamp: DateTime,
     /// How many items follow.
     pub batch_count: i32,
 }
 
-impl Serialize for ResponseHeader {
-    ghost stated = { response_header_value };
+type ResponseHeaderParts = (
+    One<Of<ProtocolVersion, 0x420069>>,
+    Leaf<DateTime, 0x420092>,
+    Leaf<i32, 0x42000D>,
+);
 
-    fn visit<V: Visitor>(&self, visitor: &mut V) -> Result<(), AllocError> {
-        writing::begin_structure(visitor, 0x42007A)?;
-        self.version.visit(visitor)?;
-        writing::tagged(visitor, 0x420092, Leaf::DateTime(self.time_stamp))?;
-        writing::tagged(visitor, 0x42000D, Leaf::I32(self.batch_count))?;
-        writing::end_structure(visitor, 0x42007A)?;
-        Ok(())
-    }
-}
+impl<A: Allocator + Copy> FromParts<A, ResponseHeaderParts> for ResponseHeader {
+    ghost parts = { λ x. (x.version, x.time_stamp, x.batch_count) };
 
-impl<A: Allocator + Copy> reader::ReadStructure<A> for ResponseHeader {
-    ghost form = { response_header_form };
-
-    ghost value = { response_header_value };
-
-    ghost TAG = { 0x42007A };
-
-    ghost DENIES_UNKNOWN = { false };
-
-    type Fields = (
-        reader::Nested<ProtocolVersion>,
-        reader::Leaf<reader::DateTime, 0x420092>,
-        reader::Leaf<i32, 0x42000D>,
-    );
-
-    const TAG: u32 = 0x42007A;
-
-    const DENIES_UNKNOWN: bool = false;
-
-    fn has_form() {}
-
-    #[tactic(auto, unfolding(crate::specs::Headers::response_header_value))]
-    fn from_fields(fields: (ProtocolVersion, reader::DateTime, i32)) -> Self {
-        let (version, time_stamp, batch_count) = fields;
+    fn from_parts((version, time_stamp, batch_count): Holds<ResponseHeaderParts, A>) -> Self {
         ResponseHeader {
             version,
-            time_stamp: time_stamp.0,
+            time_stamp,
             batch_count,
         }
     }
 }
 
-impl<A: Allocator + Copy> reader::ReadNested<A> for ResponseHeader {
-    ghost form = { response_header_form };
+impl<A: Allocator + Copy> Structure<A> for ResponseHeader {
+    ghost rules = { structure false ⟦<ResponseHeaderParts as PartList<A>>⟧.rules ⟦<ResponseHeader as FromParts<A, ResponseHeaderParts>>⟧.parts refl ⟦<ResponseHeader as PartialEq>⟧.eq (λ x y e. e) };
 
-    ghost value = { response_header_value };
+    fn read<'b>(scope: &Scope<'b, A>, tag: u32, cursor: &mut Cursor<'b, A>) -> Step<Self, A> {
+        read_structure::<ResponseHeaderParts, Self, A>(scope, tag, false, cursor)
+    }
 
-    ghost TAG = { 0x42007A };
-
-    ghost structured = { (refl, refl) };
-
-    const TAG: u32 = 0x42007A;
-
-    fn read_nested<'b>(
-        scope: &reader::Scope<'b, A>,
-        cursor: &mut reader::Cursor<'b, A>,
-    ) -> reader::Step<Self, A> {
-        reader::read_structure(scope, cursor)
+    fn tell_parts<W: Walk<A>>(&self, state: &mut W::State) -> Result<(), AllocError> {
+        W::three::<
+            One<Of<ProtocolVersion, 0x420069>>,
+            Leaf<DateTime, 0x420092>,
+            Leaf<i32, 0x42000D>,
+        >(state, &self.version, &self.time_stamp, &self.batch_count)
     }
 }

@@ -1,14 +1,16 @@
 // Written by codegen from types.table: change that, and run codegen/codegen.
 //! What an item asks for.
 
-ghost use Rattle.std.specs.Prelude.{◌≡◌, refl, codes};
-ghost use Rattle.create_destroy.specs.Operations.{operation_form, operation_value, operation_number, operation_variants};
+ghost use denote.Enum.Bare.{true_same};
+ghost use Rattle.kmip_ttlv_parts.specs.Digits.{tag_text};
+ghost use Rattle.kmip_ttlv_parts.specs.Values.{unit_variant_value};
+ghost use Rattle.create_destroy.specs.Listed.{operation_is_unit, operation_number, operation_same, operation_variants};
+ghost use Rattle.create_destroy.specs.contracts.operation.Operation as operation_contract;
 
-use kmip_ttlv::messages::writing;
-use kmip_ttlv::reader;
-use kmip_ttlv::shape::Serialize;
-use kmip_ttlv::visit::Visitor;
-use std::alloc::{AllocError, Allocator};
+use kmip_ttlv_kinds::Listed;
+use kmip_ttlv_parts::reader;
+use kmip_ttlv_parts::reader::{Cursor, Scope, Step};
+use std::alloc::Allocator;
 
 /// What an item asks for (KMIP 1.0, section 9.1.3.2.26).
 #[derive(Clone, Copy, Debug, PartialEq, Eq)]
@@ -25,47 +27,46 @@ const OPERATION: [(&str, Operation); 2] = [
     ("0x00000014", Operation::Destroy),
 ];
 
-impl Operation {
-    /// Its number, as rules see it: `0x` and eight digits.
-    pub fn number(self) -> &'static str
-        ensures { result.now ≡ operation_number self }
-    {
+impl reader::Listed for Operation {
+    ghost own = { tag_text 0x42005C };
+
+    ghost variants = { operation_variants };
+
+    ghost value = { λ x. unit_variant_value (tag_text 0x42005C) (operation_number x) };
+}
+
+impl Listed for Operation {
+    ghost tag = { 0x42005C };
+
+    ghost variants = { operation_variants };
+
+    ghost rules = { record {
+      number = operation_number;
+      units = operation_is_unit;
+      eq = ⟦<Operation as PartialEq>⟧.eq;
+      same = λ x y e. true_same operation_contract.the_type x y (operation_same x y e);
+    } };
+
+    fn read_listed<'b, A: Allocator + Copy>(
+        scope: &Scope<'b, A>,
+        cursor: &mut Cursor<'b, A>,
+    ) -> Step<Self, A> {
+        cursor.listed(scope, &OPERATION)
+    }
+
+    fn tag() -> u32 {
+        0x42005C
+    }
+
+    #[tactic(auto, unfolding(kmip_ttlv_types::specs::Digits::six_digits))]
+    fn name() -> &'static str {
+        "0x42005C"
+    }
+
+    fn number_text(self) -> &'static str {
         match self {
             Operation::Create => "0x00000001",
             Operation::Destroy => "0x00000014",
         }
-    }
-}
-
-impl Serialize for Operation {
-    ghost stated = { operation_value };
-
-    #[tactic(auto, unfolding(crate::specs::Operations::operation_value))]
-    fn visit<V: Visitor>(&self, visitor: &mut V) -> Result<(), AllocError> {
-        writing::unit_variant(visitor, "0x42005C", self.number())
-    }
-}
-
-impl reader::Listed for Operation {
-    ghost own = { codes "0x42005C" };
-
-    ghost variants = { operation_variants };
-
-    ghost value = { operation_value };
-}
-
-impl<A: Allocator + Copy> reader::ReadItem<A> for Operation {
-    ghost form = { operation_form };
-
-    ghost value = { operation_value };
-
-    ghost plain = { (refl, refl) };
-
-    #[tactic(auto, unfolding(crate::specs::Operations::operation_value))]
-    fn read_item<'b>(
-        scope: &reader::Scope<'b, A>,
-        cursor: &mut reader::Cursor<'b, A>,
-    ) -> reader::Step<Self, A> {
-        cursor.listed(scope, &OPERATION)
     }
 }

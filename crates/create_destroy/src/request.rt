@@ -1,123 +1,134 @@
 // Written by codegen from types.table: change that, and run codegen/codegen.
 //! Requests to create and destroy symmetric keys.
 
-ghost use Rattle.std.specs.Prelude.{◌≡◌, ◌↔◌, refl, IsTrue, OnErr, OnOk, codes, false, string_bytes};
-ghost use Rattle.kmip_ttlv.specs.Forms.{enum, no_variants, unit, variant};
-ghost use Rattle.kmip_ttlv.specs.MessageParts.{tagged};
-ghost use Rattle.kmip_ttlv.specs.Values.{text_value, unit_variant_value};
-ghost use Rattle.kmip_ttlv.specs.Visits.{Receives};
-ghost use Rattle.create_destroy.specs.Headers.{request_header_value};
-ghost use Rattle.create_destroy.specs.Requests.{create_payload_form, written_create_payload, read_create_payload, destroy_payload_form, written_destroy_payload, read_destroy_payload, request_payload_form, written_request_payload, read_request_payload, ChoosesRequestPayload, request_item_form, written_request_item, read_request_item, request_form, written_request, read_request, request_header};
+ghost use Rattle.std.specs.Prelude.{◌↔◌, ◌+◌, IsTrue, codes, false, refl, true};
+ghost use Rattle.kmip_ttlv_parts.specs.Digits.{tag_text};
+ghost use Rattle.kmip_ttlv_parts.specs.Values.{unit_variant_value};
+ghost use Rattle.kmip_ttlv_kinds.specs.Parts.{structure, structure_where};
+ghost use Rattle.kmip_ttlv_kinds.specs.Choices.{held};
+ghost use Rattle.create_destroy.specs.Choices.{request_payload_choice, ChoosesRequestPayload};
+ghost use Rattle.create_destroy.specs.Listed.{operation_number};
+ghost use Rattle.create_destroy.specs.Listed.{create_payload_object_type_is_unit, create_payload_object_type_number, create_payload_object_type_variants};
+ghost use Rattle.create_destroy.specs.declared.request.CreatePayloadObjectType.TheVariants as create_payload_object_type;
 
 use crate::attribute::{Attribute, Template};
-use crate::header::{ProtocolVersion, RequestHeader};
 use crate::operation::Operation;
-use kmip_ttlv::messages::writing;
-use kmip_ttlv::shape::{Decode, Serialize};
-use kmip_ttlv::visit::Visitor;
-use kmip_ttlv::{error, reader};
+use kmip_ttlv_kinds::{
+    Alone, AsElement, Case, Choice, Decided, Element, FromParts, Holds, Inside, Leaf, Listed,
+    ListedItem, One, OneOf, PartList, Structure, Walk, Wrapper, read_structure, texts_in,
+};
+use kmip_ttlv_parts::reader;
+use kmip_ttlv_parts::reader::{ChoiceValue, Cursor, Rule, RuleParts, Scope, Step, VariantOf};
 use std::alloc::{AllocError, Allocator, Global};
 
-/// The payload that asks for a key, as it is read.
+/// The payload that asks for a key.
 #[derive(Drop)]
 #[derive_where(PartialEq)]
 pub struct CreatePayload<A: Allocator = Global> {
     /// What the key is to be.
-    pub template: Template<A>,
-}
-
-impl<A: Allocator> CreatePayload<A> {
-    // Sends one that holds this.
-    #[tactic(auto, unfolding(crate::specs::Requests::written_create_payload))]
-    pub(crate) fn send<V: Visitor>(
-        visitor: &mut V,
-        attributes: &Vec<Attribute<A>, A>,
-    ) -> Result<(), AllocError>
-        ensures received { OnOk result (Receives V.knows V.step (written_create_payload record { template = record { attributes = attributes.now } }) visitor.old visitor.new) }
-        ensures stopped { OnErr result (V.stopped visitor.new) }
-    {
-        writing::begin_structure(visitor, 0x420079)?;
-        writing::unit_variant(visitor, "0x420057", "0x00000002")?;
-        Template::send(visitor, attributes)?;
-        writing::end_structure(visitor, 0x420079)?;
-        Ok(())
-    }
-}
-
-impl<A: Allocator + Copy> reader::ReadStructure<A> for CreatePayload<A> {
-    ghost form = { create_payload_form };
-
-    ghost value = { read_create_payload };
-
-    ghost TAG = { 0x420079 };
-
-    ghost DENIES_UNKNOWN = { false };
-
-    type Fields = (
-        reader::Item<CreatePayloadObjectType, 0x420057>,
-        reader::Nested<Template<A>>,
-    );
-
-    const TAG: u32 = 0x420079;
-
-    const DENIES_UNKNOWN: bool = false;
-
-    fn has_form() {}
-
-    #[tactic(auto, unfolding(crate::specs::Requests::read_create_payload))]
-    fn from_fields(fields: (CreatePayloadObjectType, Template<A>)) -> Self {
-        let (_, template) = fields;
-        CreatePayload { template }
-    }
-}
-
-impl<A: Allocator + Copy> reader::ReadNested<A> for CreatePayload<A> {
-    ghost form = { create_payload_form };
-
-    ghost value = { read_create_payload };
-
-    ghost TAG = { 0x420079 };
-
-    ghost structured = { (refl, refl) };
-
-    const TAG: u32 = 0x420079;
-
-    fn read_nested<'b>(
-        scope: &reader::Scope<'b, A>,
-        cursor: &mut reader::Cursor<'b, A>,
-    ) -> reader::Step<Self, A> {
-        reader::read_structure(scope, cursor)
-    }
+    pub attributes: Vec<Attribute<A>, A>,
 }
 
 /// What `object_type` of a `CreatePayload` always is.
-#[derive(Clone, Copy)]
-pub struct CreatePayloadObjectType;
-
-impl reader::Listed for CreatePayloadObjectType {
-    ghost own = { codes "0x420057" };
-
-    ghost variants = { variant (codes "0x00000002") unit no_variants };
-
-    ghost value = { λ _. unit_variant_value (codes "0x420057") (codes "0x00000002") };
+#[derive(Clone, Copy, PartialEq, Eq)]
+pub enum CreatePayloadObjectType {
+    /// The number.
+    Only,
 }
 
-impl<A: Allocator + Copy> reader::ReadItem<A> for CreatePayloadObjectType {
-    ghost form = { enum (codes "0x420057") (variant (codes "0x00000002") unit no_variants) };
+// Each number, and what it stands for.
+const CREATE_PAYLOAD_OBJECT_TYPE: [(&str, CreatePayloadObjectType); 1] = [(
+    "0x00000002",
+    CreatePayloadObjectType::Only,
+)];
 
-    ghost value = { λ _. unit_variant_value (codes "0x420057") (codes "0x00000002") };
+impl reader::Listed for CreatePayloadObjectType {
+    ghost own = { tag_text 0x420057 };
 
-    ghost plain = { (refl, refl) };
+    ghost variants = { create_payload_object_type_variants };
 
-    fn read_item<'b>(
-        scope: &reader::Scope<'b, A>,
-        cursor: &mut reader::Cursor<'b, A>,
-    ) -> reader::Step<Self, A> {
-        cursor.listed(scope, &[("0x00000002", CreatePayloadObjectType)])
+    ghost value = { λ x. unit_variant_value (tag_text 0x420057) (create_payload_object_type_number x) };
+}
+
+impl Listed for CreatePayloadObjectType {
+    ghost tag = { 0x420057 };
+
+    ghost variants = { create_payload_object_type_variants };
+
+    ghost rules = { record {
+      number = create_payload_object_type_number;
+      units = create_payload_object_type_is_unit;
+      eq = λ x y. true;
+      same = λ x y e. refl;
+    } };
+
+    fn read_listed<'b, A: Allocator + Copy>(
+        scope: &Scope<'b, A>,
+        cursor: &mut Cursor<'b, A>,
+    ) -> Step<Self, A> {
+        cursor.listed(scope, &CREATE_PAYLOAD_OBJECT_TYPE)
+    }
+
+    fn tag() -> u32 {
+        0x420057
+    }
+
+    #[tactic(auto, unfolding(kmip_ttlv_types::specs::Digits::six_digits))]
+    fn name() -> &'static str {
+        "0x420057"
+    }
+
+    fn number_text(self) -> &'static str {
+        match self {
+            CreatePayloadObjectType::Only => "0x00000002",
+        }
     }
 }
 
-/// The payload that destroys a key, as it is read.
+type CreatePayloadParts<A> = (
+    One<ListedItem<CreatePayloadObjectType>>,
+    One<Inside<Template<A>, Vec<Attribute<A>, A>, 0x420091>>,
+);
+
+impl<A: Allocator + Copy> FromParts<A, CreatePayloadParts<A>> for CreatePayload<A> {
+    ghost parts = { λ x. (create_payload_object_type.Only, x.attributes) };
+
+    fn from_parts((_, attributes): Holds<CreatePayloadParts<A>, A>) -> Self {
+        CreatePayload { attributes }
+    }
+}
+
+impl<A: Allocator + Copy> Structure<A> for CreatePayload<A> {
+    ghost rules = { structure false ⟦<CreatePayloadParts<A> as PartList<A>>⟧.rules ⟦<CreatePayload<A> as FromParts<A, CreatePayloadParts<A>>>⟧.parts refl ⟦<CreatePayload<A> as PartialEq>⟧.eq (λ x y e. e) };
+
+    fn read<'b>(scope: &Scope<'b, A>, tag: u32, cursor: &mut Cursor<'b, A>) -> Step<Self, A> {
+        read_structure::<CreatePayloadParts<A>, Self, A>(scope, tag, false, cursor)
+    }
+
+    fn tell_parts<W: Walk<A>>(&self, state: &mut W::State) -> Result<(), AllocError> {
+        Self::tell_inner::<W>(&self.attributes, state)
+    }
+}
+
+impl<A: Allocator + Copy> Wrapper<Vec<Attribute<A>, A>, A> for CreatePayload<A> {
+    ghost wrap = { λ x. record { attributes = x } };
+
+    fn into_inner(self) -> Vec<Attribute<A>, A> {
+        self.attributes
+    }
+
+    fn tell_inner<W: Walk<A>>(
+        inner: &Vec<Attribute<A>, A>,
+        state: &mut W::State,
+    ) -> Result<(), AllocError> {
+        W::two::<
+            One<ListedItem<CreatePayloadObjectType>>,
+            One<Inside<Template<A>, Vec<Attribute<A>, A>, 0x420091>>,
+        >(state, &CreatePayloadObjectType::Only, inner)
+    }
+}
+
+/// The payload that destroys a key.
 #[derive(Drop)]
 #[derive_where(PartialEq)]
 pub struct DestroyPayload<A: Allocator = Global> {
@@ -125,75 +136,37 @@ pub struct DestroyPayload<A: Allocator = Global> {
     pub unique_identifier: String<A>,
 }
 
-impl<A: Allocator> DestroyPayload<A> {
-    // Sends what one holds.
-    fn send_inner<V: Visitor>(
-        visitor: &mut V,
-        unique_identifier: &String<A>,
-    ) -> Result<(), AllocError>
-        ensures received { OnOk result (Receives V.knows V.step (tagged 0x420094 (text_value (string_bytes unique_identifier.now))) visitor.old visitor.new) }
-        ensures stopped { OnErr result (V.stopped visitor.new) }
-    {
-        writing::string(visitor, 0x420094, unique_identifier)?;
-        Ok(())
-    }
+type DestroyPayloadParts<A> = Alone<Leaf<String<A>, 0x420094>>;
 
-    // Sends one that holds this.
-    #[tactic(auto, unfolding(crate::specs::Requests::written_destroy_payload))]
-    pub(crate) fn send<V: Visitor>(
-        visitor: &mut V,
-        unique_identifier: &String<A>,
-    ) -> Result<(), AllocError>
-        ensures received { OnOk result (Receives V.knows V.step (written_destroy_payload record { unique_identifier = unique_identifier.now }) visitor.old visitor.new) }
-        ensures stopped { OnErr result (V.stopped visitor.new) }
-    {
-        writing::begin_newtype(visitor, "0x420079")?;
-        Self::send_inner(visitor, unique_identifier)?;
-        writing::end_newtype(visitor, "0x420079")?;
-        Ok(())
-    }
-}
+impl<A: Allocator + Copy> FromParts<A, DestroyPayloadParts<A>> for DestroyPayload<A> {
+    ghost parts = { λ x. x.unique_identifier };
 
-impl<A: Allocator + Copy> reader::ReadStructure<A> for DestroyPayload<A> {
-    ghost form = { destroy_payload_form };
-
-    ghost value = { read_destroy_payload };
-
-    ghost TAG = { 0x420079 };
-
-    ghost DENIES_UNKNOWN = { false };
-
-    type Fields = (reader::Leaf<String<A>, 0x420094>,);
-
-    const TAG: u32 = 0x420079;
-
-    const DENIES_UNKNOWN: bool = false;
-
-    fn has_form() {}
-
-    #[tactic(auto, unfolding(crate::specs::Requests::read_destroy_payload))]
-    fn from_fields(fields: (String<A>,)) -> Self {
-        let (unique_identifier,) = fields;
+    fn from_parts(unique_identifier: Holds<DestroyPayloadParts<A>, A>) -> Self {
         DestroyPayload { unique_identifier }
     }
 }
 
-impl<A: Allocator + Copy> reader::ReadNested<A> for DestroyPayload<A> {
-    ghost form = { destroy_payload_form };
+impl<A: Allocator + Copy> Structure<A> for DestroyPayload<A> {
+    ghost rules = { structure false ⟦<DestroyPayloadParts<A> as PartList<A>>⟧.rules ⟦<DestroyPayload<A> as FromParts<A, DestroyPayloadParts<A>>>⟧.parts refl ⟦<DestroyPayload<A> as PartialEq>⟧.eq (λ x y e. e) };
 
-    ghost value = { read_destroy_payload };
+    fn read<'b>(scope: &Scope<'b, A>, tag: u32, cursor: &mut Cursor<'b, A>) -> Step<Self, A> {
+        read_structure::<DestroyPayloadParts<A>, Self, A>(scope, tag, false, cursor)
+    }
 
-    ghost TAG = { 0x420079 };
+    fn tell_parts<W: Walk<A>>(&self, state: &mut W::State) -> Result<(), AllocError> {
+        Self::tell_inner::<W>(&self.unique_identifier, state)
+    }
+}
 
-    ghost structured = { (refl, refl) };
+impl<A: Allocator + Copy> Wrapper<String<A>, A> for DestroyPayload<A> {
+    ghost wrap = { λ x. record { unique_identifier = x } };
 
-    const TAG: u32 = 0x420079;
+    fn into_inner(self) -> String<A> {
+        self.unique_identifier
+    }
 
-    fn read_nested<'b>(
-        scope: &reader::Scope<'b, A>,
-        cursor: &mut reader::Cursor<'b, A>,
-    ) -> reader::Step<Self, A> {
-        reader::read_structure(scope, cursor)
+    fn tell_inner<W: Walk<A>>(inner: &String<A>, state: &mut W::State) -> Result<(), AllocError> {
+        W::one::<Leaf<String<A>, 0x420094>>(state, inner)
     }
 }
 
@@ -219,25 +192,34 @@ impl<A: Allocator> RequestPayload<A> {
     }
 }
 
-impl<B: Allocator> Serialize for RequestPayload<B> {
-    ghost stated = { written_request_payload };
+impl<A: Allocator + Copy> Choice<A> for RequestPayload<A> {
+    ghost chosen = { request_payload_choice ⟦<RequestPayload<A> as PartialEq>⟧.eq record {
+      create = held ⟦<Inside<CreatePayload<A>, Vec<Attribute<A>, A>, 0x420079> as Element<A>>⟧.rules refl refl (λ x y e. e);
+      destroy = held ⟦<Inside<DestroyPayload<A>, String<A>, 0x420079> as Element<A>>⟧.rules refl refl (λ x y e. e);
+    } };
 
-    #[tactic(auto, unfolding(crate::specs::Requests::written_request_payload))]
-    fn visit<V: Visitor>(&self, visitor: &mut V) -> Result<(), AllocError> {
+    fn read_chosen<'b>(scope: &Scope<'b, A>, cursor: &mut Cursor<'b, A>) -> Step<Self, A> {
+        reader::read_choice(scope, cursor)
+    }
+
+    fn tell_held<W: Walk<A>>(&self, state: &mut W::State) -> Result<(), AllocError> {
         match self {
-            RequestPayload::Create(attributes) => CreatePayload::send(visitor, attributes),
-            RequestPayload::Destroy(unique_identifier) => DestroyPayload::send(
-                visitor,
-                unique_identifier,
-            ),
+            RequestPayload::Create(inner) => W::item::<
+                Inside<CreatePayload<A>, Vec<Attribute<A>, A>, 0x420079>,
+            >(state, inner),
+            RequestPayload::Destroy(inner) => W::item::<
+                Inside<DestroyPayload<A>, String<A>, 0x420079>,
+            >(state, inner),
         }
     }
+
+    ghost plain = { (refl, refl) };
 }
 
 /// The rule that chooses `RequestPayload::Create`.
 pub struct RequestPayloadCreateRule;
 
-impl reader::Rule for RequestPayloadCreateRule {
+impl Rule for RequestPayloadCreateRule {
     ghost condition = { codes "0x42005C==0x00000001" };
 
     fn name() -> &'static str {
@@ -245,29 +227,26 @@ impl reader::Rule for RequestPayloadCreateRule {
     }
 
     #[tactic(auto, unfolding(kmip_ttlv_reader::specs::RuleParts::parts_of))]
-    fn parts() -> Option<reader::RuleParts> {
-        Some(reader::RuleParts::Texts {
-            tag: 0x42005C,
-            texts: &["0x00000001"],
-        })
+    fn parts() -> Option<RuleParts> {
+        texts_in(0x42005C, &["0x00000001"])
     }
 }
 
-impl<A: Allocator + Copy> reader::VariantOf<
-    reader::StructureElement<CreatePayload<A>>,
+impl<A: Allocator + Copy> VariantOf<
+    AsElement<Inside<CreatePayload<A>, Vec<Attribute<A>, A>, 0x420079>>,
     RequestPayload<A>,
     A,
 > for RequestPayloadCreateRule {
-    #[tactic(auto, unfolding(crate::specs::Requests::read_request_payload, crate::specs::Requests::read_create_payload))]
-    fn from_content(inner: CreatePayload<A>) -> RequestPayload<A> {
-        RequestPayload::Create(inner.template.attributes)
+    #[tactic(auto, unfolding(crate::specs::Choices::request_payload_by))]
+    fn from_content(inner: Vec<Attribute<A>, A>) -> RequestPayload<A> {
+        RequestPayload::Create(inner)
     }
 }
 
 /// The rule that chooses `RequestPayload::Destroy`.
 pub struct RequestPayloadDestroyRule;
 
-impl reader::Rule for RequestPayloadDestroyRule {
+impl Rule for RequestPayloadDestroyRule {
     ghost condition = { codes "0x42005C==0x00000014" };
 
     fn name() -> &'static str {
@@ -275,58 +254,40 @@ impl reader::Rule for RequestPayloadDestroyRule {
     }
 
     #[tactic(auto, unfolding(kmip_ttlv_reader::specs::RuleParts::parts_of))]
-    fn parts() -> Option<reader::RuleParts> {
-        Some(reader::RuleParts::Texts {
-            tag: 0x42005C,
-            texts: &["0x00000014"],
-        })
+    fn parts() -> Option<RuleParts> {
+        texts_in(0x42005C, &["0x00000014"])
     }
 }
 
-impl<A: Allocator + Copy> reader::VariantOf<
-    reader::StructureElement<DestroyPayload<A>>,
+impl<A: Allocator + Copy> VariantOf<
+    AsElement<Inside<DestroyPayload<A>, String<A>, 0x420079>>,
     RequestPayload<A>,
     A,
 > for RequestPayloadDestroyRule {
-    #[tactic(auto, unfolding(crate::specs::Requests::read_request_payload, crate::specs::Requests::read_destroy_payload))]
-    fn from_content(inner: DestroyPayload<A>) -> RequestPayload<A> {
-        RequestPayload::Destroy(inner.unique_identifier)
+    #[tactic(auto, unfolding(crate::specs::Choices::request_payload_by))]
+    fn from_content(inner: String<A>) -> RequestPayload<A> {
+        RequestPayload::Destroy(inner)
     }
 }
 
-impl<A: Allocator> reader::ChoiceValue for RequestPayload<A> {
+impl<A: Allocator + Copy> ChoiceValue for RequestPayload<A> {
     ghost own = { codes "payload" };
 
-    ghost value = { read_request_payload };
+    ghost value = { ⟦<RequestPayload<A> as Choice<A>>⟧.chosen.value };
 }
 
 impl<A: Allocator + Copy> reader::Choice<A> for RequestPayload<A> {
-    ghost form = { request_payload_form };
+    ghost form = { ⟦<RequestPayload<A> as Choice<A>>⟧.chosen.form };
 
     type Variants = (
-        reader::Variant<RequestPayloadCreateRule, reader::StructureElement<CreatePayload<A>>>,
+        Case<RequestPayloadCreateRule, Inside<CreatePayload<A>, Vec<Attribute<A>, A>, 0x420079>>,
         (
-            reader::Variant<RequestPayloadDestroyRule, reader::StructureElement<DestroyPayload<A>>>,
+            Case<RequestPayloadDestroyRule, Inside<DestroyPayload<A>, String<A>, 0x420079>>,
             (),
         ),
     );
 
     fn has_form() {}
-}
-
-impl<A: Allocator + Copy> reader::ReadItem<A> for RequestPayload<A> {
-    ghost form = { request_payload_form };
-
-    ghost value = { read_request_payload };
-
-    ghost plain = { (refl, refl) };
-
-    fn read_item<'b>(
-        scope: &reader::Scope<'b, A>,
-        cursor: &mut reader::Cursor<'b, A>,
-    ) -> reader::Step<Self, A> {
-        reader::read_choice(scope, cursor)
-    }
 }
 
 /// One thing that is asked for.
@@ -339,162 +300,42 @@ pub struct RequestItem<A: Allocator = Global> {
     pub payload: RequestPayload<A>,
 }
 
-impl<B: Allocator> Serialize for RequestItem<B> {
-    ghost stated = { written_request_item };
+impl<A: Allocator> Decided for RequestItem<A> {
+    ghost IsDecided = { λ x. (ChoosesRequestPayload (operation_number x.operation) x.payload) };
 
-    #[tactic(auto, unfolding(crate::specs::Requests::written_request_item))]
-    fn visit<V: Visitor>(&self, visitor: &mut V) -> Result<(), AllocError> {
-        writing::begin_structure(visitor, 0x42000F)?;
-        self.operation.visit(visitor)?;
-        self.payload.visit(visitor)?;
-        writing::end_structure(visitor, 0x42000F)?;
-        Ok(())
+    fn is_decided(&self) -> bool {
+        self.payload.is_chosen_by(self.operation.number_text())
     }
 }
 
-impl<A: Allocator + Copy> reader::ReadStructure<A> for RequestItem<A> {
-    ghost form = { request_item_form };
+type RequestItemParts<A> = (
+    One<ListedItem<Operation>>,
+    OneOf<RequestPayload<A>, 0x420079>,
+);
 
-    ghost value = { read_request_item };
+impl<A: Allocator + Copy> FromParts<A, RequestItemParts<A>> for RequestItem<A> {
+    ghost parts = { λ x. (x.operation, x.payload) };
 
-    ghost TAG = { 0x42000F };
-
-    ghost DENIES_UNKNOWN = { false };
-
-    type Fields = (
-        reader::Item<Operation, 0x42005C>,
-        reader::Item<RequestPayload<A>, 0x420079>,
-    );
-
-    const TAG: u32 = 0x42000F;
-
-    const DENIES_UNKNOWN: bool = false;
-
-    fn has_form() {}
-
-    #[tactic(auto, unfolding(crate::specs::Requests::read_request_item))]
-    fn from_fields(fields: (Operation, RequestPayload<A>)) -> Self {
-        let (operation, payload) = fields;
+    fn from_parts((operation, payload): Holds<RequestItemParts<A>, A>) -> Self {
         RequestItem { operation, payload }
     }
 }
 
-impl<A: Allocator + Copy> reader::ReadNested<A> for RequestItem<A> {
-    ghost form = { request_item_form };
+impl<A: Allocator + Copy> Structure<A> for RequestItem<A> {
+    ghost rules = { structure_where false ⟦<RequestItemParts<A> as PartList<A>>⟧.rules ⟦<RequestItem<A> as FromParts<A, RequestItemParts<A>>>⟧.parts refl
+        (λ x. (ChoosesRequestPayload (operation_number x.operation) x.payload)) (λ x d. (tt, (d))) ⟦<RequestItem<A> as PartialEq>⟧.eq (λ x y e. e) };
 
-    ghost value = { read_request_item };
-
-    ghost TAG = { 0x42000F };
-
-    ghost structured = { (refl, refl) };
-
-    const TAG: u32 = 0x42000F;
-
-    fn read_nested<'b>(
-        scope: &reader::Scope<'b, A>,
-        cursor: &mut reader::Cursor<'b, A>,
-    ) -> reader::Step<Self, A> {
-        reader::read_structure(scope, cursor)
-    }
-}
-
-/// A request.
-#[derive(Drop)]
-#[derive_where(PartialEq)]
-pub struct Request<A: Allocator = Global> {
-    /// Major versions are not compatible.
-    pub major: i32,
-    /// Minor ones are.
-    pub minor: i32,
-    /// How many items follow.
-    pub batch_count: i32,
-    /// One or more.
-    pub items: Vec<RequestItem<A>, A>,
-}
-
-impl<A: Allocator> Request<A> {
-    // Its fields that are a `RequestHeader`.
-    pub(crate) fn header(&self) -> RequestHeader
-        ensures { result ≡ request_header self.now }
-    {
-        RequestHeader {
-            version: ProtocolVersion {
-                major: self.major,
-                minor: self.minor,
-            },
-            batch_count: self.batch_count,
-        }
+    fn read<'b>(scope: &Scope<'b, A>, tag: u32, cursor: &mut Cursor<'b, A>) -> Step<Self, A> {
+        read_structure::<RequestItemParts<A>, Self, A>(scope, tag, false, cursor)
     }
 
-    // Sends these.
-    fn send_header<V: Visitor>(&self, visitor: &mut V) -> Result<(), AllocError>
-        ensures received { OnOk result (Receives V.knows V.step (request_header_value (request_header self.now)) visitor.old visitor.new) }
-        ensures stopped { OnErr result (V.stopped visitor.new) }
-    {
-        self.header().visit(visitor)?;
+    fn tell_parts<W: Walk<A>>(&self, state: &mut W::State) -> Result<(), AllocError> {
+        W::two::<One<ListedItem<Operation>>, OneOf<RequestPayload<A>, 0x420079>>(
+            state,
+            &self.operation,
+            &self.payload,
+        )?;
+        W::check(state, self);
         Ok(())
-    }
-
-    // The one with these fields, and these parts beside them.
-    fn with_header(header: RequestHeader, items: Vec<RequestItem<A>, A>) -> Self
-        ensures header { request_header result ≡ header }
-        ensures items { result.items ≡ items }
-    {
-        Request {
-            major: header.version.major,
-            minor: header.version.minor,
-            batch_count: header.batch_count,
-            items,
-        }
-    }
-}
-
-impl<B: Allocator> Serialize for Request<B> {
-    ghost stated = { written_request };
-
-    #[tactic(auto, unfolding(crate::specs::Requests::written_request))]
-    fn visit<V: Visitor>(&self, visitor: &mut V) -> Result<(), AllocError> {
-        writing::begin_structure(visitor, 0x420078)?;
-        self.send_header(visitor)?;
-        writing::several(visitor, &self.items)?;
-        writing::end_structure(visitor, 0x420078)?;
-        Ok(())
-    }
-}
-
-impl<A: Allocator + Copy> reader::ReadStructure<A> for Request<A> {
-    ghost form = { request_form };
-
-    ghost value = { read_request };
-
-    ghost TAG = { 0x420078 };
-
-    ghost DENIES_UNKNOWN = { false };
-
-    type Fields = (
-        reader::Nested<RequestHeader>,
-        reader::Several<RequestItem<A>>,
-    );
-
-    const TAG: u32 = 0x420078;
-
-    const DENIES_UNKNOWN: bool = false;
-
-    fn has_form() {}
-
-    #[tactic(auto, unfolding(crate::specs::Requests::read_request))]
-    fn from_fields(fields: (RequestHeader, Vec<RequestItem<A>, A>)) -> Self {
-        let (header, items) = fields;
-        Request::with_header(header, items)
-    }
-}
-
-impl<A: Allocator + Copy> Decode<A> for Request<A> {
-    ghost form = { request_form };
-
-    ghost is_value = { λ v x. v ≡ read_request x };
-
-    fn decode(alloc: A, bytes: &[u8]) -> Result<Self, error::Error<A>> {
-        reader::read_message(alloc, bytes)
     }
 }

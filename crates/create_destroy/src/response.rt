@@ -1,23 +1,28 @@
 // Written by codegen from types.table: change that, and run codegen/codegen.
 //! Responses on symmetric keys that were created or destroyed.
 
-ghost use Rattle.std.specs.Prelude.{◌≡◌, ◌↔◌, refl, IsTrue, OnErr, OnOk, codes, false, string_bytes};
-ghost use Rattle.kmip_ttlv.specs.Forms.{enum, no_variants, unit, variant};
-ghost use Rattle.kmip_ttlv.specs.MessageParts.{tagged};
-ghost use Rattle.kmip_ttlv.specs.Values.{text_value, unit_variant_value};
-ghost use Rattle.kmip_ttlv.specs.Visits.{Receives};
-ghost use Rattle.create_destroy.specs.Headers.{response_header_value};
-ghost use Rattle.create_destroy.specs.Responses.{created_form, created_value, destroyed_form, destroyed_value, response_payload_form, written_response_payload, read_response_payload, ChoosesResponsePayload, response_item_form, written_response_item, read_response_item, response_form, written_response, read_response, response_header};
+ghost use Rattle.std.specs.Prelude.{◌↔◌, ◌+◌, IsTrue, codes, false, refl, true};
+ghost use Rattle.kmip_ttlv_parts.specs.Digits.{tag_text};
+ghost use Rattle.kmip_ttlv_parts.specs.Values.{unit_variant_value};
+ghost use Rattle.kmip_ttlv_kinds.specs.Parts.{structure, structure_where};
+ghost use Rattle.kmip_ttlv_kinds.specs.Choices.{held};
+ghost use Rattle.create_destroy.specs.Choices.{response_payload_choice, ChoosesResponsePayload};
+ghost use Rattle.create_destroy.specs.Listed.{operation_number};
+ghost use Rattle.create_destroy.specs.Listed.{created_object_type_is_unit, created_object_type_number, created_object_type_variants};
+ghost use Rattle.create_destroy.specs.declared.response.CreatedObjectType.TheVariants as created_object_type;
+ghost use Rattle.create_destroy.specs.Listed.{response_item_result_status_is_unit, response_item_result_status_number, response_item_result_status_variants};
+ghost use Rattle.create_destroy.specs.declared.response.ResponseItemResultStatus.TheVariants as response_item_result_status;
 
-use crate::header::{ProtocolVersion, ResponseHeader};
 use crate::operation::Operation;
-use kmip_ttlv::messages::writing;
-use kmip_ttlv::shape::{Decode, Serialize};
-use kmip_ttlv::visit::Visitor;
-use kmip_ttlv::{error, reader};
+use kmip_ttlv_kinds::{
+    Alone, AsElement, Case, Choice, Decided, Element, FromParts, Holds, Inside, Leaf, Listed,
+    ListedItem, One, OneOf, PartList, Structure, Walk, Wrapper, read_structure, texts_in,
+};
+use kmip_ttlv_parts::reader;
+use kmip_ttlv_parts::reader::{ChoiceValue, Cursor, Rule, RuleParts, Scope, Step, VariantOf};
 use std::alloc::{AllocError, Allocator, Global};
 
-/// The payload on a key that was made, as it is read.
+/// The payload on a key that was made.
 #[derive(Drop)]
 #[derive_where(PartialEq)]
 pub struct Created<A: Allocator = Global> {
@@ -25,110 +30,104 @@ pub struct Created<A: Allocator = Global> {
     pub unique_identifier: String<A>,
 }
 
-impl<A: Allocator> Created<A> {
-    // Sends what one holds.
-    fn send_inner<V: Visitor>(
-        visitor: &mut V,
-        unique_identifier: &String<A>,
-    ) -> Result<(), AllocError>
-        ensures received { OnOk result (Receives V.knows V.step (tagged 0x420094 (text_value (string_bytes unique_identifier.now))) visitor.old visitor.new) }
-        ensures stopped { OnErr result (V.stopped visitor.new) }
-    {
-        writing::string(visitor, 0x420094, unique_identifier)?;
-        Ok(())
+/// What `object_type` of a `Created` always is.
+#[derive(Clone, Copy, PartialEq, Eq)]
+pub enum CreatedObjectType {
+    /// The number.
+    Only,
+}
+
+// Each number, and what it stands for.
+const CREATED_OBJECT_TYPE: [(&str, CreatedObjectType); 1] = [(
+    "0x00000002",
+    CreatedObjectType::Only,
+)];
+
+impl reader::Listed for CreatedObjectType {
+    ghost own = { tag_text 0x420057 };
+
+    ghost variants = { created_object_type_variants };
+
+    ghost value = { λ x. unit_variant_value (tag_text 0x420057) (created_object_type_number x) };
+}
+
+impl Listed for CreatedObjectType {
+    ghost tag = { 0x420057 };
+
+    ghost variants = { created_object_type_variants };
+
+    ghost rules = { record {
+      number = created_object_type_number;
+      units = created_object_type_is_unit;
+      eq = λ x y. true;
+      same = λ x y e. refl;
+    } };
+
+    fn read_listed<'b, A: Allocator + Copy>(
+        scope: &Scope<'b, A>,
+        cursor: &mut Cursor<'b, A>,
+    ) -> Step<Self, A> {
+        cursor.listed(scope, &CREATED_OBJECT_TYPE)
     }
 
-    // Sends one that holds this.
-    #[tactic(auto, unfolding(crate::specs::Responses::created_value))]
-    pub(crate) fn send<V: Visitor>(
-        visitor: &mut V,
-        unique_identifier: &String<A>,
-    ) -> Result<(), AllocError>
-        ensures received { OnOk result (Receives V.knows V.step (created_value record { unique_identifier = unique_identifier.now }) visitor.old visitor.new) }
-        ensures stopped { OnErr result (V.stopped visitor.new) }
-    {
-        writing::begin_structure(visitor, 0x42007C)?;
-        writing::unit_variant(visitor, "0x420057", "0x00000002")?;
-        Self::send_inner(visitor, unique_identifier)?;
-        writing::end_structure(visitor, 0x42007C)?;
-        Ok(())
+    fn tag() -> u32 {
+        0x420057
+    }
+
+    #[tactic(auto, unfolding(kmip_ttlv_types::specs::Digits::six_digits))]
+    fn name() -> &'static str {
+        "0x420057"
+    }
+
+    fn number_text(self) -> &'static str {
+        match self {
+            CreatedObjectType::Only => "0x00000002",
+        }
     }
 }
 
-impl<A: Allocator + Copy> reader::ReadStructure<A> for Created<A> {
-    ghost form = { created_form };
+type CreatedParts<A> = (
+    One<ListedItem<CreatedObjectType>>,
+    Leaf<String<A>, 0x420094>,
+);
 
-    ghost value = { created_value };
+impl<A: Allocator + Copy> FromParts<A, CreatedParts<A>> for Created<A> {
+    ghost parts = { λ x. (created_object_type.Only, x.unique_identifier) };
 
-    ghost TAG = { 0x42007C };
-
-    ghost DENIES_UNKNOWN = { false };
-
-    type Fields = (
-        reader::Item<CreatedObjectType, 0x420057>,
-        reader::Leaf<String<A>, 0x420094>,
-    );
-
-    const TAG: u32 = 0x42007C;
-
-    const DENIES_UNKNOWN: bool = false;
-
-    fn has_form() {}
-
-    #[tactic(auto, unfolding(crate::specs::Responses::created_value))]
-    fn from_fields(fields: (CreatedObjectType, String<A>)) -> Self {
-        let (_, unique_identifier) = fields;
+    fn from_parts((_, unique_identifier): Holds<CreatedParts<A>, A>) -> Self {
         Created { unique_identifier }
     }
 }
 
-impl<A: Allocator + Copy> reader::ReadNested<A> for Created<A> {
-    ghost form = { created_form };
+impl<A: Allocator + Copy> Structure<A> for Created<A> {
+    ghost rules = { structure false ⟦<CreatedParts<A> as PartList<A>>⟧.rules ⟦<Created<A> as FromParts<A, CreatedParts<A>>>⟧.parts refl ⟦<Created<A> as PartialEq>⟧.eq (λ x y e. e) };
 
-    ghost value = { created_value };
+    fn read<'b>(scope: &Scope<'b, A>, tag: u32, cursor: &mut Cursor<'b, A>) -> Step<Self, A> {
+        read_structure::<CreatedParts<A>, Self, A>(scope, tag, false, cursor)
+    }
 
-    ghost TAG = { 0x42007C };
-
-    ghost structured = { (refl, refl) };
-
-    const TAG: u32 = 0x42007C;
-
-    fn read_nested<'b>(
-        scope: &reader::Scope<'b, A>,
-        cursor: &mut reader::Cursor<'b, A>,
-    ) -> reader::Step<Self, A> {
-        reader::read_structure(scope, cursor)
+    fn tell_parts<W: Walk<A>>(&self, state: &mut W::State) -> Result<(), AllocError> {
+        Self::tell_inner::<W>(&self.unique_identifier, state)
     }
 }
 
-/// What `object_type` of a `Created` always is.
-#[derive(Clone, Copy)]
-pub struct CreatedObjectType;
+impl<A: Allocator + Copy> Wrapper<String<A>, A> for Created<A> {
+    ghost wrap = { λ x. record { unique_identifier = x } };
 
-impl reader::Listed for CreatedObjectType {
-    ghost own = { codes "0x420057" };
+    fn into_inner(self) -> String<A> {
+        self.unique_identifier
+    }
 
-    ghost variants = { variant (codes "0x00000002") unit no_variants };
-
-    ghost value = { λ _. unit_variant_value (codes "0x420057") (codes "0x00000002") };
-}
-
-impl<A: Allocator + Copy> reader::ReadItem<A> for CreatedObjectType {
-    ghost form = { enum (codes "0x420057") (variant (codes "0x00000002") unit no_variants) };
-
-    ghost value = { λ _. unit_variant_value (codes "0x420057") (codes "0x00000002") };
-
-    ghost plain = { (refl, refl) };
-
-    fn read_item<'b>(
-        scope: &reader::Scope<'b, A>,
-        cursor: &mut reader::Cursor<'b, A>,
-    ) -> reader::Step<Self, A> {
-        cursor.listed(scope, &[("0x00000002", CreatedObjectType)])
+    fn tell_inner<W: Walk<A>>(inner: &String<A>, state: &mut W::State) -> Result<(), AllocError> {
+        W::two::<One<ListedItem<CreatedObjectType>>, Leaf<String<A>, 0x420094>>(
+            state,
+            &CreatedObjectType::Only,
+            inner,
+        )
     }
 }
 
-/// The payload on a key that was destroyed, as it is read.
+/// The payload on a key that was destroyed.
 #[derive(Drop)]
 #[derive_where(PartialEq)]
 pub struct Destroyed<A: Allocator = Global> {
@@ -136,75 +135,37 @@ pub struct Destroyed<A: Allocator = Global> {
     pub unique_identifier: String<A>,
 }
 
-impl<A: Allocator> Destroyed<A> {
-    // Sends what one holds.
-    fn send_inner<V: Visitor>(
-        visitor: &mut V,
-        unique_identifier: &String<A>,
-    ) -> Result<(), AllocError>
-        ensures received { OnOk result (Receives V.knows V.step (tagged 0x420094 (text_value (string_bytes unique_identifier.now))) visitor.old visitor.new) }
-        ensures stopped { OnErr result (V.stopped visitor.new) }
-    {
-        writing::string(visitor, 0x420094, unique_identifier)?;
-        Ok(())
-    }
+type DestroyedParts<A> = Alone<Leaf<String<A>, 0x420094>>;
 
-    // Sends one that holds this.
-    #[tactic(auto, unfolding(crate::specs::Responses::destroyed_value))]
-    pub(crate) fn send<V: Visitor>(
-        visitor: &mut V,
-        unique_identifier: &String<A>,
-    ) -> Result<(), AllocError>
-        ensures received { OnOk result (Receives V.knows V.step (destroyed_value record { unique_identifier = unique_identifier.now }) visitor.old visitor.new) }
-        ensures stopped { OnErr result (V.stopped visitor.new) }
-    {
-        writing::begin_structure(visitor, 0x42007C)?;
-        Self::send_inner(visitor, unique_identifier)?;
-        writing::end_structure(visitor, 0x42007C)?;
-        Ok(())
-    }
-}
+impl<A: Allocator + Copy> FromParts<A, DestroyedParts<A>> for Destroyed<A> {
+    ghost parts = { λ x. x.unique_identifier };
 
-impl<A: Allocator + Copy> reader::ReadStructure<A> for Destroyed<A> {
-    ghost form = { destroyed_form };
-
-    ghost value = { destroyed_value };
-
-    ghost TAG = { 0x42007C };
-
-    ghost DENIES_UNKNOWN = { false };
-
-    type Fields = (reader::Leaf<String<A>, 0x420094>,);
-
-    const TAG: u32 = 0x42007C;
-
-    const DENIES_UNKNOWN: bool = false;
-
-    fn has_form() {}
-
-    #[tactic(auto, unfolding(crate::specs::Responses::destroyed_value))]
-    fn from_fields(fields: (String<A>,)) -> Self {
-        let (unique_identifier,) = fields;
+    fn from_parts(unique_identifier: Holds<DestroyedParts<A>, A>) -> Self {
         Destroyed { unique_identifier }
     }
 }
 
-impl<A: Allocator + Copy> reader::ReadNested<A> for Destroyed<A> {
-    ghost form = { destroyed_form };
+impl<A: Allocator + Copy> Structure<A> for Destroyed<A> {
+    ghost rules = { structure false ⟦<DestroyedParts<A> as PartList<A>>⟧.rules ⟦<Destroyed<A> as FromParts<A, DestroyedParts<A>>>⟧.parts refl ⟦<Destroyed<A> as PartialEq>⟧.eq (λ x y e. e) };
 
-    ghost value = { destroyed_value };
+    fn read<'b>(scope: &Scope<'b, A>, tag: u32, cursor: &mut Cursor<'b, A>) -> Step<Self, A> {
+        read_structure::<DestroyedParts<A>, Self, A>(scope, tag, false, cursor)
+    }
 
-    ghost TAG = { 0x42007C };
+    fn tell_parts<W: Walk<A>>(&self, state: &mut W::State) -> Result<(), AllocError> {
+        Self::tell_inner::<W>(&self.unique_identifier, state)
+    }
+}
 
-    ghost structured = { (refl, refl) };
+impl<A: Allocator + Copy> Wrapper<String<A>, A> for Destroyed<A> {
+    ghost wrap = { λ x. record { unique_identifier = x } };
 
-    const TAG: u32 = 0x42007C;
+    fn into_inner(self) -> String<A> {
+        self.unique_identifier
+    }
 
-    fn read_nested<'b>(
-        scope: &reader::Scope<'b, A>,
-        cursor: &mut reader::Cursor<'b, A>,
-    ) -> reader::Step<Self, A> {
-        reader::read_structure(scope, cursor)
+    fn tell_inner<W: Walk<A>>(inner: &String<A>, state: &mut W::State) -> Result<(), AllocError> {
+        W::one::<Leaf<String<A>, 0x420094>>(state, inner)
     }
 }
 
@@ -230,25 +191,34 @@ impl<A: Allocator> ResponsePayload<A> {
     }
 }
 
-impl<B: Allocator> Serialize for ResponsePayload<B> {
-    ghost stated = { written_response_payload };
+impl<A: Allocator + Copy> Choice<A> for ResponsePayload<A> {
+    ghost chosen = { response_payload_choice ⟦<ResponsePayload<A> as PartialEq>⟧.eq record {
+      create = held ⟦<Inside<Created<A>, String<A>, 0x42007C> as Element<A>>⟧.rules refl refl (λ x y e. e);
+      destroy = held ⟦<Inside<Destroyed<A>, String<A>, 0x42007C> as Element<A>>⟧.rules refl refl (λ x y e. e);
+    } };
 
-    #[tactic(auto, unfolding(crate::specs::Responses::written_response_payload))]
-    fn visit<V: Visitor>(&self, visitor: &mut V) -> Result<(), AllocError> {
+    fn read_chosen<'b>(scope: &Scope<'b, A>, cursor: &mut Cursor<'b, A>) -> Step<Self, A> {
+        reader::read_choice(scope, cursor)
+    }
+
+    fn tell_held<W: Walk<A>>(&self, state: &mut W::State) -> Result<(), AllocError> {
         match self {
-            ResponsePayload::Create(unique_identifier) => Created::send(visitor, unique_identifier),
-            ResponsePayload::Destroy(unique_identifier) => Destroyed::send(
-                visitor,
-                unique_identifier,
+            ResponsePayload::Create(inner) => W::item::<Inside<Created<A>, String<A>, 0x42007C>>(
+                state, inner,
+            ),
+            ResponsePayload::Destroy(inner) => W::item::<Inside<Destroyed<A>, String<A>, 0x42007C>>(
+                state, inner,
             ),
         }
     }
+
+    ghost plain = { (refl, refl) };
 }
 
 /// The rule that chooses `ResponsePayload::Create`.
 pub struct ResponsePayloadCreateRule;
 
-impl reader::Rule for ResponsePayloadCreateRule {
+impl Rule for ResponsePayloadCreateRule {
     ghost condition = { codes "0x42005C==0x00000001" };
 
     fn name() -> &'static str {
@@ -256,29 +226,26 @@ impl reader::Rule for ResponsePayloadCreateRule {
     }
 
     #[tactic(auto, unfolding(kmip_ttlv_reader::specs::RuleParts::parts_of))]
-    fn parts() -> Option<reader::RuleParts> {
-        Some(reader::RuleParts::Texts {
-            tag: 0x42005C,
-            texts: &["0x00000001"],
-        })
+    fn parts() -> Option<RuleParts> {
+        texts_in(0x42005C, &["0x00000001"])
     }
 }
 
-impl<A: Allocator + Copy> reader::VariantOf<
-    reader::StructureElement<Created<A>>,
+impl<A: Allocator + Copy> VariantOf<
+    AsElement<Inside<Created<A>, String<A>, 0x42007C>>,
     ResponsePayload<A>,
     A,
 > for ResponsePayloadCreateRule {
-    #[tactic(auto, unfolding(crate::specs::Responses::read_response_payload, crate::specs::Responses::created_value))]
-    fn from_content(inner: Created<A>) -> ResponsePayload<A> {
-        ResponsePayload::Create(inner.unique_identifier)
+    #[tactic(auto, unfolding(crate::specs::Choices::response_payload_by))]
+    fn from_content(inner: String<A>) -> ResponsePayload<A> {
+        ResponsePayload::Create(inner)
     }
 }
 
 /// The rule that chooses `ResponsePayload::Destroy`.
 pub struct ResponsePayloadDestroyRule;
 
-impl reader::Rule for ResponsePayloadDestroyRule {
+impl Rule for ResponsePayloadDestroyRule {
     ghost condition = { codes "0x42005C==0x00000014" };
 
     fn name() -> &'static str {
@@ -286,58 +253,40 @@ impl reader::Rule for ResponsePayloadDestroyRule {
     }
 
     #[tactic(auto, unfolding(kmip_ttlv_reader::specs::RuleParts::parts_of))]
-    fn parts() -> Option<reader::RuleParts> {
-        Some(reader::RuleParts::Texts {
-            tag: 0x42005C,
-            texts: &["0x00000014"],
-        })
+    fn parts() -> Option<RuleParts> {
+        texts_in(0x42005C, &["0x00000014"])
     }
 }
 
-impl<A: Allocator + Copy> reader::VariantOf<
-    reader::StructureElement<Destroyed<A>>,
+impl<A: Allocator + Copy> VariantOf<
+    AsElement<Inside<Destroyed<A>, String<A>, 0x42007C>>,
     ResponsePayload<A>,
     A,
 > for ResponsePayloadDestroyRule {
-    #[tactic(auto, unfolding(crate::specs::Responses::read_response_payload, crate::specs::Responses::destroyed_value))]
-    fn from_content(inner: Destroyed<A>) -> ResponsePayload<A> {
-        ResponsePayload::Destroy(inner.unique_identifier)
+    #[tactic(auto, unfolding(crate::specs::Choices::response_payload_by))]
+    fn from_content(inner: String<A>) -> ResponsePayload<A> {
+        ResponsePayload::Destroy(inner)
     }
 }
 
-impl<A: Allocator> reader::ChoiceValue for ResponsePayload<A> {
+impl<A: Allocator + Copy> ChoiceValue for ResponsePayload<A> {
     ghost own = { codes "payload" };
 
-    ghost value = { read_response_payload };
+    ghost value = { ⟦<ResponsePayload<A> as Choice<A>>⟧.chosen.value };
 }
 
 impl<A: Allocator + Copy> reader::Choice<A> for ResponsePayload<A> {
-    ghost form = { response_payload_form };
+    ghost form = { ⟦<ResponsePayload<A> as Choice<A>>⟧.chosen.form };
 
     type Variants = (
-        reader::Variant<ResponsePayloadCreateRule, reader::StructureElement<Created<A>>>,
+        Case<ResponsePayloadCreateRule, Inside<Created<A>, String<A>, 0x42007C>>,
         (
-            reader::Variant<ResponsePayloadDestroyRule, reader::StructureElement<Destroyed<A>>>,
+            Case<ResponsePayloadDestroyRule, Inside<Destroyed<A>, String<A>, 0x42007C>>,
             (),
         ),
     );
 
     fn has_form() {}
-}
-
-impl<A: Allocator + Copy> reader::ReadItem<A> for ResponsePayload<A> {
-    ghost form = { response_payload_form };
-
-    ghost value = { read_response_payload };
-
-    ghost plain = { (refl, refl) };
-
-    fn read_item<'b>(
-        scope: &reader::Scope<'b, A>,
-        cursor: &mut reader::Cursor<'b, A>,
-    ) -> reader::Step<Self, A> {
-        reader::read_choice(scope, cursor)
-    }
 }
 
 /// One thing that was done.
@@ -350,194 +299,104 @@ pub struct ResponseItem<A: Allocator = Global> {
     pub payload: ResponsePayload<A>,
 }
 
-impl<B: Allocator> Serialize for ResponseItem<B> {
-    ghost stated = { written_response_item };
+/// What `result_status` of a `ResponseItem` always is.
+#[derive(Clone, Copy, PartialEq, Eq)]
+pub enum ResponseItemResultStatus {
+    /// The number.
+    Only,
+}
 
-    fn visit<V: Visitor>(&self, visitor: &mut V) -> Result<(), AllocError> {
-        writing::begin_structure(visitor, 0x42000F)?;
-        self.operation.visit(visitor)?;
-        writing::unit_variant(visitor, "0x42007F", "0x00000000")?;
-        self.payload.visit(visitor)?;
-        writing::end_structure(visitor, 0x42000F)?;
-        Ok(())
+// Each number, and what it stands for.
+const RESPONSE_ITEM_RESULT_STATUS: [(&str, ResponseItemResultStatus); 1] = [(
+    "0x00000000",
+    ResponseItemResultStatus::Only,
+)];
+
+impl reader::Listed for ResponseItemResultStatus {
+    ghost own = { tag_text 0x42007F };
+
+    ghost variants = { response_item_result_status_variants };
+
+    ghost value = { λ x. unit_variant_value (tag_text 0x42007F) (response_item_result_status_number x) };
+}
+
+impl Listed for ResponseItemResultStatus {
+    ghost tag = { 0x42007F };
+
+    ghost variants = { response_item_result_status_variants };
+
+    ghost rules = { record {
+      number = response_item_result_status_number;
+      units = response_item_result_status_is_unit;
+      eq = λ x y. true;
+      same = λ x y e. refl;
+    } };
+
+    fn read_listed<'b, A: Allocator + Copy>(
+        scope: &Scope<'b, A>,
+        cursor: &mut Cursor<'b, A>,
+    ) -> Step<Self, A> {
+        cursor.listed(scope, &RESPONSE_ITEM_RESULT_STATUS)
+    }
+
+    fn tag() -> u32 {
+        0x42007F
+    }
+
+    #[tactic(auto, unfolding(kmip_ttlv_types::specs::Digits::six_digits))]
+    fn name() -> &'static str {
+        "0x42007F"
+    }
+
+    fn number_text(self) -> &'static str {
+        match self {
+            ResponseItemResultStatus::Only => "0x00000000",
+        }
     }
 }
 
-impl<A: Allocator + Copy> reader::ReadStructure<A> for ResponseItem<A> {
-    ghost form = { response_item_form };
+impl<A: Allocator> Decided for ResponseItem<A> {
+    ghost IsDecided = { λ x. (ChoosesResponsePayload (operation_number x.operation) x.payload) };
 
-    ghost value = { read_response_item };
+    fn is_decided(&self) -> bool {
+        self.payload.is_chosen_by(self.operation.number_text())
+    }
+}
 
-    ghost TAG = { 0x42000F };
+type ResponseItemParts<A> = (
+    One<ListedItem<Operation>>,
+    One<ListedItem<ResponseItemResultStatus>>,
+    OneOf<ResponsePayload<A>, 0x42007C>,
+);
 
-    ghost DENIES_UNKNOWN = { false };
+impl<A: Allocator + Copy> FromParts<A, ResponseItemParts<A>> for ResponseItem<A> {
+    ghost parts = { λ x. (x.operation, response_item_result_status.Only, x.payload) };
 
-    type Fields = (
-        reader::Item<Operation, 0x42005C>,
-        reader::Item<ResponseItemResultStatus, 0x42007F>,
-        reader::Item<ResponsePayload<A>, 0x42007C>,
-    );
-
-    const TAG: u32 = 0x42000F;
-
-    const DENIES_UNKNOWN: bool = false;
-
-    fn has_form() {}
-
-    #[tactic(auto, unfolding(crate::specs::Responses::read_response_item))]
-    fn from_fields(fields: (Operation, ResponseItemResultStatus, ResponsePayload<A>)) -> Self {
-        let (operation, _, payload) = fields;
+    fn from_parts((operation, _, payload): Holds<ResponseItemParts<A>, A>) -> Self {
         ResponseItem { operation, payload }
     }
 }
 
-impl<A: Allocator + Copy> reader::ReadNested<A> for ResponseItem<A> {
-    ghost form = { response_item_form };
+impl<A: Allocator + Copy> Structure<A> for ResponseItem<A> {
+    ghost rules = { structure_where false ⟦<ResponseItemParts<A> as PartList<A>>⟧.rules ⟦<ResponseItem<A> as FromParts<A, ResponseItemParts<A>>>⟧.parts refl
+        (λ x. (ChoosesResponsePayload (operation_number x.operation) x.payload)) (λ x d. (tt, (tt, (d)))) ⟦<ResponseItem<A> as PartialEq>⟧.eq (λ x y e. e) };
 
-    ghost value = { read_response_item };
-
-    ghost TAG = { 0x42000F };
-
-    ghost structured = { (refl, refl) };
-
-    const TAG: u32 = 0x42000F;
-
-    fn read_nested<'b>(
-        scope: &reader::Scope<'b, A>,
-        cursor: &mut reader::Cursor<'b, A>,
-    ) -> reader::Step<Self, A> {
-        reader::read_structure(scope, cursor)
-    }
-}
-
-/// What `result_status` of a `ResponseItem` always is.
-#[derive(Clone, Copy)]
-pub struct ResponseItemResultStatus;
-
-impl reader::Listed for ResponseItemResultStatus {
-    ghost own = { codes "0x42007F" };
-
-    ghost variants = { variant (codes "0x00000000") unit no_variants };
-
-    ghost value = { λ _. unit_variant_value (codes "0x42007F") (codes "0x00000000") };
-}
-
-impl<A: Allocator + Copy> reader::ReadItem<A> for ResponseItemResultStatus {
-    ghost form = { enum (codes "0x42007F") (variant (codes "0x00000000") unit no_variants) };
-
-    ghost value = { λ _. unit_variant_value (codes "0x42007F") (codes "0x00000000") };
-
-    ghost plain = { (refl, refl) };
-
-    fn read_item<'b>(
-        scope: &reader::Scope<'b, A>,
-        cursor: &mut reader::Cursor<'b, A>,
-    ) -> reader::Step<Self, A> {
-        cursor.listed(scope, &[("0x00000000", ResponseItemResultStatus)])
-    }
-}
-
-/// A response.
-#[derive(Drop)]
-#[derive_where(PartialEq)]
-pub struct Response<A: Allocator = Global> {
-    /// Major versions are not compatible.
-    pub major: i32,
-    /// Minor ones are.
-    pub minor: i32,
-    /// When it was made, in seconds since 1970.
-    pub timestamp: i64,
-    /// How many items follow.
-    pub batch_count: i32,
-    /// One or more.
-    pub items: Vec<ResponseItem<A>, A>,
-}
-
-impl<A: Allocator> Response<A> {
-    // Its fields that are a `ResponseHeader`.
-    pub(crate) fn header(&self) -> ResponseHeader
-        ensures { result ≡ response_header self.now }
-    {
-        ResponseHeader {
-            version: ProtocolVersion {
-                major: self.major,
-                minor: self.minor,
-            },
-            time_stamp: self.timestamp,
-            batch_count: self.batch_count,
-        }
+    fn read<'b>(scope: &Scope<'b, A>, tag: u32, cursor: &mut Cursor<'b, A>) -> Step<Self, A> {
+        read_structure::<ResponseItemParts<A>, Self, A>(scope, tag, false, cursor)
     }
 
-    // Sends these.
-    fn send_header<V: Visitor>(&self, visitor: &mut V) -> Result<(), AllocError>
-        ensures received { OnOk result (Receives V.knows V.step (response_header_value (response_header self.now)) visitor.old visitor.new) }
-        ensures stopped { OnErr result (V.stopped visitor.new) }
-    {
-        self.header().visit(visitor)?;
+    fn tell_parts<W: Walk<A>>(&self, state: &mut W::State) -> Result<(), AllocError> {
+        W::three::<
+            One<ListedItem<Operation>>,
+            One<ListedItem<ResponseItemResultStatus>>,
+            OneOf<ResponsePayload<A>, 0x42007C>,
+        >(
+            state,
+            &self.operation,
+            &ResponseItemResultStatus::Only,
+            &self.payload,
+        )?;
+        W::check(state, self);
         Ok(())
-    }
-
-    // The one with these fields, and these parts beside them.
-    fn with_header(header: ResponseHeader, items: Vec<ResponseItem<A>, A>) -> Self
-        ensures header { response_header result ≡ header }
-        ensures items { result.items ≡ items }
-    {
-        Response {
-            major: header.version.major,
-            minor: header.version.minor,
-            timestamp: header.time_stamp,
-            batch_count: header.batch_count,
-            items,
-        }
-    }
-}
-
-impl<B: Allocator> Serialize for Response<B> {
-    ghost stated = { written_response };
-
-    #[tactic(auto, unfolding(crate::specs::Responses::written_response))]
-    fn visit<V: Visitor>(&self, visitor: &mut V) -> Result<(), AllocError> {
-        writing::begin_structure(visitor, 0x42007B)?;
-        self.send_header(visitor)?;
-        writing::several(visitor, &self.items)?;
-        writing::end_structure(visitor, 0x42007B)?;
-        Ok(())
-    }
-}
-
-impl<A: Allocator + Copy> reader::ReadStructure<A> for Response<A> {
-    ghost form = { response_form };
-
-    ghost value = { read_response };
-
-    ghost TAG = { 0x42007B };
-
-    ghost DENIES_UNKNOWN = { false };
-
-    type Fields = (
-        reader::Nested<ResponseHeader>,
-        reader::Several<ResponseItem<A>>,
-    );
-
-    const TAG: u32 = 0x42007B;
-
-    const DENIES_UNKNOWN: bool = false;
-
-    fn has_form() {}
-
-    #[tactic(auto, unfolding(crate::specs::Responses::read_response))]
-    fn from_fields(fields: (ResponseHeader, Vec<ResponseItem<A>, A>)) -> Self {
-        let (header, items) = fields;
-        Response::with_header(header, items)
-    }
-}
-
-impl<A: Allocator + Copy> Decode<A> for Response<A> {
-    ghost form = { response_form };
-
-    ghost is_value = { λ v x. v ≡ read_response x };
-
-    fn decode(alloc: A, bytes: &[u8]) -> Result<Self, error::Error<A>> {
-        reader::read_message(alloc, bytes)
     }
 }

@@ -1,15 +1,14 @@
 -- Written by codegen from types.table: change that, and run codegen/codegen.
 -- Which rules choose what, and what is there of what may be.
-use Rattle.std.proofs.Common.{ap, refl, subst, sym, true, ◌∙◌}
-use Rattle.std.specs.Prelude.{IsTrue, List, Some, codes, ℕ, ◌≡◌, ◌↔◌, [], ◌∷◌}
+use Rattle.std.proofs.Common.{ap, refl, true, ◌∙◌}
+use Rattle.std.specs.Prelude.{List, Some, codes, ℕ, ◌≡◌, [], ◌∷◌}
 use Rattle.std.specs.Str.{chars, trim_end, trim_start}
 use lib.Utf8.{encode}
-use Rattle.kmip_ttlv_kinds.specs.Choices.{Case, ChoiceOf, Held, HeldChoice, case_of, case_within, choice_by}
+use Rattle.kmip_ttlv_kinds.specs.Choices.{Case, ChoiceOf, Held, HeldChoice, Meaning, as_choice, as_item, case_of, case_within, choice_by}
 use Rattle.kmip_ttlv_parts.proofs.Equal.{apart, in_variant}
 use Rattle.kmip_ttlv_parts.proofs.MessageRules.{not_first}
 use Rattle.kmip_ttlv_parts.specs.Agreements.{first_variant, later_variant}
 use Rattle.kmip_ttlv_parts.specs.Forms.{Variants, enum, no_variants, variant, wrapped}
-use Rattle.kmip_ttlv_parts.specs.Values.{Value, newtype_variant_value}
 use Rattle.kmip_ttlv_parts.specs.Names.{number, tag_of}
 use Rattle.kmip_ttlv_parts.specs.Returns.{IsNoneOf}
 use Rattle.kmip_ttlv_parts.specs.Rules.{at_least, chosen, choice, equal, in_brackets, member, past, rule, sides}
@@ -53,22 +52,22 @@ ChoosesAttributeStructure said (attribute_structure.RevocationReason x) = (said 
 ChoosesAttributeStructure said (attribute_structure.Link x) = (said ≡ codes "Link")
 ChoosesAttributeStructure said (attribute_structure.ApplicationSpecificInformation x) = (said ≡ codes "Application Specific Information")
 
--- the value of each thing that a `AttributeStructure` may hold
-pub record AttributeStructureValues (A : Type 0) : Type 0 where
-  pub name : Name A → Value
-  pub cryptographic_parameters : CryptographicParameters → Value
-  pub cryptographic_domain_parameters : CryptographicDomainParameters → Value
-  pub certificate_identifier : CertificateIdentifier A → Value
-  pub certificate_subject : CertificateSubject A → Value
-  pub certificate_issuer : CertificateIssuer A → Value
-  pub digest : Digest A → Value
-  pub usage_limits : UsageLimits → Value
-  pub revocation_reason : RevocationReason A → Value
-  pub link : Link A → Value
-  pub application_specific_information : ApplicationSpecificInformation A → Value
+-- what each thing means that a `AttributeStructure` may hold
+pub record AttributeStructureCases (A : Type 0) : Type 1 where
+  pub name : Name A → Meaning
+  pub cryptographic_parameters : CryptographicParameters → Meaning
+  pub cryptographic_domain_parameters : CryptographicDomainParameters → Meaning
+  pub certificate_identifier : CertificateIdentifier A → Meaning
+  pub certificate_subject : CertificateSubject A → Meaning
+  pub certificate_issuer : CertificateIssuer A → Meaning
+  pub digest : Digest A → Meaning
+  pub usage_limits : UsageLimits → Meaning
+  pub revocation_reason : RevocationReason A → Meaning
+  pub link : Link A → Meaning
+  pub application_specific_information : ApplicationSpecificInformation A → Meaning
 
--- the value of what it holds
-unfoldable pub attribute_structure_by : {A : Type 0} → AttributeStructureValues A → AttributeStructure A → Value
+-- what it means
+unfoldable pub attribute_structure_by : {A : Type 0} → AttributeStructureCases A → AttributeStructure A → Meaning
 attribute_structure_by f (attribute_structure.Name x) = f.name x
 attribute_structure_by f (attribute_structure.CryptographicParameters x) = f.cryptographic_parameters x
 attribute_structure_by f (attribute_structure.CryptographicDomainParameters x) = f.cryptographic_domain_parameters x
@@ -80,122 +79,6 @@ attribute_structure_by f (attribute_structure.UsageLimits x) = f.usage_limits x
 attribute_structure_by f (attribute_structure.RevocationReason x) = f.revocation_reason x
 attribute_structure_by f (attribute_structure.Link x) = f.link x
 attribute_structure_by f (attribute_structure.ApplicationSpecificInformation x) = f.application_specific_information x
-
-pub attribute_structure_value_of_name : {A : Type 0} (f : AttributeStructureValues A) {x : AttributeStructure A} {y : Name A} → x ≡ attribute_structure.Name y → attribute_structure_by f x ≡ f.name y
-unfolding attribute_structure_by
-attribute_structure_value_of_name f is = ap (attribute_structure_by f) is
-
-pub attribute_structure_value_of_cryptographic_parameters : {A : Type 0} (f : AttributeStructureValues A) {x : AttributeStructure A} {y : CryptographicParameters} → x ≡ attribute_structure.CryptographicParameters y → attribute_structure_by f x ≡ f.cryptographic_parameters y
-unfolding attribute_structure_by
-attribute_structure_value_of_cryptographic_parameters f is = ap (attribute_structure_by f) is
-
-pub attribute_structure_value_of_cryptographic_domain_parameters : {A : Type 0} (f : AttributeStructureValues A) {x : AttributeStructure A} {y : CryptographicDomainParameters} → x ≡ attribute_structure.CryptographicDomainParameters y → attribute_structure_by f x ≡ f.cryptographic_domain_parameters y
-unfolding attribute_structure_by
-attribute_structure_value_of_cryptographic_domain_parameters f is = ap (attribute_structure_by f) is
-
-pub attribute_structure_value_of_certificate_identifier : {A : Type 0} (f : AttributeStructureValues A) {x : AttributeStructure A} {y : CertificateIdentifier A} → x ≡ attribute_structure.CertificateIdentifier y → attribute_structure_by f x ≡ f.certificate_identifier y
-unfolding attribute_structure_by
-attribute_structure_value_of_certificate_identifier f is = ap (attribute_structure_by f) is
-
-pub attribute_structure_value_of_certificate_subject : {A : Type 0} (f : AttributeStructureValues A) {x : AttributeStructure A} {y : CertificateSubject A} → x ≡ attribute_structure.CertificateSubject y → attribute_structure_by f x ≡ f.certificate_subject y
-unfolding attribute_structure_by
-attribute_structure_value_of_certificate_subject f is = ap (attribute_structure_by f) is
-
-pub attribute_structure_value_of_certificate_issuer : {A : Type 0} (f : AttributeStructureValues A) {x : AttributeStructure A} {y : CertificateIssuer A} → x ≡ attribute_structure.CertificateIssuer y → attribute_structure_by f x ≡ f.certificate_issuer y
-unfolding attribute_structure_by
-attribute_structure_value_of_certificate_issuer f is = ap (attribute_structure_by f) is
-
-pub attribute_structure_value_of_digest : {A : Type 0} (f : AttributeStructureValues A) {x : AttributeStructure A} {y : Digest A} → x ≡ attribute_structure.Digest y → attribute_structure_by f x ≡ f.digest y
-unfolding attribute_structure_by
-attribute_structure_value_of_digest f is = ap (attribute_structure_by f) is
-
-pub attribute_structure_value_of_usage_limits : {A : Type 0} (f : AttributeStructureValues A) {x : AttributeStructure A} {y : UsageLimits} → x ≡ attribute_structure.UsageLimits y → attribute_structure_by f x ≡ f.usage_limits y
-unfolding attribute_structure_by
-attribute_structure_value_of_usage_limits f is = ap (attribute_structure_by f) is
-
-pub attribute_structure_value_of_revocation_reason : {A : Type 0} (f : AttributeStructureValues A) {x : AttributeStructure A} {y : RevocationReason A} → x ≡ attribute_structure.RevocationReason y → attribute_structure_by f x ≡ f.revocation_reason y
-unfolding attribute_structure_by
-attribute_structure_value_of_revocation_reason f is = ap (attribute_structure_by f) is
-
-pub attribute_structure_value_of_link : {A : Type 0} (f : AttributeStructureValues A) {x : AttributeStructure A} {y : Link A} → x ≡ attribute_structure.Link y → attribute_structure_by f x ≡ f.link y
-unfolding attribute_structure_by
-attribute_structure_value_of_link f is = ap (attribute_structure_by f) is
-
-pub attribute_structure_value_of_application_specific_information : {A : Type 0} (f : AttributeStructureValues A) {x : AttributeStructure A} {y : ApplicationSpecificInformation A} → x ≡ attribute_structure.ApplicationSpecificInformation y → attribute_structure_by f x ≡ f.application_specific_information y
-unfolding attribute_structure_by
-attribute_structure_value_of_application_specific_information f is = ap (attribute_structure_by f) is
-
--- what is said of each thing that a `AttributeStructure` may hold
-pub record AttributeStructureFacts (A : Type 0) : Type 1 where
-  pub name : Name A → Type 0
-  pub cryptographic_parameters : CryptographicParameters → Type 0
-  pub cryptographic_domain_parameters : CryptographicDomainParameters → Type 0
-  pub certificate_identifier : CertificateIdentifier A → Type 0
-  pub certificate_subject : CertificateSubject A → Type 0
-  pub certificate_issuer : CertificateIssuer A → Type 0
-  pub digest : Digest A → Type 0
-  pub usage_limits : UsageLimits → Type 0
-  pub revocation_reason : RevocationReason A → Type 0
-  pub link : Link A → Type 0
-  pub application_specific_information : ApplicationSpecificInformation A → Type 0
-
--- what is said of what it holds
-unfoldable pub IsAttributeStructureBy : {A : Type 0} → AttributeStructureFacts A → AttributeStructure A → Type 0
-IsAttributeStructureBy f (attribute_structure.Name x) = f.name x
-IsAttributeStructureBy f (attribute_structure.CryptographicParameters x) = f.cryptographic_parameters x
-IsAttributeStructureBy f (attribute_structure.CryptographicDomainParameters x) = f.cryptographic_domain_parameters x
-IsAttributeStructureBy f (attribute_structure.CertificateIdentifier x) = f.certificate_identifier x
-IsAttributeStructureBy f (attribute_structure.CertificateSubject x) = f.certificate_subject x
-IsAttributeStructureBy f (attribute_structure.CertificateIssuer x) = f.certificate_issuer x
-IsAttributeStructureBy f (attribute_structure.Digest x) = f.digest x
-IsAttributeStructureBy f (attribute_structure.UsageLimits x) = f.usage_limits x
-IsAttributeStructureBy f (attribute_structure.RevocationReason x) = f.revocation_reason x
-IsAttributeStructureBy f (attribute_structure.Link x) = f.link x
-IsAttributeStructureBy f (attribute_structure.ApplicationSpecificInformation x) = f.application_specific_information x
-
-pub attribute_structure_fact_of_name : {A : Type 0} (f : AttributeStructureFacts A) {x : AttributeStructure A} {y : Name A} {b : Boole} → x ≡ attribute_structure.Name y → IsTrue b ↔ f.name y → IsTrue b ↔ IsAttributeStructureBy f x
-unfolding IsAttributeStructureBy
-attribute_structure_fact_of_name f {b = b} is of = subst (λ z. IsTrue b ↔ IsAttributeStructureBy f z) (sym is) of
-
-pub attribute_structure_fact_of_cryptographic_parameters : {A : Type 0} (f : AttributeStructureFacts A) {x : AttributeStructure A} {y : CryptographicParameters} {b : Boole} → x ≡ attribute_structure.CryptographicParameters y → IsTrue b ↔ f.cryptographic_parameters y → IsTrue b ↔ IsAttributeStructureBy f x
-unfolding IsAttributeStructureBy
-attribute_structure_fact_of_cryptographic_parameters f {b = b} is of = subst (λ z. IsTrue b ↔ IsAttributeStructureBy f z) (sym is) of
-
-pub attribute_structure_fact_of_cryptographic_domain_parameters : {A : Type 0} (f : AttributeStructureFacts A) {x : AttributeStructure A} {y : CryptographicDomainParameters} {b : Boole} → x ≡ attribute_structure.CryptographicDomainParameters y → IsTrue b ↔ f.cryptographic_domain_parameters y → IsTrue b ↔ IsAttributeStructureBy f x
-unfolding IsAttributeStructureBy
-attribute_structure_fact_of_cryptographic_domain_parameters f {b = b} is of = subst (λ z. IsTrue b ↔ IsAttributeStructureBy f z) (sym is) of
-
-pub attribute_structure_fact_of_certificate_identifier : {A : Type 0} (f : AttributeStructureFacts A) {x : AttributeStructure A} {y : CertificateIdentifier A} {b : Boole} → x ≡ attribute_structure.CertificateIdentifier y → IsTrue b ↔ f.certificate_identifier y → IsTrue b ↔ IsAttributeStructureBy f x
-unfolding IsAttributeStructureBy
-attribute_structure_fact_of_certificate_identifier f {b = b} is of = subst (λ z. IsTrue b ↔ IsAttributeStructureBy f z) (sym is) of
-
-pub attribute_structure_fact_of_certificate_subject : {A : Type 0} (f : AttributeStructureFacts A) {x : AttributeStructure A} {y : CertificateSubject A} {b : Boole} → x ≡ attribute_structure.CertificateSubject y → IsTrue b ↔ f.certificate_subject y → IsTrue b ↔ IsAttributeStructureBy f x
-unfolding IsAttributeStructureBy
-attribute_structure_fact_of_certificate_subject f {b = b} is of = subst (λ z. IsTrue b ↔ IsAttributeStructureBy f z) (sym is) of
-
-pub attribute_structure_fact_of_certificate_issuer : {A : Type 0} (f : AttributeStructureFacts A) {x : AttributeStructure A} {y : CertificateIssuer A} {b : Boole} → x ≡ attribute_structure.CertificateIssuer y → IsTrue b ↔ f.certificate_issuer y → IsTrue b ↔ IsAttributeStructureBy f x
-unfolding IsAttributeStructureBy
-attribute_structure_fact_of_certificate_issuer f {b = b} is of = subst (λ z. IsTrue b ↔ IsAttributeStructureBy f z) (sym is) of
-
-pub attribute_structure_fact_of_digest : {A : Type 0} (f : AttributeStructureFacts A) {x : AttributeStructure A} {y : Digest A} {b : Boole} → x ≡ attribute_structure.Digest y → IsTrue b ↔ f.digest y → IsTrue b ↔ IsAttributeStructureBy f x
-unfolding IsAttributeStructureBy
-attribute_structure_fact_of_digest f {b = b} is of = subst (λ z. IsTrue b ↔ IsAttributeStructureBy f z) (sym is) of
-
-pub attribute_structure_fact_of_usage_limits : {A : Type 0} (f : AttributeStructureFacts A) {x : AttributeStructure A} {y : UsageLimits} {b : Boole} → x ≡ attribute_structure.UsageLimits y → IsTrue b ↔ f.usage_limits y → IsTrue b ↔ IsAttributeStructureBy f x
-unfolding IsAttributeStructureBy
-attribute_structure_fact_of_usage_limits f {b = b} is of = subst (λ z. IsTrue b ↔ IsAttributeStructureBy f z) (sym is) of
-
-pub attribute_structure_fact_of_revocation_reason : {A : Type 0} (f : AttributeStructureFacts A) {x : AttributeStructure A} {y : RevocationReason A} {b : Boole} → x ≡ attribute_structure.RevocationReason y → IsTrue b ↔ f.revocation_reason y → IsTrue b ↔ IsAttributeStructureBy f x
-unfolding IsAttributeStructureBy
-attribute_structure_fact_of_revocation_reason f {b = b} is of = subst (λ z. IsTrue b ↔ IsAttributeStructureBy f z) (sym is) of
-
-pub attribute_structure_fact_of_link : {A : Type 0} (f : AttributeStructureFacts A) {x : AttributeStructure A} {y : Link A} {b : Boole} → x ≡ attribute_structure.Link y → IsTrue b ↔ f.link y → IsTrue b ↔ IsAttributeStructureBy f x
-unfolding IsAttributeStructureBy
-attribute_structure_fact_of_link f {b = b} is of = subst (λ z. IsTrue b ↔ IsAttributeStructureBy f z) (sym is) of
-
-pub attribute_structure_fact_of_application_specific_information : {A : Type 0} (f : AttributeStructureFacts A) {x : AttributeStructure A} {y : ApplicationSpecificInformation A} {b : Boole} → x ≡ attribute_structure.ApplicationSpecificInformation y → IsTrue b ↔ f.application_specific_information y → IsTrue b ↔ IsAttributeStructureBy f x
-unfolding IsAttributeStructureBy
-attribute_structure_fact_of_application_specific_information f {b = b} is of = subst (λ z. IsTrue b ↔ IsAttributeStructureBy f z) (sym is) of
 
 -- what a `AttributeStructure` may hold
 pub record AttributeStructureItems (A : Type 0) (eq : AttributeStructure A → AttributeStructure A → Boole) : Type 1 where
@@ -226,12 +109,24 @@ attribute_structure_variants i =
     variant (codes "if 0x42000A==Link") (wrapped i.link.form) (
     variant (codes "if 0x42000A==Application Specific Information") (wrapped i.application_specific_information.form) no_variants))))))))))
 
+abbrev pub attribute_structure_cases : {A : Type 0} {eq : AttributeStructure A → AttributeStructure A → Boole} → AttributeStructureItems A eq → AttributeStructureCases A
+attribute_structure_cases i = record {
+  name = as_item (codes "structure") (codes "if 0x42000A==Name") i.name;
+  cryptographic_parameters = as_item (codes "structure") (codes "if 0x42000A==Cryptographic Parameters") i.cryptographic_parameters;
+  cryptographic_domain_parameters = as_item (codes "structure") (codes "if 0x42000A==Cryptographic Domain Parameters") i.cryptographic_domain_parameters;
+  certificate_identifier = as_item (codes "structure") (codes "if 0x42000A==Certificate Identifier") i.certificate_identifier;
+  certificate_subject = as_item (codes "structure") (codes "if 0x42000A==Certificate Subject") i.certificate_subject;
+  certificate_issuer = as_item (codes "structure") (codes "if 0x42000A==Certificate Issuer") i.certificate_issuer;
+  digest = as_item (codes "structure") (codes "if 0x42000A==Digest") i.digest;
+  usage_limits = as_item (codes "structure") (codes "if 0x42000A==Usage Limits") i.usage_limits;
+  revocation_reason = as_item (codes "structure") (codes "if 0x42000A==Revocation Reason") i.revocation_reason;
+  link = as_item (codes "structure") (codes "if 0x42000A==Link") i.link;
+  application_specific_information = as_item (codes "structure") (codes "if 0x42000A==Application Specific Information") i.application_specific_information;
+}
+
 pub attribute_structure_case : {A : Type 0} {eq : AttributeStructure A → AttributeStructure A → Boole} (i : AttributeStructureItems A eq) (x : AttributeStructure A)
-    → Case 0x42000B 0x42000A types.Structure (enum (codes "structure") (attribute_structure_variants i)) (λ said. ChoosesAttributeStructure said x)
-    (attribute_structure_by record { name = i.name.rules.written; cryptographic_parameters = i.cryptographic_parameters.rules.written; cryptographic_domain_parameters = i.cryptographic_domain_parameters.rules.written; certificate_identifier = i.certificate_identifier.rules.written; certificate_subject = i.certificate_subject.rules.written; certificate_issuer = i.certificate_issuer.rules.written; digest = i.digest.rules.written; usage_limits = i.usage_limits.rules.written; revocation_reason = i.revocation_reason.rules.written; link = i.link.rules.written; application_specific_information = i.application_specific_information.rules.written } x)
-    (attribute_structure_by record { name = (λ y. newtype_variant_value (codes "structure") (codes "if 0x42000A==Name") (i.name.value y)); cryptographic_parameters = (λ y. newtype_variant_value (codes "structure") (codes "if 0x42000A==Cryptographic Parameters") (i.cryptographic_parameters.value y)); cryptographic_domain_parameters = (λ y. newtype_variant_value (codes "structure") (codes "if 0x42000A==Cryptographic Domain Parameters") (i.cryptographic_domain_parameters.value y)); certificate_identifier = (λ y. newtype_variant_value (codes "structure") (codes "if 0x42000A==Certificate Identifier") (i.certificate_identifier.value y)); certificate_subject = (λ y. newtype_variant_value (codes "structure") (codes "if 0x42000A==Certificate Subject") (i.certificate_subject.value y)); certificate_issuer = (λ y. newtype_variant_value (codes "structure") (codes "if 0x42000A==Certificate Issuer") (i.certificate_issuer.value y)); digest = (λ y. newtype_variant_value (codes "structure") (codes "if 0x42000A==Digest") (i.digest.value y)); usage_limits = (λ y. newtype_variant_value (codes "structure") (codes "if 0x42000A==Usage Limits") (i.usage_limits.value y)); revocation_reason = (λ y. newtype_variant_value (codes "structure") (codes "if 0x42000A==Revocation Reason") (i.revocation_reason.value y)); link = (λ y. newtype_variant_value (codes "structure") (codes "if 0x42000A==Link") (i.link.value y)); application_specific_information = (λ y. newtype_variant_value (codes "structure") (codes "if 0x42000A==Application Specific Information") (i.application_specific_information.value y)) } x)
-    (IsAttributeStructureBy record { name = i.name.rules.IsSound; cryptographic_parameters = i.cryptographic_parameters.rules.IsSound; cryptographic_domain_parameters = i.cryptographic_domain_parameters.rules.IsSound; certificate_identifier = i.certificate_identifier.rules.IsSound; certificate_subject = i.certificate_subject.rules.IsSound; certificate_issuer = i.certificate_issuer.rules.IsSound; digest = i.digest.rules.IsSound; usage_limits = i.usage_limits.rules.IsSound; revocation_reason = i.revocation_reason.rules.IsSound; link = i.link.rules.IsSound; application_specific_information = i.application_specific_information.rules.IsSound } x)
-unfolding tag_of number rule sides equal at_least member in_brackets trim_end chars trim_start encode attribute_structure_by IsAttributeStructureBy
+    → Case 0x42000B 0x42000A types.Structure (enum (codes "structure") (attribute_structure_variants i)) (λ said. ChoosesAttributeStructure said x) (attribute_structure_by (attribute_structure_cases i) x)
+unfolding tag_of number rule sides equal at_least member in_brackets trim_end chars trim_start encode attribute_structure_by
 attribute_structure_case i (attribute_structure.Name x) = case_of i.name x first_variant (λ said chooses k found. rw (found ∙ ap Some chooses) refl)
 attribute_structure_case i (attribute_structure.CryptographicParameters x) = case_of i.cryptographic_parameters x (later_variant first_variant) (λ said chooses k found. rw (found ∙ ap Some chooses) refl)
 attribute_structure_case i (attribute_structure.CryptographicDomainParameters x) = case_of i.cryptographic_domain_parameters x (later_variant (later_variant first_variant)) (λ said chooses k found. rw (found ∙ ap Some chooses) refl)
@@ -245,7 +140,7 @@ attribute_structure_case i (attribute_structure.Link x) = case_of i.link x (late
 attribute_structure_case i (attribute_structure.ApplicationSpecificInformation x) = case_of i.application_specific_information x (later_variant (later_variant (later_variant (later_variant (later_variant (later_variant (later_variant (later_variant (later_variant (later_variant first_variant)))))))))) (λ said chooses k found. rw (found ∙ ap Some chooses) refl)
 
 pub attribute_structure_same : {A : Type 0} {eq : AttributeStructure A → AttributeStructure A → Boole} (i : AttributeStructureItems A eq) (x y : AttributeStructure A)
-    → (attribute_structure_by record { name = (λ y. newtype_variant_value (codes "structure") (codes "if 0x42000A==Name") (i.name.value y)); cryptographic_parameters = (λ y. newtype_variant_value (codes "structure") (codes "if 0x42000A==Cryptographic Parameters") (i.cryptographic_parameters.value y)); cryptographic_domain_parameters = (λ y. newtype_variant_value (codes "structure") (codes "if 0x42000A==Cryptographic Domain Parameters") (i.cryptographic_domain_parameters.value y)); certificate_identifier = (λ y. newtype_variant_value (codes "structure") (codes "if 0x42000A==Certificate Identifier") (i.certificate_identifier.value y)); certificate_subject = (λ y. newtype_variant_value (codes "structure") (codes "if 0x42000A==Certificate Subject") (i.certificate_subject.value y)); certificate_issuer = (λ y. newtype_variant_value (codes "structure") (codes "if 0x42000A==Certificate Issuer") (i.certificate_issuer.value y)); digest = (λ y. newtype_variant_value (codes "structure") (codes "if 0x42000A==Digest") (i.digest.value y)); usage_limits = (λ y. newtype_variant_value (codes "structure") (codes "if 0x42000A==Usage Limits") (i.usage_limits.value y)); revocation_reason = (λ y. newtype_variant_value (codes "structure") (codes "if 0x42000A==Revocation Reason") (i.revocation_reason.value y)); link = (λ y. newtype_variant_value (codes "structure") (codes "if 0x42000A==Link") (i.link.value y)); application_specific_information = (λ y. newtype_variant_value (codes "structure") (codes "if 0x42000A==Application Specific Information") (i.application_specific_information.value y)) } x) ≡ (attribute_structure_by record { name = (λ y. newtype_variant_value (codes "structure") (codes "if 0x42000A==Name") (i.name.value y)); cryptographic_parameters = (λ y. newtype_variant_value (codes "structure") (codes "if 0x42000A==Cryptographic Parameters") (i.cryptographic_parameters.value y)); cryptographic_domain_parameters = (λ y. newtype_variant_value (codes "structure") (codes "if 0x42000A==Cryptographic Domain Parameters") (i.cryptographic_domain_parameters.value y)); certificate_identifier = (λ y. newtype_variant_value (codes "structure") (codes "if 0x42000A==Certificate Identifier") (i.certificate_identifier.value y)); certificate_subject = (λ y. newtype_variant_value (codes "structure") (codes "if 0x42000A==Certificate Subject") (i.certificate_subject.value y)); certificate_issuer = (λ y. newtype_variant_value (codes "structure") (codes "if 0x42000A==Certificate Issuer") (i.certificate_issuer.value y)); digest = (λ y. newtype_variant_value (codes "structure") (codes "if 0x42000A==Digest") (i.digest.value y)); usage_limits = (λ y. newtype_variant_value (codes "structure") (codes "if 0x42000A==Usage Limits") (i.usage_limits.value y)); revocation_reason = (λ y. newtype_variant_value (codes "structure") (codes "if 0x42000A==Revocation Reason") (i.revocation_reason.value y)); link = (λ y. newtype_variant_value (codes "structure") (codes "if 0x42000A==Link") (i.link.value y)); application_specific_information = (λ y. newtype_variant_value (codes "structure") (codes "if 0x42000A==Application Specific Information") (i.application_specific_information.value y)) } y)
+    → (attribute_structure_by (attribute_structure_cases i) x).value ≡ (attribute_structure_by (attribute_structure_cases i) y).value
     → eq x y ≡ true
 unfolding attribute_structure_by
 attribute_structure_same i (attribute_structure.Name x) (attribute_structure.Name y) e = i.name.same x y (i.name.rules.same x y (in_variant e))
@@ -263,7 +158,7 @@ attribute_structure_same i x y e = absurd (apart e refl)
 
 -- the choice
 abbrev pub attribute_structure_choice : {A : Type 0} (eq : AttributeStructure A → AttributeStructure A → Boole) → AttributeStructureItems A eq → ChoiceOf (AttributeStructure A)
-attribute_structure_choice eq i = choice_by {typ = (λ x. types.Structure)} {C = ChoosesAttributeStructure} {written = attribute_structure_by record { name = i.name.rules.written; cryptographic_parameters = i.cryptographic_parameters.rules.written; cryptographic_domain_parameters = i.cryptographic_domain_parameters.rules.written; certificate_identifier = i.certificate_identifier.rules.written; certificate_subject = i.certificate_subject.rules.written; certificate_issuer = i.certificate_issuer.rules.written; digest = i.digest.rules.written; usage_limits = i.usage_limits.rules.written; revocation_reason = i.revocation_reason.rules.written; link = i.link.rules.written; application_specific_information = i.application_specific_information.rules.written }} {value = attribute_structure_by record { name = (λ y. newtype_variant_value (codes "structure") (codes "if 0x42000A==Name") (i.name.value y)); cryptographic_parameters = (λ y. newtype_variant_value (codes "structure") (codes "if 0x42000A==Cryptographic Parameters") (i.cryptographic_parameters.value y)); cryptographic_domain_parameters = (λ y. newtype_variant_value (codes "structure") (codes "if 0x42000A==Cryptographic Domain Parameters") (i.cryptographic_domain_parameters.value y)); certificate_identifier = (λ y. newtype_variant_value (codes "structure") (codes "if 0x42000A==Certificate Identifier") (i.certificate_identifier.value y)); certificate_subject = (λ y. newtype_variant_value (codes "structure") (codes "if 0x42000A==Certificate Subject") (i.certificate_subject.value y)); certificate_issuer = (λ y. newtype_variant_value (codes "structure") (codes "if 0x42000A==Certificate Issuer") (i.certificate_issuer.value y)); digest = (λ y. newtype_variant_value (codes "structure") (codes "if 0x42000A==Digest") (i.digest.value y)); usage_limits = (λ y. newtype_variant_value (codes "structure") (codes "if 0x42000A==Usage Limits") (i.usage_limits.value y)); revocation_reason = (λ y. newtype_variant_value (codes "structure") (codes "if 0x42000A==Revocation Reason") (i.revocation_reason.value y)); link = (λ y. newtype_variant_value (codes "structure") (codes "if 0x42000A==Link") (i.link.value y)); application_specific_information = (λ y. newtype_variant_value (codes "structure") (codes "if 0x42000A==Application Specific Information") (i.application_specific_information.value y)) }} {IsSound = IsAttributeStructureBy record { name = i.name.rules.IsSound; cryptographic_parameters = i.cryptographic_parameters.rules.IsSound; cryptographic_domain_parameters = i.cryptographic_domain_parameters.rules.IsSound; certificate_identifier = i.certificate_identifier.rules.IsSound; certificate_subject = i.certificate_subject.rules.IsSound; certificate_issuer = i.certificate_issuer.rules.IsSound; digest = i.digest.rules.IsSound; usage_limits = i.usage_limits.rules.IsSound; revocation_reason = i.revocation_reason.rules.IsSound; link = i.link.rules.IsSound; application_specific_information = i.application_specific_information.rules.IsSound }} 0x42000B 0x42000A (attribute_structure_case i) eq (attribute_structure_same i)
+attribute_structure_choice eq i = choice_by {typ = (λ x. types.Structure)} {C = ChoosesAttributeStructure} {m = attribute_structure_by (attribute_structure_cases i)} 0x42000B 0x42000A (attribute_structure_case i) eq (attribute_structure_same i)
 
 -- the texts of 42000A that choose a variant of a `AttributeValue` whatever the type of its item is
 abbrev pub attribute_value_names : List (List ℕ)
@@ -308,25 +203,25 @@ attribute_value_typ (attribute_value.DateTime x) = types.DateTime
 attribute_value_typ (attribute_value.Interval x) = types.Interval
 attribute_value_typ (attribute_value.Structure x) = types.Structure
 
--- the value of each thing that a `AttributeValue` may hold
-pub record AttributeValueValues (A : Type 0) : Type 0 where
-  pub object_type : Enumeration 0x420057 → Value
-  pub cryptographic_algorithm : Enumeration 0x420028 → Value
-  pub certificate_type : Enumeration 0x42001D → Value
-  pub state : Enumeration 0x42008D → Value
-  pub integer : ℤ → Value
-  pub long_integer : ℤ → Value
-  pub big_integer : BigNumber A → Value
-  pub enumeration : ℕ → Value
-  pub boolean : Boole → Value
-  pub text_string : String A → Value
-  pub byte_string : Vec ℕ A → Value
-  pub date_time : DateTime → Value
-  pub interval : Interval → Value
-  pub structure : AttributeStructure A → Value
+-- what each thing means that a `AttributeValue` may hold
+pub record AttributeValueCases (A : Type 0) : Type 1 where
+  pub object_type : Enumeration 0x420057 → Meaning
+  pub cryptographic_algorithm : Enumeration 0x420028 → Meaning
+  pub certificate_type : Enumeration 0x42001D → Meaning
+  pub state : Enumeration 0x42008D → Meaning
+  pub integer : ℤ → Meaning
+  pub long_integer : ℤ → Meaning
+  pub big_integer : BigNumber A → Meaning
+  pub enumeration : ℕ → Meaning
+  pub boolean : Boole → Meaning
+  pub text_string : String A → Meaning
+  pub byte_string : Vec ℕ A → Meaning
+  pub date_time : DateTime → Meaning
+  pub interval : Interval → Meaning
+  pub structure : AttributeStructure A → Meaning
 
--- the value of what it holds
-unfoldable pub attribute_value_by : {A : Type 0} → AttributeValueValues A → AttributeValue A → Value
+-- what it means
+unfoldable pub attribute_value_by : {A : Type 0} → AttributeValueCases A → AttributeValue A → Meaning
 attribute_value_by f (attribute_value.ObjectType x) = f.object_type x
 attribute_value_by f (attribute_value.CryptographicAlgorithm x) = f.cryptographic_algorithm x
 attribute_value_by f (attribute_value.CertificateType x) = f.certificate_type x
@@ -341,152 +236,6 @@ attribute_value_by f (attribute_value.ByteString x) = f.byte_string x
 attribute_value_by f (attribute_value.DateTime x) = f.date_time x
 attribute_value_by f (attribute_value.Interval x) = f.interval x
 attribute_value_by f (attribute_value.Structure x) = f.structure x
-
-pub attribute_value_value_of_object_type : {A : Type 0} (f : AttributeValueValues A) {x : AttributeValue A} {y : Enumeration 0x420057} → x ≡ attribute_value.ObjectType y → attribute_value_by f x ≡ f.object_type y
-unfolding attribute_value_by
-attribute_value_value_of_object_type f is = ap (attribute_value_by f) is
-
-pub attribute_value_value_of_cryptographic_algorithm : {A : Type 0} (f : AttributeValueValues A) {x : AttributeValue A} {y : Enumeration 0x420028} → x ≡ attribute_value.CryptographicAlgorithm y → attribute_value_by f x ≡ f.cryptographic_algorithm y
-unfolding attribute_value_by
-attribute_value_value_of_cryptographic_algorithm f is = ap (attribute_value_by f) is
-
-pub attribute_value_value_of_certificate_type : {A : Type 0} (f : AttributeValueValues A) {x : AttributeValue A} {y : Enumeration 0x42001D} → x ≡ attribute_value.CertificateType y → attribute_value_by f x ≡ f.certificate_type y
-unfolding attribute_value_by
-attribute_value_value_of_certificate_type f is = ap (attribute_value_by f) is
-
-pub attribute_value_value_of_state : {A : Type 0} (f : AttributeValueValues A) {x : AttributeValue A} {y : Enumeration 0x42008D} → x ≡ attribute_value.State y → attribute_value_by f x ≡ f.state y
-unfolding attribute_value_by
-attribute_value_value_of_state f is = ap (attribute_value_by f) is
-
-pub attribute_value_value_of_integer : {A : Type 0} (f : AttributeValueValues A) {x : AttributeValue A} {y : ℤ} → x ≡ attribute_value.Integer y → attribute_value_by f x ≡ f.integer y
-unfolding attribute_value_by
-attribute_value_value_of_integer f is = ap (attribute_value_by f) is
-
-pub attribute_value_value_of_long_integer : {A : Type 0} (f : AttributeValueValues A) {x : AttributeValue A} {y : ℤ} → x ≡ attribute_value.LongInteger y → attribute_value_by f x ≡ f.long_integer y
-unfolding attribute_value_by
-attribute_value_value_of_long_integer f is = ap (attribute_value_by f) is
-
-pub attribute_value_value_of_big_integer : {A : Type 0} (f : AttributeValueValues A) {x : AttributeValue A} {y : BigNumber A} → x ≡ attribute_value.BigInteger y → attribute_value_by f x ≡ f.big_integer y
-unfolding attribute_value_by
-attribute_value_value_of_big_integer f is = ap (attribute_value_by f) is
-
-pub attribute_value_value_of_enumeration : {A : Type 0} (f : AttributeValueValues A) {x : AttributeValue A} {y : ℕ} → x ≡ attribute_value.Enumeration y → attribute_value_by f x ≡ f.enumeration y
-unfolding attribute_value_by
-attribute_value_value_of_enumeration f is = ap (attribute_value_by f) is
-
-pub attribute_value_value_of_boolean : {A : Type 0} (f : AttributeValueValues A) {x : AttributeValue A} {y : Boole} → x ≡ attribute_value.Boolean y → attribute_value_by f x ≡ f.boolean y
-unfolding attribute_value_by
-attribute_value_value_of_boolean f is = ap (attribute_value_by f) is
-
-pub attribute_value_value_of_text_string : {A : Type 0} (f : AttributeValueValues A) {x : AttributeValue A} {y : String A} → x ≡ attribute_value.TextString y → attribute_value_by f x ≡ f.text_string y
-unfolding attribute_value_by
-attribute_value_value_of_text_string f is = ap (attribute_value_by f) is
-
-pub attribute_value_value_of_byte_string : {A : Type 0} (f : AttributeValueValues A) {x : AttributeValue A} {y : Vec ℕ A} → x ≡ attribute_value.ByteString y → attribute_value_by f x ≡ f.byte_string y
-unfolding attribute_value_by
-attribute_value_value_of_byte_string f is = ap (attribute_value_by f) is
-
-pub attribute_value_value_of_date_time : {A : Type 0} (f : AttributeValueValues A) {x : AttributeValue A} {y : DateTime} → x ≡ attribute_value.DateTime y → attribute_value_by f x ≡ f.date_time y
-unfolding attribute_value_by
-attribute_value_value_of_date_time f is = ap (attribute_value_by f) is
-
-pub attribute_value_value_of_interval : {A : Type 0} (f : AttributeValueValues A) {x : AttributeValue A} {y : Interval} → x ≡ attribute_value.Interval y → attribute_value_by f x ≡ f.interval y
-unfolding attribute_value_by
-attribute_value_value_of_interval f is = ap (attribute_value_by f) is
-
-pub attribute_value_value_of_structure : {A : Type 0} (f : AttributeValueValues A) {x : AttributeValue A} {y : AttributeStructure A} → x ≡ attribute_value.Structure y → attribute_value_by f x ≡ f.structure y
-unfolding attribute_value_by
-attribute_value_value_of_structure f is = ap (attribute_value_by f) is
-
--- what is said of each thing that a `AttributeValue` may hold
-pub record AttributeValueFacts (A : Type 0) : Type 1 where
-  pub object_type : Enumeration 0x420057 → Type 0
-  pub cryptographic_algorithm : Enumeration 0x420028 → Type 0
-  pub certificate_type : Enumeration 0x42001D → Type 0
-  pub state : Enumeration 0x42008D → Type 0
-  pub integer : ℤ → Type 0
-  pub long_integer : ℤ → Type 0
-  pub big_integer : BigNumber A → Type 0
-  pub enumeration : ℕ → Type 0
-  pub boolean : Boole → Type 0
-  pub text_string : String A → Type 0
-  pub byte_string : Vec ℕ A → Type 0
-  pub date_time : DateTime → Type 0
-  pub interval : Interval → Type 0
-  pub structure : AttributeStructure A → Type 0
-
--- what is said of what it holds
-unfoldable pub IsAttributeValueBy : {A : Type 0} → AttributeValueFacts A → AttributeValue A → Type 0
-IsAttributeValueBy f (attribute_value.ObjectType x) = f.object_type x
-IsAttributeValueBy f (attribute_value.CryptographicAlgorithm x) = f.cryptographic_algorithm x
-IsAttributeValueBy f (attribute_value.CertificateType x) = f.certificate_type x
-IsAttributeValueBy f (attribute_value.State x) = f.state x
-IsAttributeValueBy f (attribute_value.Integer x) = f.integer x
-IsAttributeValueBy f (attribute_value.LongInteger x) = f.long_integer x
-IsAttributeValueBy f (attribute_value.BigInteger x) = f.big_integer x
-IsAttributeValueBy f (attribute_value.Enumeration x) = f.enumeration x
-IsAttributeValueBy f (attribute_value.Boolean x) = f.boolean x
-IsAttributeValueBy f (attribute_value.TextString x) = f.text_string x
-IsAttributeValueBy f (attribute_value.ByteString x) = f.byte_string x
-IsAttributeValueBy f (attribute_value.DateTime x) = f.date_time x
-IsAttributeValueBy f (attribute_value.Interval x) = f.interval x
-IsAttributeValueBy f (attribute_value.Structure x) = f.structure x
-
-pub attribute_value_fact_of_object_type : {A : Type 0} (f : AttributeValueFacts A) {x : AttributeValue A} {y : Enumeration 0x420057} {b : Boole} → x ≡ attribute_value.ObjectType y → IsTrue b ↔ f.object_type y → IsTrue b ↔ IsAttributeValueBy f x
-unfolding IsAttributeValueBy
-attribute_value_fact_of_object_type f {b = b} is of = subst (λ z. IsTrue b ↔ IsAttributeValueBy f z) (sym is) of
-
-pub attribute_value_fact_of_cryptographic_algorithm : {A : Type 0} (f : AttributeValueFacts A) {x : AttributeValue A} {y : Enumeration 0x420028} {b : Boole} → x ≡ attribute_value.CryptographicAlgorithm y → IsTrue b ↔ f.cryptographic_algorithm y → IsTrue b ↔ IsAttributeValueBy f x
-unfolding IsAttributeValueBy
-attribute_value_fact_of_cryptographic_algorithm f {b = b} is of = subst (λ z. IsTrue b ↔ IsAttributeValueBy f z) (sym is) of
-
-pub attribute_value_fact_of_certificate_type : {A : Type 0} (f : AttributeValueFacts A) {x : AttributeValue A} {y : Enumeration 0x42001D} {b : Boole} → x ≡ attribute_value.CertificateType y → IsTrue b ↔ f.certificate_type y → IsTrue b ↔ IsAttributeValueBy f x
-unfolding IsAttributeValueBy
-attribute_value_fact_of_certificate_type f {b = b} is of = subst (λ z. IsTrue b ↔ IsAttributeValueBy f z) (sym is) of
-
-pub attribute_value_fact_of_state : {A : Type 0} (f : AttributeValueFacts A) {x : AttributeValue A} {y : Enumeration 0x42008D} {b : Boole} → x ≡ attribute_value.State y → IsTrue b ↔ f.state y → IsTrue b ↔ IsAttributeValueBy f x
-unfolding IsAttributeValueBy
-attribute_value_fact_of_state f {b = b} is of = subst (λ z. IsTrue b ↔ IsAttributeValueBy f z) (sym is) of
-
-pub attribute_value_fact_of_integer : {A : Type 0} (f : AttributeValueFacts A) {x : AttributeValue A} {y : ℤ} {b : Boole} → x ≡ attribute_value.Integer y → IsTrue b ↔ f.integer y → IsTrue b ↔ IsAttributeValueBy f x
-unfolding IsAttributeValueBy
-attribute_value_fact_of_integer f {b = b} is of = subst (λ z. IsTrue b ↔ IsAttributeValueBy f z) (sym is) of
-
-pub attribute_value_fact_of_long_integer : {A : Type 0} (f : AttributeValueFacts A) {x : AttributeValue A} {y : ℤ} {b : Boole} → x ≡ attribute_value.LongInteger y → IsTrue b ↔ f.long_integer y → IsTrue b ↔ IsAttributeValueBy f x
-unfolding IsAttributeValueBy
-attribute_value_fact_of_long_integer f {b = b} is of = subst (λ z. IsTrue b ↔ IsAttributeValueBy f z) (sym is) of
-
-pub attribute_value_fact_of_big_integer : {A : Type 0} (f : AttributeValueFacts A) {x : AttributeValue A} {y : BigNumber A} {b : Boole} → x ≡ attribute_value.BigInteger y → IsTrue b ↔ f.big_integer y → IsTrue b ↔ IsAttributeValueBy f x
-unfolding IsAttributeValueBy
-attribute_value_fact_of_big_integer f {b = b} is of = subst (λ z. IsTrue b ↔ IsAttributeValueBy f z) (sym is) of
-
-pub attribute_value_fact_of_enumeration : {A : Type 0} (f : AttributeValueFacts A) {x : AttributeValue A} {y : ℕ} {b : Boole} → x ≡ attribute_value.Enumeration y → IsTrue b ↔ f.enumeration y → IsTrue b ↔ IsAttributeValueBy f x
-unfolding IsAttributeValueBy
-attribute_value_fact_of_enumeration f {b = b} is of = subst (λ z. IsTrue b ↔ IsAttributeValueBy f z) (sym is) of
-
-pub attribute_value_fact_of_boolean : {A : Type 0} (f : AttributeValueFacts A) {x : AttributeValue A} {y : Boole} {b : Boole} → x ≡ attribute_value.Boolean y → IsTrue b ↔ f.boolean y → IsTrue b ↔ IsAttributeValueBy f x
-unfolding IsAttributeValueBy
-attribute_value_fact_of_boolean f {b = b} is of = subst (λ z. IsTrue b ↔ IsAttributeValueBy f z) (sym is) of
-
-pub attribute_value_fact_of_text_string : {A : Type 0} (f : AttributeValueFacts A) {x : AttributeValue A} {y : String A} {b : Boole} → x ≡ attribute_value.TextString y → IsTrue b ↔ f.text_string y → IsTrue b ↔ IsAttributeValueBy f x
-unfolding IsAttributeValueBy
-attribute_value_fact_of_text_string f {b = b} is of = subst (λ z. IsTrue b ↔ IsAttributeValueBy f z) (sym is) of
-
-pub attribute_value_fact_of_byte_string : {A : Type 0} (f : AttributeValueFacts A) {x : AttributeValue A} {y : Vec ℕ A} {b : Boole} → x ≡ attribute_value.ByteString y → IsTrue b ↔ f.byte_string y → IsTrue b ↔ IsAttributeValueBy f x
-unfolding IsAttributeValueBy
-attribute_value_fact_of_byte_string f {b = b} is of = subst (λ z. IsTrue b ↔ IsAttributeValueBy f z) (sym is) of
-
-pub attribute_value_fact_of_date_time : {A : Type 0} (f : AttributeValueFacts A) {x : AttributeValue A} {y : DateTime} {b : Boole} → x ≡ attribute_value.DateTime y → IsTrue b ↔ f.date_time y → IsTrue b ↔ IsAttributeValueBy f x
-unfolding IsAttributeValueBy
-attribute_value_fact_of_date_time f {b = b} is of = subst (λ z. IsTrue b ↔ IsAttributeValueBy f z) (sym is) of
-
-pub attribute_value_fact_of_interval : {A : Type 0} (f : AttributeValueFacts A) {x : AttributeValue A} {y : Interval} {b : Boole} → x ≡ attribute_value.Interval y → IsTrue b ↔ f.interval y → IsTrue b ↔ IsAttributeValueBy f x
-unfolding IsAttributeValueBy
-attribute_value_fact_of_interval f {b = b} is of = subst (λ z. IsTrue b ↔ IsAttributeValueBy f z) (sym is) of
-
-pub attribute_value_fact_of_structure : {A : Type 0} (f : AttributeValueFacts A) {x : AttributeValue A} {y : AttributeStructure A} {b : Boole} → x ≡ attribute_value.Structure y → IsTrue b ↔ f.structure y → IsTrue b ↔ IsAttributeValueBy f x
-unfolding IsAttributeValueBy
-attribute_value_fact_of_structure f {b = b} is of = subst (λ z. IsTrue b ↔ IsAttributeValueBy f z) (sym is) of
 
 -- what a `AttributeValue` may hold
 pub record AttributeValueItems (A : Type 0) (eq : AttributeValue A → AttributeValue A → Boole) : Type 1 where
@@ -523,6 +272,24 @@ attribute_value_variants i =
     variant (codes "if type==Interval") (wrapped i.interval.form) (
     variant (codes "if type==Structure") (wrapped i.structure.form) no_variants)))))))))))))
 
+abbrev pub attribute_value_cases : {A : Type 0} {eq : AttributeValue A → AttributeValue A → Boole} → AttributeValueItems A eq → AttributeValueCases A
+attribute_value_cases i = record {
+  object_type = as_item (codes "value") (codes "if 0x42000A==Object Type") i.object_type;
+  cryptographic_algorithm = as_item (codes "value") (codes "if 0x42000A==Cryptographic Algorithm") i.cryptographic_algorithm;
+  certificate_type = as_item (codes "value") (codes "if 0x42000A==Certificate Type") i.certificate_type;
+  state = as_item (codes "value") (codes "if 0x42000A==State") i.state;
+  integer = as_item (codes "value") (codes "if type==Integer") i.integer;
+  long_integer = as_item (codes "value") (codes "if type==LongInteger") i.long_integer;
+  big_integer = as_item (codes "value") (codes "if type==BigInteger") i.big_integer;
+  enumeration = as_item (codes "value") (codes "if type==Enumeration") i.enumeration;
+  boolean = as_item (codes "value") (codes "if type==Boolean") i.boolean;
+  text_string = as_item (codes "value") (codes "if type==TextString") i.text_string;
+  byte_string = as_item (codes "value") (codes "if type==ByteString") i.byte_string;
+  date_time = as_item (codes "value") (codes "if type==DateTime") i.date_time;
+  interval = as_item (codes "value") (codes "if type==Interval") i.interval;
+  structure = as_choice (codes "value") (codes "if type==Structure") i.structure;
+}
+
 -- where what is said is none of the names, the type of the item chooses
 attribute_value_unnamed : {A : Type 0} {eq : AttributeValue A → AttributeValue A → Boole} (i : AttributeValueItems A eq) (said : List ℕ) (k : List TagValue) (typ : TtlvType) (n : ℕ)
     → IsNoneOf said attribute_value_names → last k 0x42000A ≡ Some said
@@ -538,11 +305,8 @@ attribute_value_unnamed i said k typ n none found e =
     (ap (λ c. past 1 (past 1 (past 1 (past 1 (c))))) e)
 
 pub attribute_value_case : {A : Type 0} {eq : AttributeValue A → AttributeValue A → Boole} (i : AttributeValueItems A eq) (x : AttributeValue A)
-    → Case 0x42000B 0x42000A (attribute_value_typ x) (enum (codes "value") (attribute_value_variants i)) (λ said. ChoosesAttributeValue said x)
-    (attribute_value_by record { object_type = i.object_type.rules.written; cryptographic_algorithm = i.cryptographic_algorithm.rules.written; certificate_type = i.certificate_type.rules.written; state = i.state.rules.written; integer = i.integer.rules.written; long_integer = i.long_integer.rules.written; big_integer = i.big_integer.rules.written; enumeration = i.enumeration.rules.written; boolean = i.boolean.rules.written; text_string = i.text_string.rules.written; byte_string = i.byte_string.rules.written; date_time = i.date_time.rules.written; interval = i.interval.rules.written; structure = i.structure.rules.written } x)
-    (attribute_value_by record { object_type = (λ y. newtype_variant_value (codes "value") (codes "if 0x42000A==Object Type") (i.object_type.value y)); cryptographic_algorithm = (λ y. newtype_variant_value (codes "value") (codes "if 0x42000A==Cryptographic Algorithm") (i.cryptographic_algorithm.value y)); certificate_type = (λ y. newtype_variant_value (codes "value") (codes "if 0x42000A==Certificate Type") (i.certificate_type.value y)); state = (λ y. newtype_variant_value (codes "value") (codes "if 0x42000A==State") (i.state.value y)); integer = (λ y. newtype_variant_value (codes "value") (codes "if type==Integer") (i.integer.value y)); long_integer = (λ y. newtype_variant_value (codes "value") (codes "if type==LongInteger") (i.long_integer.value y)); big_integer = (λ y. newtype_variant_value (codes "value") (codes "if type==BigInteger") (i.big_integer.value y)); enumeration = (λ y. newtype_variant_value (codes "value") (codes "if type==Enumeration") (i.enumeration.value y)); boolean = (λ y. newtype_variant_value (codes "value") (codes "if type==Boolean") (i.boolean.value y)); text_string = (λ y. newtype_variant_value (codes "value") (codes "if type==TextString") (i.text_string.value y)); byte_string = (λ y. newtype_variant_value (codes "value") (codes "if type==ByteString") (i.byte_string.value y)); date_time = (λ y. newtype_variant_value (codes "value") (codes "if type==DateTime") (i.date_time.value y)); interval = (λ y. newtype_variant_value (codes "value") (codes "if type==Interval") (i.interval.value y)); structure = (λ y. newtype_variant_value (codes "value") (codes "if type==Structure") (i.structure.value y)) } x)
-    (IsAttributeValueBy record { object_type = i.object_type.rules.IsSound; cryptographic_algorithm = i.cryptographic_algorithm.rules.IsSound; certificate_type = i.certificate_type.rules.IsSound; state = i.state.rules.IsSound; integer = i.integer.rules.IsSound; long_integer = i.long_integer.rules.IsSound; big_integer = i.big_integer.rules.IsSound; enumeration = i.enumeration.rules.IsSound; boolean = i.boolean.rules.IsSound; text_string = i.text_string.rules.IsSound; byte_string = i.byte_string.rules.IsSound; date_time = i.date_time.rules.IsSound; interval = i.interval.rules.IsSound; structure = i.structure.rules.IsSound } x)
-unfolding tag_of number rule sides equal at_least member in_brackets trim_end chars trim_start encode attribute_value_by IsAttributeValueBy
+    → Case 0x42000B 0x42000A (attribute_value_typ x) (enum (codes "value") (attribute_value_variants i)) (λ said. ChoosesAttributeValue said x) (attribute_value_by (attribute_value_cases i) x)
+unfolding tag_of number rule sides equal at_least member in_brackets trim_end chars trim_start encode attribute_value_by
 attribute_value_case i (attribute_value.ObjectType x) = case_of i.object_type x first_variant (λ said chooses k found. rw (found ∙ ap Some chooses) refl)
 attribute_value_case i (attribute_value.CryptographicAlgorithm x) = case_of i.cryptographic_algorithm x (later_variant first_variant) (λ said chooses k found. rw (found ∙ ap Some chooses) refl)
 attribute_value_case i (attribute_value.CertificateType x) = case_of i.certificate_type x (later_variant (later_variant first_variant)) (λ said chooses k found. rw (found ∙ ap Some chooses) refl)
@@ -559,7 +323,7 @@ attribute_value_case i (attribute_value.Interval x) = case_of i.interval x (late
 attribute_value_case i (attribute_value.Structure x) = case_within i.structure x (later_variant (later_variant (later_variant (later_variant (later_variant (later_variant (later_variant (later_variant (later_variant (later_variant (later_variant (later_variant (later_variant first_variant))))))))))))) (λ said none k found. attribute_value_unnamed i said k types.Structure 9 none found refl)
 
 pub attribute_value_same : {A : Type 0} {eq : AttributeValue A → AttributeValue A → Boole} (i : AttributeValueItems A eq) (x y : AttributeValue A)
-    → (attribute_value_by record { object_type = (λ y. newtype_variant_value (codes "value") (codes "if 0x42000A==Object Type") (i.object_type.value y)); cryptographic_algorithm = (λ y. newtype_variant_value (codes "value") (codes "if 0x42000A==Cryptographic Algorithm") (i.cryptographic_algorithm.value y)); certificate_type = (λ y. newtype_variant_value (codes "value") (codes "if 0x42000A==Certificate Type") (i.certificate_type.value y)); state = (λ y. newtype_variant_value (codes "value") (codes "if 0x42000A==State") (i.state.value y)); integer = (λ y. newtype_variant_value (codes "value") (codes "if type==Integer") (i.integer.value y)); long_integer = (λ y. newtype_variant_value (codes "value") (codes "if type==LongInteger") (i.long_integer.value y)); big_integer = (λ y. newtype_variant_value (codes "value") (codes "if type==BigInteger") (i.big_integer.value y)); enumeration = (λ y. newtype_variant_value (codes "value") (codes "if type==Enumeration") (i.enumeration.value y)); boolean = (λ y. newtype_variant_value (codes "value") (codes "if type==Boolean") (i.boolean.value y)); text_string = (λ y. newtype_variant_value (codes "value") (codes "if type==TextString") (i.text_string.value y)); byte_string = (λ y. newtype_variant_value (codes "value") (codes "if type==ByteString") (i.byte_string.value y)); date_time = (λ y. newtype_variant_value (codes "value") (codes "if type==DateTime") (i.date_time.value y)); interval = (λ y. newtype_variant_value (codes "value") (codes "if type==Interval") (i.interval.value y)); structure = (λ y. newtype_variant_value (codes "value") (codes "if type==Structure") (i.structure.value y)) } x) ≡ (attribute_value_by record { object_type = (λ y. newtype_variant_value (codes "value") (codes "if 0x42000A==Object Type") (i.object_type.value y)); cryptographic_algorithm = (λ y. newtype_variant_value (codes "value") (codes "if 0x42000A==Cryptographic Algorithm") (i.cryptographic_algorithm.value y)); certificate_type = (λ y. newtype_variant_value (codes "value") (codes "if 0x42000A==Certificate Type") (i.certificate_type.value y)); state = (λ y. newtype_variant_value (codes "value") (codes "if 0x42000A==State") (i.state.value y)); integer = (λ y. newtype_variant_value (codes "value") (codes "if type==Integer") (i.integer.value y)); long_integer = (λ y. newtype_variant_value (codes "value") (codes "if type==LongInteger") (i.long_integer.value y)); big_integer = (λ y. newtype_variant_value (codes "value") (codes "if type==BigInteger") (i.big_integer.value y)); enumeration = (λ y. newtype_variant_value (codes "value") (codes "if type==Enumeration") (i.enumeration.value y)); boolean = (λ y. newtype_variant_value (codes "value") (codes "if type==Boolean") (i.boolean.value y)); text_string = (λ y. newtype_variant_value (codes "value") (codes "if type==TextString") (i.text_string.value y)); byte_string = (λ y. newtype_variant_value (codes "value") (codes "if type==ByteString") (i.byte_string.value y)); date_time = (λ y. newtype_variant_value (codes "value") (codes "if type==DateTime") (i.date_time.value y)); interval = (λ y. newtype_variant_value (codes "value") (codes "if type==Interval") (i.interval.value y)); structure = (λ y. newtype_variant_value (codes "value") (codes "if type==Structure") (i.structure.value y)) } y)
+    → (attribute_value_by (attribute_value_cases i) x).value ≡ (attribute_value_by (attribute_value_cases i) y).value
     → eq x y ≡ true
 unfolding attribute_value_by
 attribute_value_same i (attribute_value.ObjectType x) (attribute_value.ObjectType y) e = i.object_type.same x y (i.object_type.rules.same x y (in_variant e))
@@ -580,4 +344,4 @@ attribute_value_same i x y e = absurd (apart e refl)
 
 -- the choice
 abbrev pub attribute_value_choice : {A : Type 0} (eq : AttributeValue A → AttributeValue A → Boole) → AttributeValueItems A eq → ChoiceOf (AttributeValue A)
-attribute_value_choice eq i = choice_by {typ = attribute_value_typ} {C = ChoosesAttributeValue} {written = attribute_value_by record { object_type = i.object_type.rules.written; cryptographic_algorithm = i.cryptographic_algorithm.rules.written; certificate_type = i.certificate_type.rules.written; state = i.state.rules.written; integer = i.integer.rules.written; long_integer = i.long_integer.rules.written; big_integer = i.big_integer.rules.written; enumeration = i.enumeration.rules.written; boolean = i.boolean.rules.written; text_string = i.text_string.rules.written; byte_string = i.byte_string.rules.written; date_time = i.date_time.rules.written; interval = i.interval.rules.written; structure = i.structure.rules.written }} {value = attribute_value_by record { object_type = (λ y. newtype_variant_value (codes "value") (codes "if 0x42000A==Object Type") (i.object_type.value y)); cryptographic_algorithm = (λ y. newtype_variant_value (codes "value") (codes "if 0x42000A==Cryptographic Algorithm") (i.cryptographic_algorithm.value y)); certificate_type = (λ y. newtype_variant_value (codes "value") (codes "if 0x42000A==Certificate Type") (i.certificate_type.value y)); state = (λ y. newtype_variant_value (codes "value") (codes "if 0x42000A==State") (i.state.value y)); integer = (λ y. newtype_variant_value (codes "value") (codes "if type==Integer") (i.integer.value y)); long_integer = (λ y. newtype_variant_value (codes "value") (codes "if type==LongInteger") (i.long_integer.value y)); big_integer = (λ y. newtype_variant_value (codes "value") (codes "if type==BigInteger") (i.big_integer.value y)); enumeration = (λ y. newtype_variant_value (codes "value") (codes "if type==Enumeration") (i.enumeration.value y)); boolean = (λ y. newtype_variant_value (codes "value") (codes "if type==Boolean") (i.boolean.value y)); text_string = (λ y. newtype_variant_value (codes "value") (codes "if type==TextString") (i.text_string.value y)); byte_string = (λ y. newtype_variant_value (codes "value") (codes "if type==ByteString") (i.byte_string.value y)); date_time = (λ y. newtype_variant_value (codes "value") (codes "if type==DateTime") (i.date_time.value y)); interval = (λ y. newtype_variant_value (codes "value") (codes "if type==Interval") (i.interval.value y)); structure = (λ y. newtype_variant_value (codes "value") (codes "if type==Structure") (i.structure.value y)) }} {IsSound = IsAttributeValueBy record { object_type = i.object_type.rules.IsSound; cryptographic_algorithm = i.cryptographic_algorithm.rules.IsSound; certificate_type = i.certificate_type.rules.IsSound; state = i.state.rules.IsSound; integer = i.integer.rules.IsSound; long_integer = i.long_integer.rules.IsSound; big_integer = i.big_integer.rules.IsSound; enumeration = i.enumeration.rules.IsSound; boolean = i.boolean.rules.IsSound; text_string = i.text_string.rules.IsSound; byte_string = i.byte_string.rules.IsSound; date_time = i.date_time.rules.IsSound; interval = i.interval.rules.IsSound; structure = i.structure.rules.IsSound }} 0x42000B 0x42000A (attribute_value_case i) eq (attribute_value_same i)
+attribute_value_choice eq i = choice_by {typ = attribute_value_typ} {C = ChoosesAttributeValue} {m = attribute_value_by (attribute_value_cases i)} 0x42000B 0x42000A (attribute_value_case i) eq (attribute_value_same i)

@@ -3,7 +3,7 @@
 
 ghost use Rattle.std.specs.Prelude.{◌↔◌, ◌+◌, IsTrue, Some, codes, refl, string_bytes, true};
 ghost use Rattle.kmip_ttlv_parts.specs.Returns.{IsNoneOf};
-ghost use Rattle.kmip_ttlv_kinds.specs.Parts.{of, structure, structure_where};
+ghost use Rattle.kmip_ttlv_kinds.specs.Parts.{structure, structure_where};
 ghost use Rattle.kmip_ttlv_kinds.specs.Choices.{held, held_choice};
 ghost use Rattle.kmip_attributes.specs.Choices.{attribute_structure_choice, ChoosesAttributeStructure, attribute_value_choice, ChoosesAttributeValue, attribute_value_names};
 
@@ -14,8 +14,8 @@ use crate::structures::{
 };
 use crate::values::{CertificateType, CryptographicAlgorithm, ObjectType, State};
 use kmip_ttlv_kinds::{
-    AsElement, BigNumber, Choice, ChoiceElement, Element, Leaf, LeafItem, MaybeLeaf, Of, OneOf,
-    PartList, Structure, Under, are_whole_three, both, read_parts, visit_structure_three,
+    AsElement, BigNumber, Case, Choice, ChoiceElement, Decided, Element, FromParts, Holds, Leaf,
+    LeafItem, MaybeLeaf, Of, OneOf, PartList, Structure, Under, Walk, read_structure, texts_in,
 };
 use kmip_ttlv_parts::laws::is_none_of;
 use kmip_ttlv_parts::reader::{
@@ -23,7 +23,6 @@ use kmip_ttlv_parts::reader::{
     VariantOf,
 };
 use kmip_ttlv_parts::types::TtlvType;
-use kmip_ttlv_parts::visit::Visitor;
 use kmip_ttlv_parts::{Enumeration, reader};
 use std::alloc::{AllocError, Allocator, Global};
 
@@ -80,90 +79,52 @@ impl<A: Allocator> AttributeStructure<A> {
 
 impl<A: Allocator + Copy> Choice<A> for AttributeStructure<A> {
     ghost chosen = { attribute_structure_choice ⟦<AttributeStructure<A> as PartialEq>⟧.eq record {
-      name = held ⟦<Of<Name<A>> as Element<A>>⟧.rules refl refl (λ x y e. e);
-      cryptographic_parameters = held ⟦<Of<CryptographicParameters> as Element<A>>⟧.rules refl refl (λ x y e. e);
-      cryptographic_domain_parameters = held ⟦<Of<CryptographicDomainParameters> as Element<A>>⟧.rules refl refl (λ x y e. e);
-      certificate_identifier = held ⟦<Of<CertificateIdentifier<A>> as Element<A>>⟧.rules refl refl (λ x y e. e);
-      certificate_subject = held ⟦<Of<CertificateSubject<A>> as Element<A>>⟧.rules refl refl (λ x y e. e);
-      certificate_issuer = held ⟦<Of<CertificateIssuer<A>> as Element<A>>⟧.rules refl refl (λ x y e. e);
-      digest = held ⟦<Of<Digest<A>> as Element<A>>⟧.rules refl refl (λ x y e. e);
-      usage_limits = held ⟦<Of<UsageLimits> as Element<A>>⟧.rules refl refl (λ x y e. e);
-      revocation_reason = held ⟦<Of<RevocationReason<A>> as Element<A>>⟧.rules refl refl (λ x y e. e);
-      link = held ⟦<Of<Link<A>> as Element<A>>⟧.rules refl refl (λ x y e. e);
-      application_specific_information = held ⟦<Of<ApplicationSpecificInformation<A>> as Element<A>>⟧.rules refl refl (λ x y e. e);
+      name = held ⟦<Of<Name<A>, 0x42000B> as Element<A>>⟧.rules refl refl (λ x y e. e);
+      cryptographic_parameters = held ⟦<Of<CryptographicParameters, 0x42000B> as Element<A>>⟧.rules refl refl (λ x y e. e);
+      cryptographic_domain_parameters = held ⟦<Of<CryptographicDomainParameters, 0x42000B> as Element<A>>⟧.rules refl refl (λ x y e. e);
+      certificate_identifier = held ⟦<Of<CertificateIdentifier<A>, 0x42000B> as Element<A>>⟧.rules refl refl (λ x y e. e);
+      certificate_subject = held ⟦<Of<CertificateSubject<A>, 0x42000B> as Element<A>>⟧.rules refl refl (λ x y e. e);
+      certificate_issuer = held ⟦<Of<CertificateIssuer<A>, 0x42000B> as Element<A>>⟧.rules refl refl (λ x y e. e);
+      digest = held ⟦<Of<Digest<A>, 0x42000B> as Element<A>>⟧.rules refl refl (λ x y e. e);
+      usage_limits = held ⟦<Of<UsageLimits, 0x42000B> as Element<A>>⟧.rules refl refl (λ x y e. e);
+      revocation_reason = held ⟦<Of<RevocationReason<A>, 0x42000B> as Element<A>>⟧.rules refl refl (λ x y e. e);
+      link = held ⟦<Of<Link<A>, 0x42000B> as Element<A>>⟧.rules refl refl (λ x y e. e);
+      application_specific_information = held ⟦<Of<ApplicationSpecificInformation<A>, 0x42000B> as Element<A>>⟧.rules refl refl (λ x y e. e);
     } };
 
     fn read_chosen<'b>(scope: &Scope<'b, A>, cursor: &mut Cursor<'b, A>) -> Step<Self, A> {
         reader::read_choice(scope, cursor)
     }
 
-    fn visit_chosen<V: Visitor>(&self, visitor: &mut V) -> Result<(), AllocError> {
+    fn tell_held<W: Walk<A>>(&self, state: &mut W::State) -> Result<(), AllocError> {
         match self {
-            AttributeStructure::Name(inner) => <Of<Name<A>> as Element<A>>::visit_one(
-                inner, visitor,
+            AttributeStructure::Name(inner) => W::item::<Of<Name<A>, 0x42000B>>(state, inner),
+            AttributeStructure::CryptographicParameters(inner) => W::item::<
+                Of<CryptographicParameters, 0x42000B>,
+            >(state, inner),
+            AttributeStructure::CryptographicDomainParameters(inner) => W::item::<
+                Of<CryptographicDomainParameters, 0x42000B>,
+            >(state, inner),
+            AttributeStructure::CertificateIdentifier(inner) => W::item::<
+                Of<CertificateIdentifier<A>, 0x42000B>,
+            >(state, inner),
+            AttributeStructure::CertificateSubject(inner) => W::item::<
+                Of<CertificateSubject<A>, 0x42000B>,
+            >(state, inner),
+            AttributeStructure::CertificateIssuer(inner) => W::item::<
+                Of<CertificateIssuer<A>, 0x42000B>,
+            >(state, inner),
+            AttributeStructure::Digest(inner) => W::item::<Of<Digest<A>, 0x42000B>>(state, inner),
+            AttributeStructure::UsageLimits(inner) => W::item::<Of<UsageLimits, 0x42000B>>(
+                state, inner,
             ),
-            AttributeStructure::CryptographicParameters(inner) => <Of<
-                CryptographicParameters,
-            > as Element<A>>::visit_one(inner, visitor),
-            AttributeStructure::CryptographicDomainParameters(inner) => <Of<
-                CryptographicDomainParameters,
-            > as Element<A>>::visit_one(inner, visitor),
-            AttributeStructure::CertificateIdentifier(inner) => <Of<
-                CertificateIdentifier<A>,
-            > as Element<A>>::visit_one(inner, visitor),
-            AttributeStructure::CertificateSubject(inner) => <Of<CertificateSubject<A>> as Element<
-                A,
-            >>::visit_one(inner, visitor),
-            AttributeStructure::CertificateIssuer(inner) => <Of<CertificateIssuer<A>> as Element<
-                A,
-            >>::visit_one(inner, visitor),
-            AttributeStructure::Digest(inner) => <Of<Digest<A>> as Element<A>>::visit_one(
-                inner, visitor,
-            ),
-            AttributeStructure::UsageLimits(inner) => <Of<UsageLimits> as Element<A>>::visit_one(
-                inner, visitor,
-            ),
-            AttributeStructure::RevocationReason(inner) => <Of<RevocationReason<A>> as Element<
-                A,
-            >>::visit_one(inner, visitor),
-            AttributeStructure::Link(inner) => <Of<Link<A>> as Element<A>>::visit_one(
-                inner, visitor,
-            ),
-            AttributeStructure::ApplicationSpecificInformation(inner) => <Of<
-                ApplicationSpecificInformation<A>,
-            > as Element<A>>::visit_one(inner, visitor),
-        }
-    }
-
-    fn is_whole(&self) -> bool {
-        match self {
-            AttributeStructure::Name(inner) => <Of<Name<A>> as Element<A>>::is_whole(inner),
-            AttributeStructure::CryptographicParameters(inner) => <Of<
-                CryptographicParameters,
-            > as Element<A>>::is_whole(inner),
-            AttributeStructure::CryptographicDomainParameters(inner) => <Of<
-                CryptographicDomainParameters,
-            > as Element<A>>::is_whole(inner),
-            AttributeStructure::CertificateIdentifier(inner) => <Of<
-                CertificateIdentifier<A>,
-            > as Element<A>>::is_whole(inner),
-            AttributeStructure::CertificateSubject(inner) => <Of<CertificateSubject<A>> as Element<
-                A,
-            >>::is_whole(inner),
-            AttributeStructure::CertificateIssuer(inner) => <Of<CertificateIssuer<A>> as Element<
-                A,
-            >>::is_whole(inner),
-            AttributeStructure::Digest(inner) => <Of<Digest<A>> as Element<A>>::is_whole(inner),
-            AttributeStructure::UsageLimits(inner) => <Of<UsageLimits> as Element<A>>::is_whole(
-                inner,
-            ),
-            AttributeStructure::RevocationReason(inner) => <Of<RevocationReason<A>> as Element<
-                A,
-            >>::is_whole(inner),
-            AttributeStructure::Link(inner) => <Of<Link<A>> as Element<A>>::is_whole(inner),
-            AttributeStructure::ApplicationSpecificInformation(inner) => <Of<
-                ApplicationSpecificInformation<A>,
-            > as Element<A>>::is_whole(inner),
+            AttributeStructure::RevocationReason(inner) => W::item::<
+                Of<RevocationReason<A>, 0x42000B>,
+            >(state, inner),
+            AttributeStructure::Link(inner) => W::item::<Of<Link<A>, 0x42000B>>(state, inner),
+            AttributeStructure::ApplicationSpecificInformation(inner) => W::item::<
+                Of<ApplicationSpecificInformation<A>, 0x42000B>,
+            >(state, inner),
         }
     }
 
@@ -182,14 +143,11 @@ impl Rule for AttributeStructureNameRule {
 
     #[tactic(auto, unfolding(kmip_ttlv_reader::specs::RuleParts::parts_of))]
     fn parts() -> Option<RuleParts> {
-        Some(RuleParts::Texts {
-            tag: 0x42000A,
-            texts: &["Name"],
-        })
+        texts_in(0x42000A, &["Name"])
     }
 }
 
-impl<A: Allocator + Copy> VariantOf<AsElement<Of<Name<A>>>, AttributeStructure<A>, A>
+impl<A: Allocator + Copy> VariantOf<AsElement<Of<Name<A>, 0x42000B>>, AttributeStructure<A>, A>
     for AttributeStructureNameRule {
     #[tactic(auto, unfolding(crate::specs::Choices::attribute_structure_by))]
     fn from_content(inner: Name<A>) -> AttributeStructure<A> {
@@ -209,15 +167,12 @@ impl Rule for AttributeStructureCryptographicParametersRule {
 
     #[tactic(auto, unfolding(kmip_ttlv_reader::specs::RuleParts::parts_of))]
     fn parts() -> Option<RuleParts> {
-        Some(RuleParts::Texts {
-            tag: 0x42000A,
-            texts: &["Cryptographic Parameters"],
-        })
+        texts_in(0x42000A, &["Cryptographic Parameters"])
     }
 }
 
 impl<A: Allocator + Copy> VariantOf<
-    AsElement<Of<CryptographicParameters>>,
+    AsElement<Of<CryptographicParameters, 0x42000B>>,
     AttributeStructure<A>,
     A,
 > for AttributeStructureCryptographicParametersRule {
@@ -239,15 +194,12 @@ impl Rule for AttributeStructureCryptographicDomainParametersRule {
 
     #[tactic(auto, unfolding(kmip_ttlv_reader::specs::RuleParts::parts_of))]
     fn parts() -> Option<RuleParts> {
-        Some(RuleParts::Texts {
-            tag: 0x42000A,
-            texts: &["Cryptographic Domain Parameters"],
-        })
+        texts_in(0x42000A, &["Cryptographic Domain Parameters"])
     }
 }
 
 impl<A: Allocator + Copy> VariantOf<
-    AsElement<Of<CryptographicDomainParameters>>,
+    AsElement<Of<CryptographicDomainParameters, 0x42000B>>,
     AttributeStructure<A>,
     A,
 > for AttributeStructureCryptographicDomainParametersRule {
@@ -269,15 +221,12 @@ impl Rule for AttributeStructureCertificateIdentifierRule {
 
     #[tactic(auto, unfolding(kmip_ttlv_reader::specs::RuleParts::parts_of))]
     fn parts() -> Option<RuleParts> {
-        Some(RuleParts::Texts {
-            tag: 0x42000A,
-            texts: &["Certificate Identifier"],
-        })
+        texts_in(0x42000A, &["Certificate Identifier"])
     }
 }
 
 impl<A: Allocator + Copy> VariantOf<
-    AsElement<Of<CertificateIdentifier<A>>>,
+    AsElement<Of<CertificateIdentifier<A>, 0x42000B>>,
     AttributeStructure<A>,
     A,
 > for AttributeStructureCertificateIdentifierRule {
@@ -299,15 +248,15 @@ impl Rule for AttributeStructureCertificateSubjectRule {
 
     #[tactic(auto, unfolding(kmip_ttlv_reader::specs::RuleParts::parts_of))]
     fn parts() -> Option<RuleParts> {
-        Some(RuleParts::Texts {
-            tag: 0x42000A,
-            texts: &["Certificate Subject"],
-        })
+        texts_in(0x42000A, &["Certificate Subject"])
     }
 }
 
-impl<A: Allocator + Copy> VariantOf<AsElement<Of<CertificateSubject<A>>>, AttributeStructure<A>, A>
-    for AttributeStructureCertificateSubjectRule {
+impl<A: Allocator + Copy> VariantOf<
+    AsElement<Of<CertificateSubject<A>, 0x42000B>>,
+    AttributeStructure<A>,
+    A,
+> for AttributeStructureCertificateSubjectRule {
     #[tactic(auto, unfolding(crate::specs::Choices::attribute_structure_by))]
     fn from_content(inner: CertificateSubject<A>) -> AttributeStructure<A> {
         AttributeStructure::CertificateSubject(inner)
@@ -326,15 +275,15 @@ impl Rule for AttributeStructureCertificateIssuerRule {
 
     #[tactic(auto, unfolding(kmip_ttlv_reader::specs::RuleParts::parts_of))]
     fn parts() -> Option<RuleParts> {
-        Some(RuleParts::Texts {
-            tag: 0x42000A,
-            texts: &["Certificate Issuer"],
-        })
+        texts_in(0x42000A, &["Certificate Issuer"])
     }
 }
 
-impl<A: Allocator + Copy> VariantOf<AsElement<Of<CertificateIssuer<A>>>, AttributeStructure<A>, A>
-    for AttributeStructureCertificateIssuerRule {
+impl<A: Allocator + Copy> VariantOf<
+    AsElement<Of<CertificateIssuer<A>, 0x42000B>>,
+    AttributeStructure<A>,
+    A,
+> for AttributeStructureCertificateIssuerRule {
     #[tactic(auto, unfolding(crate::specs::Choices::attribute_structure_by))]
     fn from_content(inner: CertificateIssuer<A>) -> AttributeStructure<A> {
         AttributeStructure::CertificateIssuer(inner)
@@ -353,14 +302,11 @@ impl Rule for AttributeStructureDigestRule {
 
     #[tactic(auto, unfolding(kmip_ttlv_reader::specs::RuleParts::parts_of))]
     fn parts() -> Option<RuleParts> {
-        Some(RuleParts::Texts {
-            tag: 0x42000A,
-            texts: &["Digest"],
-        })
+        texts_in(0x42000A, &["Digest"])
     }
 }
 
-impl<A: Allocator + Copy> VariantOf<AsElement<Of<Digest<A>>>, AttributeStructure<A>, A>
+impl<A: Allocator + Copy> VariantOf<AsElement<Of<Digest<A>, 0x42000B>>, AttributeStructure<A>, A>
     for AttributeStructureDigestRule {
     #[tactic(auto, unfolding(crate::specs::Choices::attribute_structure_by))]
     fn from_content(inner: Digest<A>) -> AttributeStructure<A> {
@@ -380,14 +326,11 @@ impl Rule for AttributeStructureUsageLimitsRule {
 
     #[tactic(auto, unfolding(kmip_ttlv_reader::specs::RuleParts::parts_of))]
     fn parts() -> Option<RuleParts> {
-        Some(RuleParts::Texts {
-            tag: 0x42000A,
-            texts: &["Usage Limits"],
-        })
+        texts_in(0x42000A, &["Usage Limits"])
     }
 }
 
-impl<A: Allocator + Copy> VariantOf<AsElement<Of<UsageLimits>>, AttributeStructure<A>, A>
+impl<A: Allocator + Copy> VariantOf<AsElement<Of<UsageLimits, 0x42000B>>, AttributeStructure<A>, A>
     for AttributeStructureUsageLimitsRule {
     #[tactic(auto, unfolding(crate::specs::Choices::attribute_structure_by))]
     fn from_content(inner: UsageLimits) -> AttributeStructure<A> {
@@ -407,15 +350,15 @@ impl Rule for AttributeStructureRevocationReasonRule {
 
     #[tactic(auto, unfolding(kmip_ttlv_reader::specs::RuleParts::parts_of))]
     fn parts() -> Option<RuleParts> {
-        Some(RuleParts::Texts {
-            tag: 0x42000A,
-            texts: &["Revocation Reason"],
-        })
+        texts_in(0x42000A, &["Revocation Reason"])
     }
 }
 
-impl<A: Allocator + Copy> VariantOf<AsElement<Of<RevocationReason<A>>>, AttributeStructure<A>, A>
-    for AttributeStructureRevocationReasonRule {
+impl<A: Allocator + Copy> VariantOf<
+    AsElement<Of<RevocationReason<A>, 0x42000B>>,
+    AttributeStructure<A>,
+    A,
+> for AttributeStructureRevocationReasonRule {
     #[tactic(auto, unfolding(crate::specs::Choices::attribute_structure_by))]
     fn from_content(inner: RevocationReason<A>) -> AttributeStructure<A> {
         AttributeStructure::RevocationReason(inner)
@@ -434,14 +377,11 @@ impl Rule for AttributeStructureLinkRule {
 
     #[tactic(auto, unfolding(kmip_ttlv_reader::specs::RuleParts::parts_of))]
     fn parts() -> Option<RuleParts> {
-        Some(RuleParts::Texts {
-            tag: 0x42000A,
-            texts: &["Link"],
-        })
+        texts_in(0x42000A, &["Link"])
     }
 }
 
-impl<A: Allocator + Copy> VariantOf<AsElement<Of<Link<A>>>, AttributeStructure<A>, A>
+impl<A: Allocator + Copy> VariantOf<AsElement<Of<Link<A>, 0x42000B>>, AttributeStructure<A>, A>
     for AttributeStructureLinkRule {
     #[tactic(auto, unfolding(crate::specs::Choices::attribute_structure_by))]
     fn from_content(inner: Link<A>) -> AttributeStructure<A> {
@@ -461,15 +401,12 @@ impl Rule for AttributeStructureApplicationSpecificInformationRule {
 
     #[tactic(auto, unfolding(kmip_ttlv_reader::specs::RuleParts::parts_of))]
     fn parts() -> Option<RuleParts> {
-        Some(RuleParts::Texts {
-            tag: 0x42000A,
-            texts: &["Application Specific Information"],
-        })
+        texts_in(0x42000A, &["Application Specific Information"])
     }
 }
 
 impl<A: Allocator + Copy> VariantOf<
-    AsElement<Of<ApplicationSpecificInformation<A>>>,
+    AsElement<Of<ApplicationSpecificInformation<A>, 0x42000B>>,
     AttributeStructure<A>,
     A,
 > for AttributeStructureApplicationSpecificInformationRule {
@@ -483,7 +420,7 @@ impl<A: Allocator + Copy> VariantOf<
 pub struct AttributeStructureLater4;
 
 impl<A: Allocator + Copy> VariantList<AttributeStructure<A>, A> for AttributeStructureLater4 {
-    ghost variants = { ⟦<(Variant<AttributeStructureCertificateSubjectRule, AsElement<Of<CertificateSubject<A>>>>, (Variant<AttributeStructureCertificateIssuerRule, AsElement<Of<CertificateIssuer<A>>>>, (Variant<AttributeStructureDigestRule, AsElement<Of<Digest<A>>>>, (Variant<AttributeStructureUsageLimitsRule, AsElement<Of<UsageLimits>>>, AttributeStructureLater8)))) as VariantList<AttributeStructure<A>, A>>⟧.variants };
+    ghost variants = { ⟦<(Case<AttributeStructureCertificateSubjectRule, Of<CertificateSubject<A>, 0x42000B>>, (Case<AttributeStructureCertificateIssuerRule, Of<CertificateIssuer<A>, 0x42000B>>, (Case<AttributeStructureDigestRule, Of<Digest<A>, 0x42000B>>, (Case<AttributeStructureUsageLimitsRule, Of<UsageLimits, 0x42000B>>, AttributeStructureLater8)))) as VariantList<AttributeStructure<A>, A>>⟧.variants };
 
     fn read_chosen<'b>(
         scope: &Scope<'b, A>,
@@ -491,16 +428,13 @@ impl<A: Allocator + Copy> VariantList<AttributeStructure<A>, A> for AttributeStr
         typ: TtlvType,
     ) -> Step<Option<AttributeStructure<A>>, A> {
         <(
-            Variant<AttributeStructureCertificateSubjectRule, AsElement<Of<CertificateSubject<A>>>>,
+            Case<AttributeStructureCertificateSubjectRule, Of<CertificateSubject<A>, 0x42000B>>,
             (
-                Variant<
-                    AttributeStructureCertificateIssuerRule,
-                    AsElement<Of<CertificateIssuer<A>>>,
-                >,
+                Case<AttributeStructureCertificateIssuerRule, Of<CertificateIssuer<A>, 0x42000B>>,
                 (
-                    Variant<AttributeStructureDigestRule, AsElement<Of<Digest<A>>>>,
+                    Case<AttributeStructureDigestRule, Of<Digest<A>, 0x42000B>>,
                     (
-                        Variant<AttributeStructureUsageLimitsRule, AsElement<Of<UsageLimits>>>,
+                        Case<AttributeStructureUsageLimitsRule, Of<UsageLimits, 0x42000B>>,
                         AttributeStructureLater8,
                     ),
                 ),
@@ -515,7 +449,7 @@ impl<A: Allocator + Copy> VariantList<AttributeStructure<A>, A> for AttributeStr
 pub struct AttributeStructureLater8;
 
 impl<A: Allocator + Copy> VariantList<AttributeStructure<A>, A> for AttributeStructureLater8 {
-    ghost variants = { ⟦<(Variant<AttributeStructureRevocationReasonRule, AsElement<Of<RevocationReason<A>>>>, (Variant<AttributeStructureLinkRule, AsElement<Of<Link<A>>>>, (Variant<AttributeStructureApplicationSpecificInformationRule, AsElement<Of<ApplicationSpecificInformation<A>>>>, ()))) as VariantList<AttributeStructure<A>, A>>⟧.variants };
+    ghost variants = { ⟦<(Case<AttributeStructureRevocationReasonRule, Of<RevocationReason<A>, 0x42000B>>, (Case<AttributeStructureLinkRule, Of<Link<A>, 0x42000B>>, (Case<AttributeStructureApplicationSpecificInformationRule, Of<ApplicationSpecificInformation<A>, 0x42000B>>, ()))) as VariantList<AttributeStructure<A>, A>>⟧.variants };
 
     fn read_chosen<'b>(
         scope: &Scope<'b, A>,
@@ -523,13 +457,13 @@ impl<A: Allocator + Copy> VariantList<AttributeStructure<A>, A> for AttributeStr
         typ: TtlvType,
     ) -> Step<Option<AttributeStructure<A>>, A> {
         <(
-            Variant<AttributeStructureRevocationReasonRule, AsElement<Of<RevocationReason<A>>>>,
+            Case<AttributeStructureRevocationReasonRule, Of<RevocationReason<A>, 0x42000B>>,
             (
-                Variant<AttributeStructureLinkRule, AsElement<Of<Link<A>>>>,
+                Case<AttributeStructureLinkRule, Of<Link<A>, 0x42000B>>,
                 (
-                    Variant<
+                    Case<
                         AttributeStructureApplicationSpecificInformationRule,
-                        AsElement<Of<ApplicationSpecificInformation<A>>>,
+                        Of<ApplicationSpecificInformation<A>, 0x42000B>,
                     >,
                     (),
                 ),
@@ -550,21 +484,21 @@ impl<A: Allocator + Copy> reader::Choice<A> for AttributeStructure<A> {
     ghost form = { ⟦<AttributeStructure<A> as Choice<A>>⟧.chosen.form };
 
     type Variants = (
-        Variant<AttributeStructureNameRule, AsElement<Of<Name<A>>>>,
+        Case<AttributeStructureNameRule, Of<Name<A>, 0x42000B>>,
         (
-            Variant<
+            Case<
                 AttributeStructureCryptographicParametersRule,
-                AsElement<Of<CryptographicParameters>>,
+                Of<CryptographicParameters, 0x42000B>,
             >,
             (
-                Variant<
+                Case<
                     AttributeStructureCryptographicDomainParametersRule,
-                    AsElement<Of<CryptographicDomainParameters>>,
+                    Of<CryptographicDomainParameters, 0x42000B>,
                 >,
                 (
-                    Variant<
+                    Case<
                         AttributeStructureCertificateIdentifierRule,
-                        AsElement<Of<CertificateIdentifier<A>>>,
+                        Of<CertificateIdentifier<A>, 0x42000B>,
                     >,
                     AttributeStructureLater4,
                 ),
@@ -671,97 +605,38 @@ impl<A: Allocator + Copy> Choice<A> for AttributeValue<A> {
         reader::read_choice(scope, cursor)
     }
 
-    fn visit_chosen<V: Visitor>(&self, visitor: &mut V) -> Result<(), AllocError> {
+    fn tell_held<W: Walk<A>>(&self, state: &mut W::State) -> Result<(), AllocError> {
         match self {
-            AttributeValue::ObjectType(inner) => <Under<ObjectType, 0x42000B> as Element<
-                A,
-            >>::visit_one(inner, visitor),
-            AttributeValue::CryptographicAlgorithm(inner) => <Under<
-                CryptographicAlgorithm,
-                0x42000B,
-            > as Element<A>>::visit_one(inner, visitor),
-            AttributeValue::CertificateType(inner) => <Under<CertificateType, 0x42000B> as Element<
-                A,
-            >>::visit_one(inner, visitor),
-            AttributeValue::State(inner) => <Under<State, 0x42000B> as Element<A>>::visit_one(
-                inner, visitor,
+            AttributeValue::ObjectType(inner) => W::item::<Under<ObjectType, 0x42000B>>(
+                state, inner,
             ),
-            AttributeValue::Integer(inner) => <LeafItem<i32, 0x42000B> as Element<A>>::visit_one(
-                inner, visitor,
+            AttributeValue::CryptographicAlgorithm(inner) => W::item::<
+                Under<CryptographicAlgorithm, 0x42000B>,
+            >(state, inner),
+            AttributeValue::CertificateType(inner) => W::item::<Under<CertificateType, 0x42000B>>(
+                state, inner,
             ),
-            AttributeValue::LongInteger(inner) => <LeafItem<i64, 0x42000B> as Element<
-                A,
-            >>::visit_one(inner, visitor),
-            AttributeValue::BigInteger(inner) => <LeafItem<BigNumber<A>, 0x42000B> as Element<
-                A,
-            >>::visit_one(inner, visitor),
-            AttributeValue::Enumeration(inner) => <LeafItem<u32, 0x42000B> as Element<
-                A,
-            >>::visit_one(inner, visitor),
-            AttributeValue::Boolean(inner) => <LeafItem<bool, 0x42000B> as Element<A>>::visit_one(
-                inner, visitor,
+            AttributeValue::State(inner) => W::item::<Under<State, 0x42000B>>(state, inner),
+            AttributeValue::Integer(inner) => W::item::<LeafItem<i32, 0x42000B>>(state, inner),
+            AttributeValue::LongInteger(inner) => W::item::<LeafItem<i64, 0x42000B>>(state, inner),
+            AttributeValue::BigInteger(inner) => W::item::<LeafItem<BigNumber<A>, 0x42000B>>(
+                state, inner,
             ),
-            AttributeValue::TextString(inner) => <LeafItem<String<A>, 0x42000B> as Element<
-                A,
-            >>::visit_one(inner, visitor),
-            AttributeValue::ByteString(inner) => <LeafItem<Vec<u8, A>, 0x42000B> as Element<
-                A,
-            >>::visit_one(inner, visitor),
-            AttributeValue::DateTime(inner) => <LeafItem<DateTime, 0x42000B> as Element<
-                A,
-            >>::visit_one(inner, visitor),
-            AttributeValue::Interval(inner) => <LeafItem<Interval, 0x42000B> as Element<
-                A,
-            >>::visit_one(inner, visitor),
-            AttributeValue::Structure(inner) => <AttributeStructure<A> as Choice<A>>::visit_chosen(
-                inner, visitor,
+            AttributeValue::Enumeration(inner) => W::item::<LeafItem<u32, 0x42000B>>(state, inner),
+            AttributeValue::Boolean(inner) => W::item::<LeafItem<bool, 0x42000B>>(state, inner),
+            AttributeValue::TextString(inner) => W::item::<LeafItem<String<A>, 0x42000B>>(
+                state, inner,
             ),
-        }
-    }
-
-    fn is_whole(&self) -> bool {
-        match self {
-            AttributeValue::ObjectType(inner) => <Under<ObjectType, 0x42000B> as Element<
-                A,
-            >>::is_whole(inner),
-            AttributeValue::CryptographicAlgorithm(inner) => <Under<
-                CryptographicAlgorithm,
-                0x42000B,
-            > as Element<A>>::is_whole(inner),
-            AttributeValue::CertificateType(inner) => <Under<CertificateType, 0x42000B> as Element<
-                A,
-            >>::is_whole(inner),
-            AttributeValue::State(inner) => <Under<State, 0x42000B> as Element<A>>::is_whole(inner),
-            AttributeValue::Integer(inner) => <LeafItem<i32, 0x42000B> as Element<A>>::is_whole(
-                inner,
+            AttributeValue::ByteString(inner) => W::item::<LeafItem<Vec<u8, A>, 0x42000B>>(
+                state, inner,
             ),
-            AttributeValue::LongInteger(inner) => <LeafItem<i64, 0x42000B> as Element<A>>::is_whole(
-                inner,
+            AttributeValue::DateTime(inner) => W::item::<LeafItem<DateTime, 0x42000B>>(
+                state, inner,
             ),
-            AttributeValue::BigInteger(inner) => <LeafItem<BigNumber<A>, 0x42000B> as Element<
-                A,
-            >>::is_whole(inner),
-            AttributeValue::Enumeration(inner) => <LeafItem<u32, 0x42000B> as Element<A>>::is_whole(
-                inner,
+            AttributeValue::Interval(inner) => W::item::<LeafItem<Interval, 0x42000B>>(
+                state, inner,
             ),
-            AttributeValue::Boolean(inner) => <LeafItem<bool, 0x42000B> as Element<A>>::is_whole(
-                inner,
-            ),
-            AttributeValue::TextString(inner) => <LeafItem<String<A>, 0x42000B> as Element<
-                A,
-            >>::is_whole(inner),
-            AttributeValue::ByteString(inner) => <LeafItem<Vec<u8, A>, 0x42000B> as Element<
-                A,
-            >>::is_whole(inner),
-            AttributeValue::DateTime(inner) => <LeafItem<DateTime, 0x42000B> as Element<
-                A,
-            >>::is_whole(inner),
-            AttributeValue::Interval(inner) => <LeafItem<Interval, 0x42000B> as Element<
-                A,
-            >>::is_whole(inner),
-            AttributeValue::Structure(inner) => <AttributeStructure<A> as Choice<A>>::is_whole(
-                inner,
-            ),
+            AttributeValue::Structure(inner) => inner.tell_held::<W>(state),
         }
     }
 
@@ -780,10 +655,7 @@ impl Rule for AttributeValueObjectTypeRule {
 
     #[tactic(auto, unfolding(kmip_ttlv_reader::specs::RuleParts::parts_of))]
     fn parts() -> Option<RuleParts> {
-        Some(RuleParts::Texts {
-            tag: 0x42000A,
-            texts: &["Object Type"],
-        })
+        texts_in(0x42000A, &["Object Type"])
     }
 }
 
@@ -807,10 +679,7 @@ impl Rule for AttributeValueCryptographicAlgorithmRule {
 
     #[tactic(auto, unfolding(kmip_ttlv_reader::specs::RuleParts::parts_of))]
     fn parts() -> Option<RuleParts> {
-        Some(RuleParts::Texts {
-            tag: 0x42000A,
-            texts: &["Cryptographic Algorithm"],
-        })
+        texts_in(0x42000A, &["Cryptographic Algorithm"])
     }
 }
 
@@ -837,10 +706,7 @@ impl Rule for AttributeValueCertificateTypeRule {
 
     #[tactic(auto, unfolding(kmip_ttlv_reader::specs::RuleParts::parts_of))]
     fn parts() -> Option<RuleParts> {
-        Some(RuleParts::Texts {
-            tag: 0x42000A,
-            texts: &["Certificate Type"],
-        })
+        texts_in(0x42000A, &["Certificate Type"])
     }
 }
 
@@ -867,10 +733,7 @@ impl Rule for AttributeValueStateRule {
 
     #[tactic(auto, unfolding(kmip_ttlv_reader::specs::RuleParts::parts_of))]
     fn parts() -> Option<RuleParts> {
-        Some(RuleParts::Texts {
-            tag: 0x42000A,
-            texts: &["State"],
-        })
+        texts_in(0x42000A, &["State"])
     }
 }
 
@@ -1129,7 +992,7 @@ impl<A: Allocator + Copy> VariantOf<ChoiceElement<AttributeStructure<A>>, Attrib
 pub struct AttributeValueLater4;
 
 impl<A: Allocator + Copy> VariantList<AttributeValue<A>, A> for AttributeValueLater4 {
-    ghost variants = { ⟦<(Variant<AttributeValueIntegerRule, AsElement<LeafItem<i32, 0x42000B>>>, (Variant<AttributeValueLongIntegerRule, AsElement<LeafItem<i64, 0x42000B>>>, (Variant<AttributeValueBigIntegerRule, AsElement<LeafItem<BigNumber<A>, 0x42000B>>>, (Variant<AttributeValueEnumerationRule, AsElement<LeafItem<u32, 0x42000B>>>, AttributeValueLater8)))) as VariantList<AttributeValue<A>, A>>⟧.variants };
+    ghost variants = { ⟦<(Case<AttributeValueIntegerRule, LeafItem<i32, 0x42000B>>, (Case<AttributeValueLongIntegerRule, LeafItem<i64, 0x42000B>>, (Case<AttributeValueBigIntegerRule, LeafItem<BigNumber<A>, 0x42000B>>, (Case<AttributeValueEnumerationRule, LeafItem<u32, 0x42000B>>, AttributeValueLater8)))) as VariantList<AttributeValue<A>, A>>⟧.variants };
 
     fn read_chosen<'b>(
         scope: &Scope<'b, A>,
@@ -1137,16 +1000,13 @@ impl<A: Allocator + Copy> VariantList<AttributeValue<A>, A> for AttributeValueLa
         typ: TtlvType,
     ) -> Step<Option<AttributeValue<A>>, A> {
         <(
-            Variant<AttributeValueIntegerRule, AsElement<LeafItem<i32, 0x42000B>>>,
+            Case<AttributeValueIntegerRule, LeafItem<i32, 0x42000B>>,
             (
-                Variant<AttributeValueLongIntegerRule, AsElement<LeafItem<i64, 0x42000B>>>,
+                Case<AttributeValueLongIntegerRule, LeafItem<i64, 0x42000B>>,
                 (
-                    Variant<
-                        AttributeValueBigIntegerRule,
-                        AsElement<LeafItem<BigNumber<A>, 0x42000B>>,
-                    >,
+                    Case<AttributeValueBigIntegerRule, LeafItem<BigNumber<A>, 0x42000B>>,
                     (
-                        Variant<AttributeValueEnumerationRule, AsElement<LeafItem<u32, 0x42000B>>>,
+                        Case<AttributeValueEnumerationRule, LeafItem<u32, 0x42000B>>,
                         AttributeValueLater8,
                     ),
                 ),
@@ -1161,7 +1021,7 @@ impl<A: Allocator + Copy> VariantList<AttributeValue<A>, A> for AttributeValueLa
 pub struct AttributeValueLater8;
 
 impl<A: Allocator + Copy> VariantList<AttributeValue<A>, A> for AttributeValueLater8 {
-    ghost variants = { ⟦<(Variant<AttributeValueBooleanRule, AsElement<LeafItem<bool, 0x42000B>>>, (Variant<AttributeValueTextStringRule, AsElement<LeafItem<String<A>, 0x42000B>>>, (Variant<AttributeValueByteStringRule, AsElement<LeafItem<Vec<u8, A>, 0x42000B>>>, (Variant<AttributeValueDateTimeRule, AsElement<LeafItem<DateTime, 0x42000B>>>, AttributeValueLater12)))) as VariantList<AttributeValue<A>, A>>⟧.variants };
+    ghost variants = { ⟦<(Case<AttributeValueBooleanRule, LeafItem<bool, 0x42000B>>, (Case<AttributeValueTextStringRule, LeafItem<String<A>, 0x42000B>>, (Case<AttributeValueByteStringRule, LeafItem<Vec<u8, A>, 0x42000B>>, (Case<AttributeValueDateTimeRule, LeafItem<DateTime, 0x42000B>>, AttributeValueLater12)))) as VariantList<AttributeValue<A>, A>>⟧.variants };
 
     fn read_chosen<'b>(
         scope: &Scope<'b, A>,
@@ -1169,19 +1029,13 @@ impl<A: Allocator + Copy> VariantList<AttributeValue<A>, A> for AttributeValueLa
         typ: TtlvType,
     ) -> Step<Option<AttributeValue<A>>, A> {
         <(
-            Variant<AttributeValueBooleanRule, AsElement<LeafItem<bool, 0x42000B>>>,
+            Case<AttributeValueBooleanRule, LeafItem<bool, 0x42000B>>,
             (
-                Variant<AttributeValueTextStringRule, AsElement<LeafItem<String<A>, 0x42000B>>>,
+                Case<AttributeValueTextStringRule, LeafItem<String<A>, 0x42000B>>,
                 (
-                    Variant<
-                        AttributeValueByteStringRule,
-                        AsElement<LeafItem<Vec<u8, A>, 0x42000B>>,
-                    >,
+                    Case<AttributeValueByteStringRule, LeafItem<Vec<u8, A>, 0x42000B>>,
                     (
-                        Variant<
-                            AttributeValueDateTimeRule,
-                            AsElement<LeafItem<DateTime, 0x42000B>>,
-                        >,
+                        Case<AttributeValueDateTimeRule, LeafItem<DateTime, 0x42000B>>,
                         AttributeValueLater12,
                     ),
                 ),
@@ -1196,7 +1050,7 @@ impl<A: Allocator + Copy> VariantList<AttributeValue<A>, A> for AttributeValueLa
 pub struct AttributeValueLater12;
 
 impl<A: Allocator + Copy> VariantList<AttributeValue<A>, A> for AttributeValueLater12 {
-    ghost variants = { ⟦<(Variant<AttributeValueIntervalRule, AsElement<LeafItem<Interval, 0x42000B>>>, (Variant<AttributeValueStructureRule, ChoiceElement<AttributeStructure<A>>>, ())) as VariantList<AttributeValue<A>, A>>⟧.variants };
+    ghost variants = { ⟦<(Case<AttributeValueIntervalRule, LeafItem<Interval, 0x42000B>>, (Variant<AttributeValueStructureRule, ChoiceElement<AttributeStructure<A>>>, ())) as VariantList<AttributeValue<A>, A>>⟧.variants };
 
     fn read_chosen<'b>(
         scope: &Scope<'b, A>,
@@ -1204,7 +1058,7 @@ impl<A: Allocator + Copy> VariantList<AttributeValue<A>, A> for AttributeValueLa
         typ: TtlvType,
     ) -> Step<Option<AttributeValue<A>>, A> {
         <(
-            Variant<AttributeValueIntervalRule, AsElement<LeafItem<Interval, 0x42000B>>>,
+            Case<AttributeValueIntervalRule, LeafItem<Interval, 0x42000B>>,
             (
                 Variant<AttributeValueStructureRule, ChoiceElement<AttributeStructure<A>>>,
                 (),
@@ -1225,19 +1079,13 @@ impl<A: Allocator + Copy> reader::Choice<A> for AttributeValue<A> {
     ghost form = { ⟦<AttributeValue<A> as Choice<A>>⟧.chosen.form };
 
     type Variants = (
-        Variant<AttributeValueObjectTypeRule, AsElement<Under<ObjectType, 0x42000B>>>,
+        Case<AttributeValueObjectTypeRule, Under<ObjectType, 0x42000B>>,
         (
-            Variant<
-                AttributeValueCryptographicAlgorithmRule,
-                AsElement<Under<CryptographicAlgorithm, 0x42000B>>,
-            >,
+            Case<AttributeValueCryptographicAlgorithmRule, Under<CryptographicAlgorithm, 0x42000B>>,
             (
-                Variant<
-                    AttributeValueCertificateTypeRule,
-                    AsElement<Under<CertificateType, 0x42000B>>,
-                >,
+                Case<AttributeValueCertificateTypeRule, Under<CertificateType, 0x42000B>>,
                 (
-                    Variant<AttributeValueStateRule, AsElement<Under<State, 0x42000B>>>,
+                    Case<AttributeValueStateRule, Under<State, 0x42000B>>,
                     AttributeValueLater4,
                 ),
             ),
@@ -1259,11 +1107,10 @@ pub struct Attribute<A: Allocator = Global> {
     pub value: AttributeValue<A>,
 }
 
-impl<A: Allocator> Attribute<A> {
-    // Whether `name` chooses `value`.
-    fn is_value_chosen(&self) -> bool
-        ensures { IsTrue result ↔ ChoosesAttributeValue (string_bytes self.now.name) self.now.value }
-    {
+impl<A: Allocator> Decided for Attribute<A> {
+    ghost IsDecided = { λ x. (ChoosesAttributeValue (string_bytes x.name) x.value) };
+
+    fn is_decided(&self) -> bool {
         self.value.is_chosen_by(self.name.as_str())
     }
 }
@@ -1274,45 +1121,29 @@ type AttributeParts<A> = (
     OneOf<AttributeValue<A>, 0x42000B>,
 );
 
+impl<A: Allocator + Copy> FromParts<A, AttributeParts<A>> for Attribute<A> {
+    ghost parts = { λ x. (x.name, x.index, x.value) };
+
+    fn from_parts((name, index, value): Holds<AttributeParts<A>, A>) -> Self {
+        Attribute { name, index, value }
+    }
+}
+
 impl<A: Allocator + Copy> Structure<A> for Attribute<A> {
-    ghost item = { structure_where 0x420008 true (of (λ x. (x.name, x.index, x.value)) ⟦<AttributeParts<A> as PartList<A>>⟧.rules) refl
-        (λ x. ChoosesAttributeValue (string_bytes x.name) x.value) (λ x d. (tt, (tt, (d))))
-        ⟦<Attribute<A> as PartialEq>⟧.eq (λ x y e. e) };
+    ghost rules = { structure_where true ⟦<AttributeParts<A> as PartList<A>>⟧.rules ⟦<Attribute<A> as FromParts<A, AttributeParts<A>>>⟧.parts refl
+        (λ x. (ChoosesAttributeValue (string_bytes x.name) x.value)) (λ x d. (tt, (tt, (d)))) ⟦<Attribute<A> as PartialEq>⟧.eq (λ x y e. e) };
 
-    fn number() -> u32 {
-        0x420008
+    fn read<'b>(scope: &Scope<'b, A>, tag: u32, cursor: &mut Cursor<'b, A>) -> Step<Self, A> {
+        read_structure::<AttributeParts<A>, Self, A>(scope, tag, true, cursor)
     }
 
-    fn read_nested<'b>(scope: &Scope<'b, A>, cursor: &mut Cursor<'b, A>) -> Step<Self, A> {
-        match read_parts::<AttributeParts<A>, A>(scope, 0x420008, true, cursor) {
-            Ok(parts) => {
-                let (name, index, value) = parts;
-                Ok(Attribute { name, index, value })
-            }
-            Err(failure) => Err(failure),
-        }
-    }
-
-    fn visit_parts<V: Visitor>(&self, visitor: &mut V) -> Result<(), AllocError> {
-        visit_structure_three::<
+    fn tell_parts<W: Walk<A>>(&self, state: &mut W::State) -> Result<(), AllocError> {
+        W::three::<
             Leaf<String<A>, 0x42000A>,
             MaybeLeaf<i32, 0x420009>,
             OneOf<AttributeValue<A>, 0x42000B>,
-            V,
-            A,
-        >(visitor, 0x420008, &self.name, &self.index, &self.value)
+        >(state, &self.name, &self.index, &self.value)?;
+        W::check(state, self);
+        Ok(())
     }
-
-    fn is_whole(&self) -> bool {
-        let parts = are_whole_three::<
-            Leaf<String<A>, 0x42000A>,
-            MaybeLeaf<i32, 0x420009>,
-            OneOf<AttributeValue<A>, 0x42000B>,
-            A,
-        >(&self.name, &self.index, &self.value);
-        let chosen = self.is_value_chosen();
-        both(parts, chosen)
-    }
-
-    ghost structured = { (refl, refl) };
 }

@@ -2,19 +2,17 @@
 //! What attributes that are structures say (KMIP 1.0, section 3), under the tag of an Attribute Value.
 
 ghost use Rattle.std.specs.Prelude.{refl, true};
-ghost use Rattle.kmip_ttlv_kinds.specs.Parts.{of, structure};
+ghost use Rattle.kmip_ttlv_kinds.specs.Parts.{structure};
 
 use crate::values::{
     BlockCipherMode, HashingAlgorithm, KeyFormatType, KeyRoleType, LinkType, NameType,
-    PaddingMethod, RecommendedCurve, RevocationReasonCode, UsageLimitsUnit,
+    PaddingMethod, RecommendedCurve, RevocationReasonCode, State, UsageLimitsUnit,
 };
 use kmip_ttlv_kinds::{
-    Any, Leaf, LeafItem, Maybe, MaybeLeaf, One, PartList, Structure, are_whole_four,
-    are_whole_three, are_whole_two, read_parts, visit_structure_four, visit_structure_three,
-    visit_structure_two,
+    Any, FromParts, Holds, Leaf, LeafItem, Maybe, MaybeLeaf, One, PartList, Structure, Walk,
+    read_structure,
 };
 use kmip_ttlv_parts::reader::{Cursor, Scope, Step};
-use kmip_ttlv_parts::visit::Visitor;
 use std::alloc::{AllocError, Allocator, Global};
 
 /// What users call an object (KMIP 1.0, section 3.2).
@@ -29,38 +27,24 @@ pub struct Name<A: Allocator = Global> {
 
 type NameParts<A> = (Leaf<String<A>, 0x420055>, One<NameType>);
 
+impl<A: Allocator + Copy> FromParts<A, NameParts<A>> for Name<A> {
+    ghost parts = { λ x. (x.value, x.name_type) };
+
+    fn from_parts((value, name_type): Holds<NameParts<A>, A>) -> Self {
+        Name { value, name_type }
+    }
+}
+
 impl<A: Allocator + Copy> Structure<A> for Name<A> {
-    ghost item = { structure 0x42000B true (of (λ x. (x.value, x.name_type)) ⟦<NameParts<A> as PartList<A>>⟧.rules) refl
-        ⟦<Name<A> as PartialEq>⟧.eq (λ x y e. e) };
+    ghost rules = { structure true ⟦<NameParts<A> as PartList<A>>⟧.rules ⟦<Name<A> as FromParts<A, NameParts<A>>>⟧.parts refl ⟦<Name<A> as PartialEq>⟧.eq (λ x y e. e) };
 
-    fn number() -> u32 {
-        0x42000B
+    fn read<'b>(scope: &Scope<'b, A>, tag: u32, cursor: &mut Cursor<'b, A>) -> Step<Self, A> {
+        read_structure::<NameParts<A>, Self, A>(scope, tag, true, cursor)
     }
 
-    fn read_nested<'b>(scope: &Scope<'b, A>, cursor: &mut Cursor<'b, A>) -> Step<Self, A> {
-        match read_parts::<NameParts<A>, A>(scope, 0x42000B, true, cursor) {
-            Ok(parts) => {
-                let (value, name_type) = parts;
-                Ok(Name { value, name_type })
-            }
-            Err(failure) => Err(failure),
-        }
+    fn tell_parts<W: Walk<A>>(&self, state: &mut W::State) -> Result<(), AllocError> {
+        W::two::<Leaf<String<A>, 0x420055>, One<NameType>>(state, &self.value, &self.name_type)
     }
-
-    fn visit_parts<V: Visitor>(&self, visitor: &mut V) -> Result<(), AllocError> {
-        visit_structure_two::<Leaf<String<A>, 0x420055>, One<NameType>, V, A>(
-            visitor,
-            0x42000B,
-            &self.value,
-            &self.name_type,
-        )
-    }
-
-    fn is_whole(&self) -> bool {
-        are_whole_two::<Leaf<String<A>, 0x420055>, One<NameType>, A>(&self.value, &self.name_type)
-    }
-
-    ghost structured = { (refl, refl) };
 }
 
 /// How a key is used (KMIP 1.0, section 3.6).
@@ -83,63 +67,45 @@ type CryptographicParametersParts = (
     Maybe<KeyRoleType, 0x420083>,
 );
 
-impl<A: Allocator + Copy> Structure<A> for CryptographicParameters {
-    ghost item = { structure 0x42000B true (of (λ x. (x.block_cipher_mode, x.padding_method, x.hashing_algorithm, x.key_role_type)) ⟦<CryptographicParametersParts as PartList<A>>⟧.rules) refl
-        ⟦<CryptographicParameters as PartialEq>⟧.eq (λ x y e. e) };
+impl<A: Allocator + Copy> FromParts<A, CryptographicParametersParts> for CryptographicParameters {
+    ghost parts = { λ x. (x.block_cipher_mode, x.padding_method, x.hashing_algorithm, x.key_role_type) };
 
-    fn number() -> u32 {
-        0x42000B
-    }
-
-    fn read_nested<'b>(scope: &Scope<'b, A>, cursor: &mut Cursor<'b, A>) -> Step<Self, A> {
-        match read_parts::<CryptographicParametersParts, A>(scope, 0x42000B, true, cursor) {
-            Ok(parts) => {
-                let (block_cipher_mode, padding_method, hashing_algorithm, key_role_type) = parts;
-                Ok(CryptographicParameters {
-                    block_cipher_mode,
-                    padding_method,
-                    hashing_algorithm,
-                    key_role_type,
-                })
-            }
-            Err(failure) => Err(failure),
+    fn from_parts(
+        (block_cipher_mode, padding_method, hashing_algorithm, key_role_type): Holds<
+            CryptographicParametersParts,
+            A,
+        >,
+    ) -> Self {
+        CryptographicParameters {
+            block_cipher_mode,
+            padding_method,
+            hashing_algorithm,
+            key_role_type,
         }
     }
+}
 
-    fn visit_parts<V: Visitor>(&self, visitor: &mut V) -> Result<(), AllocError> {
-        visit_structure_four::<
+impl<A: Allocator + Copy> Structure<A> for CryptographicParameters {
+    ghost rules = { structure true ⟦<CryptographicParametersParts as PartList<A>>⟧.rules ⟦<CryptographicParameters as FromParts<A, CryptographicParametersParts>>⟧.parts refl ⟦<CryptographicParameters as PartialEq>⟧.eq (λ x y e. e) };
+
+    fn read<'b>(scope: &Scope<'b, A>, tag: u32, cursor: &mut Cursor<'b, A>) -> Step<Self, A> {
+        read_structure::<CryptographicParametersParts, Self, A>(scope, tag, true, cursor)
+    }
+
+    fn tell_parts<W: Walk<A>>(&self, state: &mut W::State) -> Result<(), AllocError> {
+        W::four::<
             Maybe<BlockCipherMode, 0x420011>,
             Maybe<PaddingMethod, 0x42005F>,
             Maybe<HashingAlgorithm, 0x420038>,
             Maybe<KeyRoleType, 0x420083>,
-            V,
-            A,
         >(
-            visitor,
-            0x42000B,
+            state,
             &self.block_cipher_mode,
             &self.padding_method,
             &self.hashing_algorithm,
             &self.key_role_type,
         )
     }
-
-    fn is_whole(&self) -> bool {
-        are_whole_four::<
-            Maybe<BlockCipherMode, 0x420011>,
-            Maybe<PaddingMethod, 0x42005F>,
-            Maybe<HashingAlgorithm, 0x420038>,
-            Maybe<KeyRoleType, 0x420083>,
-            A,
-        >(
-            &self.block_cipher_mode,
-            &self.padding_method,
-            &self.hashing_algorithm,
-            &self.key_role_type,
-        )
-    }
-
-    ghost structured = { (refl, refl) };
 }
 
 /// What a key pair is made over (KMIP 1.0, section 3.7).
@@ -156,44 +122,34 @@ type CryptographicDomainParametersParts = (
     Maybe<RecommendedCurve, 0x420075>,
 );
 
-impl<A: Allocator + Copy> Structure<A> for CryptographicDomainParameters {
-    ghost item = { structure 0x42000B true (of (λ x. (x.qlength, x.recommended_curve)) ⟦<CryptographicDomainParametersParts as PartList<A>>⟧.rules) refl
-        ⟦<CryptographicDomainParameters as PartialEq>⟧.eq (λ x y e. e) };
+impl<A: Allocator + Copy> FromParts<A, CryptographicDomainParametersParts>
+    for CryptographicDomainParameters {
+    ghost parts = { λ x. (x.qlength, x.recommended_curve) };
 
-    fn number() -> u32 {
-        0x42000B
-    }
-
-    fn read_nested<'b>(scope: &Scope<'b, A>, cursor: &mut Cursor<'b, A>) -> Step<Self, A> {
-        match read_parts::<CryptographicDomainParametersParts, A>(scope, 0x42000B, true, cursor) {
-            Ok(parts) => {
-                let (qlength, recommended_curve) = parts;
-                Ok(CryptographicDomainParameters {
-                    qlength,
-                    recommended_curve,
-                })
-            }
-            Err(failure) => Err(failure),
+    fn from_parts(
+        (qlength, recommended_curve): Holds<CryptographicDomainParametersParts, A>,
+    ) -> Self {
+        CryptographicDomainParameters {
+            qlength,
+            recommended_curve,
         }
     }
+}
 
-    fn visit_parts<V: Visitor>(&self, visitor: &mut V) -> Result<(), AllocError> {
-        visit_structure_two::<MaybeLeaf<i32, 0x420073>, Maybe<RecommendedCurve, 0x420075>, V, A>(
-            visitor,
-            0x42000B,
+impl<A: Allocator + Copy> Structure<A> for CryptographicDomainParameters {
+    ghost rules = { structure true ⟦<CryptographicDomainParametersParts as PartList<A>>⟧.rules ⟦<CryptographicDomainParameters as FromParts<A, CryptographicDomainParametersParts>>⟧.parts refl ⟦<CryptographicDomainParameters as PartialEq>⟧.eq (λ x y e. e) };
+
+    fn read<'b>(scope: &Scope<'b, A>, tag: u32, cursor: &mut Cursor<'b, A>) -> Step<Self, A> {
+        read_structure::<CryptographicDomainParametersParts, Self, A>(scope, tag, true, cursor)
+    }
+
+    fn tell_parts<W: Walk<A>>(&self, state: &mut W::State) -> Result<(), AllocError> {
+        W::two::<MaybeLeaf<i32, 0x420073>, Maybe<RecommendedCurve, 0x420075>>(
+            state,
             &self.qlength,
             &self.recommended_curve,
         )
     }
-
-    fn is_whole(&self) -> bool {
-        are_whole_two::<MaybeLeaf<i32, 0x420073>, Maybe<RecommendedCurve, 0x420075>, A>(
-            &self.qlength,
-            &self.recommended_curve,
-        )
-    }
-
-    ghost structured = { (refl, refl) };
 }
 
 /// Who issued a certificate, and as which (KMIP 1.0, section 3.9).
@@ -208,44 +164,31 @@ pub struct CertificateIdentifier<A: Allocator = Global> {
 
 type CertificateIdentifierParts<A> = (Leaf<String<A>, 0x42003B>, MaybeLeaf<String<A>, 0x420087>);
 
-impl<A: Allocator + Copy> Structure<A> for CertificateIdentifier<A> {
-    ghost item = { structure 0x42000B true (of (λ x. (x.issuer, x.serial_number)) ⟦<CertificateIdentifierParts<A> as PartList<A>>⟧.rules) refl
-        ⟦<CertificateIdentifier<A> as PartialEq>⟧.eq (λ x y e. e) };
+impl<A: Allocator + Copy> FromParts<A, CertificateIdentifierParts<A>> for CertificateIdentifier<A> {
+    ghost parts = { λ x. (x.issuer, x.serial_number) };
 
-    fn number() -> u32 {
-        0x42000B
-    }
-
-    fn read_nested<'b>(scope: &Scope<'b, A>, cursor: &mut Cursor<'b, A>) -> Step<Self, A> {
-        match read_parts::<CertificateIdentifierParts<A>, A>(scope, 0x42000B, true, cursor) {
-            Ok(parts) => {
-                let (issuer, serial_number) = parts;
-                Ok(CertificateIdentifier {
-                    issuer,
-                    serial_number,
-                })
-            }
-            Err(failure) => Err(failure),
+    fn from_parts((issuer, serial_number): Holds<CertificateIdentifierParts<A>, A>) -> Self {
+        CertificateIdentifier {
+            issuer,
+            serial_number,
         }
     }
+}
 
-    fn visit_parts<V: Visitor>(&self, visitor: &mut V) -> Result<(), AllocError> {
-        visit_structure_two::<Leaf<String<A>, 0x42003B>, MaybeLeaf<String<A>, 0x420087>, V, A>(
-            visitor,
-            0x42000B,
+impl<A: Allocator + Copy> Structure<A> for CertificateIdentifier<A> {
+    ghost rules = { structure true ⟦<CertificateIdentifierParts<A> as PartList<A>>⟧.rules ⟦<CertificateIdentifier<A> as FromParts<A, CertificateIdentifierParts<A>>>⟧.parts refl ⟦<CertificateIdentifier<A> as PartialEq>⟧.eq (λ x y e. e) };
+
+    fn read<'b>(scope: &Scope<'b, A>, tag: u32, cursor: &mut Cursor<'b, A>) -> Step<Self, A> {
+        read_structure::<CertificateIdentifierParts<A>, Self, A>(scope, tag, true, cursor)
+    }
+
+    fn tell_parts<W: Walk<A>>(&self, state: &mut W::State) -> Result<(), AllocError> {
+        W::two::<Leaf<String<A>, 0x42003B>, MaybeLeaf<String<A>, 0x420087>>(
+            state,
             &self.issuer,
             &self.serial_number,
         )
     }
-
-    fn is_whole(&self) -> bool {
-        are_whole_two::<Leaf<String<A>, 0x42003B>, MaybeLeaf<String<A>, 0x420087>, A>(
-            &self.issuer,
-            &self.serial_number,
-        )
-    }
-
-    ghost structured = { (refl, refl) };
 }
 
 /// Whom a certificate is for (KMIP 1.0, section 3.10).
@@ -263,49 +206,33 @@ type CertificateSubjectParts<A> = (
     Any<LeafItem<String<A>, 0x42001B>, 0x42001B>,
 );
 
-impl<A: Allocator + Copy> Structure<A> for CertificateSubject<A> {
-    ghost item = { structure 0x42000B true (of (λ x. (x.distinguished_name, x.alternative_names)) ⟦<CertificateSubjectParts<A> as PartList<A>>⟧.rules) refl
-        ⟦<CertificateSubject<A> as PartialEq>⟧.eq (λ x y e. e) };
+impl<A: Allocator + Copy> FromParts<A, CertificateSubjectParts<A>> for CertificateSubject<A> {
+    ghost parts = { λ x. (x.distinguished_name, x.alternative_names) };
 
-    fn number() -> u32 {
-        0x42000B
-    }
-
-    fn read_nested<'b>(scope: &Scope<'b, A>, cursor: &mut Cursor<'b, A>) -> Step<Self, A> {
-        match read_parts::<CertificateSubjectParts<A>, A>(scope, 0x42000B, true, cursor) {
-            Ok(parts) => {
-                let (distinguished_name, alternative_names) = parts;
-                Ok(CertificateSubject {
-                    distinguished_name,
-                    alternative_names,
-                })
-            }
-            Err(failure) => Err(failure),
+    fn from_parts(
+        (distinguished_name, alternative_names): Holds<CertificateSubjectParts<A>, A>,
+    ) -> Self {
+        CertificateSubject {
+            distinguished_name,
+            alternative_names,
         }
     }
+}
 
-    fn visit_parts<V: Visitor>(&self, visitor: &mut V) -> Result<(), AllocError> {
-        visit_structure_two::<
-            Leaf<String<A>, 0x42001C>,
-            Any<LeafItem<String<A>, 0x42001B>, 0x42001B>,
-            V,
-            A,
-        >(
-            visitor,
-            0x42000B,
+impl<A: Allocator + Copy> Structure<A> for CertificateSubject<A> {
+    ghost rules = { structure true ⟦<CertificateSubjectParts<A> as PartList<A>>⟧.rules ⟦<CertificateSubject<A> as FromParts<A, CertificateSubjectParts<A>>>⟧.parts refl ⟦<CertificateSubject<A> as PartialEq>⟧.eq (λ x y e. e) };
+
+    fn read<'b>(scope: &Scope<'b, A>, tag: u32, cursor: &mut Cursor<'b, A>) -> Step<Self, A> {
+        read_structure::<CertificateSubjectParts<A>, Self, A>(scope, tag, true, cursor)
+    }
+
+    fn tell_parts<W: Walk<A>>(&self, state: &mut W::State) -> Result<(), AllocError> {
+        W::two::<Leaf<String<A>, 0x42001C>, Any<LeafItem<String<A>, 0x42001B>, 0x42001B>>(
+            state,
             &self.distinguished_name,
             &self.alternative_names,
         )
     }
-
-    fn is_whole(&self) -> bool {
-        are_whole_two::<Leaf<String<A>, 0x42001C>, Any<LeafItem<String<A>, 0x42001B>, 0x42001B>, A>(
-            &self.distinguished_name,
-            &self.alternative_names,
-        )
-    }
-
-    ghost structured = { (refl, refl) };
 }
 
 /// Who issued a certificate (KMIP 1.0, section 3.11).
@@ -323,49 +250,33 @@ type CertificateIssuerParts<A> = (
     Any<LeafItem<String<A>, 0x420016>, 0x420016>,
 );
 
-impl<A: Allocator + Copy> Structure<A> for CertificateIssuer<A> {
-    ghost item = { structure 0x42000B true (of (λ x. (x.distinguished_name, x.alternative_names)) ⟦<CertificateIssuerParts<A> as PartList<A>>⟧.rules) refl
-        ⟦<CertificateIssuer<A> as PartialEq>⟧.eq (λ x y e. e) };
+impl<A: Allocator + Copy> FromParts<A, CertificateIssuerParts<A>> for CertificateIssuer<A> {
+    ghost parts = { λ x. (x.distinguished_name, x.alternative_names) };
 
-    fn number() -> u32 {
-        0x42000B
-    }
-
-    fn read_nested<'b>(scope: &Scope<'b, A>, cursor: &mut Cursor<'b, A>) -> Step<Self, A> {
-        match read_parts::<CertificateIssuerParts<A>, A>(scope, 0x42000B, true, cursor) {
-            Ok(parts) => {
-                let (distinguished_name, alternative_names) = parts;
-                Ok(CertificateIssuer {
-                    distinguished_name,
-                    alternative_names,
-                })
-            }
-            Err(failure) => Err(failure),
+    fn from_parts(
+        (distinguished_name, alternative_names): Holds<CertificateIssuerParts<A>, A>,
+    ) -> Self {
+        CertificateIssuer {
+            distinguished_name,
+            alternative_names,
         }
     }
+}
 
-    fn visit_parts<V: Visitor>(&self, visitor: &mut V) -> Result<(), AllocError> {
-        visit_structure_two::<
-            Leaf<String<A>, 0x420017>,
-            Any<LeafItem<String<A>, 0x420016>, 0x420016>,
-            V,
-            A,
-        >(
-            visitor,
-            0x42000B,
+impl<A: Allocator + Copy> Structure<A> for CertificateIssuer<A> {
+    ghost rules = { structure true ⟦<CertificateIssuerParts<A> as PartList<A>>⟧.rules ⟦<CertificateIssuer<A> as FromParts<A, CertificateIssuerParts<A>>>⟧.parts refl ⟦<CertificateIssuer<A> as PartialEq>⟧.eq (λ x y e. e) };
+
+    fn read<'b>(scope: &Scope<'b, A>, tag: u32, cursor: &mut Cursor<'b, A>) -> Step<Self, A> {
+        read_structure::<CertificateIssuerParts<A>, Self, A>(scope, tag, true, cursor)
+    }
+
+    fn tell_parts<W: Walk<A>>(&self, state: &mut W::State) -> Result<(), AllocError> {
+        W::two::<Leaf<String<A>, 0x420017>, Any<LeafItem<String<A>, 0x420016>, 0x420016>>(
+            state,
             &self.distinguished_name,
             &self.alternative_names,
         )
     }
-
-    fn is_whole(&self) -> bool {
-        are_whole_two::<Leaf<String<A>, 0x420017>, Any<LeafItem<String<A>, 0x420016>, 0x420016>, A>(
-            &self.distinguished_name,
-            &self.alternative_names,
-        )
-    }
-
-    ghost structured = { (refl, refl) };
 }
 
 /// A hash of an object (KMIP 1.0, section 3.12).
@@ -386,58 +297,39 @@ type DigestParts<A> = (
     Maybe<KeyFormatType, 0x420042>,
 );
 
-impl<A: Allocator + Copy> Structure<A> for Digest<A> {
-    ghost item = { structure 0x42000B true (of (λ x. (x.hashing_algorithm, x.digest_value, x.key_format_type)) ⟦<DigestParts<A> as PartList<A>>⟧.rules) refl
-        ⟦<Digest<A> as PartialEq>⟧.eq (λ x y e. e) };
+impl<A: Allocator + Copy> FromParts<A, DigestParts<A>> for Digest<A> {
+    ghost parts = { λ x. (x.hashing_algorithm, x.digest_value, x.key_format_type) };
 
-    fn number() -> u32 {
-        0x42000B
-    }
-
-    fn read_nested<'b>(scope: &Scope<'b, A>, cursor: &mut Cursor<'b, A>) -> Step<Self, A> {
-        match read_parts::<DigestParts<A>, A>(scope, 0x42000B, true, cursor) {
-            Ok(parts) => {
-                let (hashing_algorithm, digest_value, key_format_type) = parts;
-                Ok(Digest {
-                    hashing_algorithm,
-                    digest_value,
-                    key_format_type,
-                })
-            }
-            Err(failure) => Err(failure),
+    fn from_parts(
+        (hashing_algorithm, digest_value, key_format_type): Holds<DigestParts<A>, A>,
+    ) -> Self {
+        Digest {
+            hashing_algorithm,
+            digest_value,
+            key_format_type,
         }
     }
+}
 
-    fn visit_parts<V: Visitor>(&self, visitor: &mut V) -> Result<(), AllocError> {
-        visit_structure_three::<
+impl<A: Allocator + Copy> Structure<A> for Digest<A> {
+    ghost rules = { structure true ⟦<DigestParts<A> as PartList<A>>⟧.rules ⟦<Digest<A> as FromParts<A, DigestParts<A>>>⟧.parts refl ⟦<Digest<A> as PartialEq>⟧.eq (λ x y e. e) };
+
+    fn read<'b>(scope: &Scope<'b, A>, tag: u32, cursor: &mut Cursor<'b, A>) -> Step<Self, A> {
+        read_structure::<DigestParts<A>, Self, A>(scope, tag, true, cursor)
+    }
+
+    fn tell_parts<W: Walk<A>>(&self, state: &mut W::State) -> Result<(), AllocError> {
+        W::three::<
             One<HashingAlgorithm>,
             MaybeLeaf<Vec<u8, A>, 0x420035>,
             Maybe<KeyFormatType, 0x420042>,
-            V,
-            A,
         >(
-            visitor,
-            0x42000B,
+            state,
             &self.hashing_algorithm,
             &self.digest_value,
             &self.key_format_type,
         )
     }
-
-    fn is_whole(&self) -> bool {
-        are_whole_three::<
-            One<HashingAlgorithm>,
-            MaybeLeaf<Vec<u8, A>, 0x420035>,
-            Maybe<KeyFormatType, 0x420042>,
-            A,
-        >(
-            &self.hashing_algorithm,
-            &self.digest_value,
-            &self.key_format_type,
-        )
-    }
-
-    ghost structured = { (refl, refl) };
 }
 
 /// How much may be done with an object (KMIP 1.0, section 3.16).
@@ -457,43 +349,29 @@ type UsageLimitsParts = (
     One<UsageLimitsUnit>,
 );
 
+impl<A: Allocator + Copy> FromParts<A, UsageLimitsParts> for UsageLimits {
+    ghost parts = { λ x. (x.total, x.count, x.unit) };
+
+    fn from_parts((total, count, unit): Holds<UsageLimitsParts, A>) -> Self {
+        UsageLimits { total, count, unit }
+    }
+}
+
 impl<A: Allocator + Copy> Structure<A> for UsageLimits {
-    ghost item = { structure 0x42000B true (of (λ x. (x.total, x.count, x.unit)) ⟦<UsageLimitsParts as PartList<A>>⟧.rules) refl
-        ⟦<UsageLimits as PartialEq>⟧.eq (λ x y e. e) };
+    ghost rules = { structure true ⟦<UsageLimitsParts as PartList<A>>⟧.rules ⟦<UsageLimits as FromParts<A, UsageLimitsParts>>⟧.parts refl ⟦<UsageLimits as PartialEq>⟧.eq (λ x y e. e) };
 
-    fn number() -> u32 {
-        0x42000B
+    fn read<'b>(scope: &Scope<'b, A>, tag: u32, cursor: &mut Cursor<'b, A>) -> Step<Self, A> {
+        read_structure::<UsageLimitsParts, Self, A>(scope, tag, true, cursor)
     }
 
-    fn read_nested<'b>(scope: &Scope<'b, A>, cursor: &mut Cursor<'b, A>) -> Step<Self, A> {
-        match read_parts::<UsageLimitsParts, A>(scope, 0x42000B, true, cursor) {
-            Ok(parts) => {
-                let (total, count, unit) = parts;
-                Ok(UsageLimits { total, count, unit })
-            }
-            Err(failure) => Err(failure),
-        }
-    }
-
-    fn visit_parts<V: Visitor>(&self, visitor: &mut V) -> Result<(), AllocError> {
-        visit_structure_three::<
-            Leaf<i64, 0x420097>,
-            MaybeLeaf<i64, 0x420096>,
-            One<UsageLimitsUnit>,
-            V,
-            A,
-        >(visitor, 0x42000B, &self.total, &self.count, &self.unit)
-    }
-
-    fn is_whole(&self) -> bool {
-        are_whole_three::<Leaf<i64, 0x420097>, MaybeLeaf<i64, 0x420096>, One<UsageLimitsUnit>, A>(
+    fn tell_parts<W: Walk<A>>(&self, state: &mut W::State) -> Result<(), AllocError> {
+        W::three::<Leaf<i64, 0x420097>, MaybeLeaf<i64, 0x420096>, One<UsageLimitsUnit>>(
+            state,
             &self.total,
             &self.count,
             &self.unit,
         )
     }
-
-    ghost structured = { (refl, refl) };
 }
 
 /// Why an object was revoked (KMIP 1.0, section 3.26).
@@ -508,41 +386,28 @@ pub struct RevocationReason<A: Allocator = Global> {
 
 type RevocationReasonParts<A> = (One<RevocationReasonCode>, MaybeLeaf<String<A>, 0x420080>);
 
+impl<A: Allocator + Copy> FromParts<A, RevocationReasonParts<A>> for RevocationReason<A> {
+    ghost parts = { λ x. (x.code, x.message) };
+
+    fn from_parts((code, message): Holds<RevocationReasonParts<A>, A>) -> Self {
+        RevocationReason { code, message }
+    }
+}
+
 impl<A: Allocator + Copy> Structure<A> for RevocationReason<A> {
-    ghost item = { structure 0x42000B true (of (λ x. (x.code, x.message)) ⟦<RevocationReasonParts<A> as PartList<A>>⟧.rules) refl
-        ⟦<RevocationReason<A> as PartialEq>⟧.eq (λ x y e. e) };
+    ghost rules = { structure true ⟦<RevocationReasonParts<A> as PartList<A>>⟧.rules ⟦<RevocationReason<A> as FromParts<A, RevocationReasonParts<A>>>⟧.parts refl ⟦<RevocationReason<A> as PartialEq>⟧.eq (λ x y e. e) };
 
-    fn number() -> u32 {
-        0x42000B
+    fn read<'b>(scope: &Scope<'b, A>, tag: u32, cursor: &mut Cursor<'b, A>) -> Step<Self, A> {
+        read_structure::<RevocationReasonParts<A>, Self, A>(scope, tag, true, cursor)
     }
 
-    fn read_nested<'b>(scope: &Scope<'b, A>, cursor: &mut Cursor<'b, A>) -> Step<Self, A> {
-        match read_parts::<RevocationReasonParts<A>, A>(scope, 0x42000B, true, cursor) {
-            Ok(parts) => {
-                let (code, message) = parts;
-                Ok(RevocationReason { code, message })
-            }
-            Err(failure) => Err(failure),
-        }
-    }
-
-    fn visit_parts<V: Visitor>(&self, visitor: &mut V) -> Result<(), AllocError> {
-        visit_structure_two::<One<RevocationReasonCode>, MaybeLeaf<String<A>, 0x420080>, V, A>(
-            visitor,
-            0x42000B,
+    fn tell_parts<W: Walk<A>>(&self, state: &mut W::State) -> Result<(), AllocError> {
+        W::two::<One<RevocationReasonCode>, MaybeLeaf<String<A>, 0x420080>>(
+            state,
             &self.code,
             &self.message,
         )
     }
-
-    fn is_whole(&self) -> bool {
-        are_whole_two::<One<RevocationReasonCode>, MaybeLeaf<String<A>, 0x420080>, A>(
-            &self.code,
-            &self.message,
-        )
-    }
-
-    ghost structured = { (refl, refl) };
 }
 
 /// An object that belongs to this one (KMIP 1.0, section 3.29).
@@ -557,44 +422,31 @@ pub struct Link<A: Allocator = Global> {
 
 type LinkParts<A> = (One<LinkType>, Leaf<String<A>, 0x42004C>);
 
-impl<A: Allocator + Copy> Structure<A> for Link<A> {
-    ghost item = { structure 0x42000B true (of (λ x. (x.link_type, x.linked_object_identifier)) ⟦<LinkParts<A> as PartList<A>>⟧.rules) refl
-        ⟦<Link<A> as PartialEq>⟧.eq (λ x y e. e) };
+impl<A: Allocator + Copy> FromParts<A, LinkParts<A>> for Link<A> {
+    ghost parts = { λ x. (x.link_type, x.linked_object_identifier) };
 
-    fn number() -> u32 {
-        0x42000B
-    }
-
-    fn read_nested<'b>(scope: &Scope<'b, A>, cursor: &mut Cursor<'b, A>) -> Step<Self, A> {
-        match read_parts::<LinkParts<A>, A>(scope, 0x42000B, true, cursor) {
-            Ok(parts) => {
-                let (link_type, linked_object_identifier) = parts;
-                Ok(Link {
-                    link_type,
-                    linked_object_identifier,
-                })
-            }
-            Err(failure) => Err(failure),
+    fn from_parts((link_type, linked_object_identifier): Holds<LinkParts<A>, A>) -> Self {
+        Link {
+            link_type,
+            linked_object_identifier,
         }
     }
+}
 
-    fn visit_parts<V: Visitor>(&self, visitor: &mut V) -> Result<(), AllocError> {
-        visit_structure_two::<One<LinkType>, Leaf<String<A>, 0x42004C>, V, A>(
-            visitor,
-            0x42000B,
+impl<A: Allocator + Copy> Structure<A> for Link<A> {
+    ghost rules = { structure true ⟦<LinkParts<A> as PartList<A>>⟧.rules ⟦<Link<A> as FromParts<A, LinkParts<A>>>⟧.parts refl ⟦<Link<A> as PartialEq>⟧.eq (λ x y e. e) };
+
+    fn read<'b>(scope: &Scope<'b, A>, tag: u32, cursor: &mut Cursor<'b, A>) -> Step<Self, A> {
+        read_structure::<LinkParts<A>, Self, A>(scope, tag, true, cursor)
+    }
+
+    fn tell_parts<W: Walk<A>>(&self, state: &mut W::State) -> Result<(), AllocError> {
+        W::two::<One<LinkType>, Leaf<String<A>, 0x42004C>>(
+            state,
             &self.link_type,
             &self.linked_object_identifier,
         )
     }
-
-    fn is_whole(&self) -> bool {
-        are_whole_two::<One<LinkType>, Leaf<String<A>, 0x42004C>, A>(
-            &self.link_type,
-            &self.linked_object_identifier,
-        )
-    }
-
-    ghost structured = { (refl, refl) };
 }
 
 /// What an application keeps with an object (KMIP 1.0, section 3.30).
@@ -612,41 +464,27 @@ type ApplicationSpecificInformationParts<A> = (
     Leaf<String<A>, 0x420002>,
 );
 
+impl<A: Allocator + Copy> FromParts<A, ApplicationSpecificInformationParts<A>>
+    for ApplicationSpecificInformation<A> {
+    ghost parts = { λ x. (x.namespace, x.data) };
+
+    fn from_parts((namespace, data): Holds<ApplicationSpecificInformationParts<A>, A>) -> Self {
+        ApplicationSpecificInformation { namespace, data }
+    }
+}
+
 impl<A: Allocator + Copy> Structure<A> for ApplicationSpecificInformation<A> {
-    ghost item = { structure 0x42000B true (of (λ x. (x.namespace, x.data)) ⟦<ApplicationSpecificInformationParts<A> as PartList<A>>⟧.rules) refl
-        ⟦<ApplicationSpecificInformation<A> as PartialEq>⟧.eq (λ x y e. e) };
+    ghost rules = { structure true ⟦<ApplicationSpecificInformationParts<A> as PartList<A>>⟧.rules ⟦<ApplicationSpecificInformation<A> as FromParts<A, ApplicationSpecificInformationParts<A>>>⟧.parts refl ⟦<ApplicationSpecificInformation<A> as PartialEq>⟧.eq (λ x y e. e) };
 
-    fn number() -> u32 {
-        0x42000B
+    fn read<'b>(scope: &Scope<'b, A>, tag: u32, cursor: &mut Cursor<'b, A>) -> Step<Self, A> {
+        read_structure::<ApplicationSpecificInformationParts<A>, Self, A>(scope, tag, true, cursor)
     }
 
-    fn read_nested<'b>(scope: &Scope<'b, A>, cursor: &mut Cursor<'b, A>) -> Step<Self, A> {
-        match read_parts::<ApplicationSpecificInformationParts<A>, A>(
-            scope, 0x42000B, true, cursor,
-        ) {
-            Ok(parts) => {
-                let (namespace, data) = parts;
-                Ok(ApplicationSpecificInformation { namespace, data })
-            }
-            Err(failure) => Err(failure),
-        }
-    }
-
-    fn visit_parts<V: Visitor>(&self, visitor: &mut V) -> Result<(), AllocError> {
-        visit_structure_two::<Leaf<String<A>, 0x420003>, Leaf<String<A>, 0x420002>, V, A>(
-            visitor,
-            0x42000B,
+    fn tell_parts<W: Walk<A>>(&self, state: &mut W::State) -> Result<(), AllocError> {
+        W::two::<Leaf<String<A>, 0x420003>, Leaf<String<A>, 0x420002>>(
+            state,
             &self.namespace,
             &self.data,
         )
     }
-
-    fn is_whole(&self) -> bool {
-        are_whole_two::<Leaf<String<A>, 0x420003>, Leaf<String<A>, 0x420002>, A>(
-            &self.namespace,
-            &self.data,
-        )
-    }
-
-    ghost structured = { (refl, refl) };
 }

@@ -1,22 +1,20 @@
 // Written by codegen from types.table: change that, and run codegen/codegen.
 //! What messages begin with (KMIP 1.0, section 6).
 
-ghost use Rattle.std.specs.Prelude.{◌↔◌, ◌+◌, IsTrue, Some, codes, false, refl, true};
-ghost use Rattle.kmip_ttlv_kinds.specs.Parts.{of, structure, structure_where};
+ghost use Rattle.std.specs.Prelude.{◌≡◌, ◌+◌, codes, false, refl, true};
+ghost use Rattle.std.proofs.Common.{ap};
+ghost use Rattle.kmip_ttlv_parts.specs.Returns.{text_of_number};
+ghost use Rattle.kmip_ttlv_kinds.specs.Parts.{structure, structure_where};
 ghost use Rattle.kmip_ttlv_kinds.specs.Choices.{held};
-ghost use Rattle.kmip_headers.specs.Choices.{credential_value_choice, ChoosesCredentialValue, ChoosesCredentialValueNumber, credential_value_numbered};
+ghost use Rattle.kmip_headers.specs.Choices.{credential_value_choice, credential_value_chosen_by};
 
 use kmip_ttlv_kinds::{
-    Alone, AsElement, Choice, Element, Four, Leaf, Maybe, MaybeLeaf, Of, One, OneOf, PartList,
-    Several, Structure, are_whole_four, are_whole_one, are_whole_three, are_whole_two, both,
-    read_parts, visit_four, visit_structure_one, visit_structure_three, visit_structure_two,
-    visit_two,
+    Alone, AsElement, Case, Choice, Decided, Element, Four, FromParts, Holds, Leaf, Maybe,
+    MaybeLeaf, Of, One, OneOf, PartList, Several, Structure, Walk, read_structure, texts_in,
 };
-use kmip_ttlv_parts::messages::writing;
 use kmip_ttlv_parts::reader::{
-    ChoiceValue, Cursor, DateTime, Rule, RuleParts, Scope, Step, Variant, VariantOf,
+    ChoiceValue, Cursor, DateTime, Rule, RuleParts, Scope, Step, VariantOf,
 };
-use kmip_ttlv_parts::visit::Visitor;
 use kmip_ttlv_parts::{Enumeration, reader};
 use std::alloc::{AllocError, Allocator, Global};
 
@@ -31,38 +29,24 @@ pub struct ProtocolVersion {
 
 type ProtocolVersionParts = (Leaf<i32, 0x42006A>, Leaf<i32, 0x42006B>);
 
+impl<A: Allocator + Copy> FromParts<A, ProtocolVersionParts> for ProtocolVersion {
+    ghost parts = { λ x. (x.major, x.minor) };
+
+    fn from_parts((major, minor): Holds<ProtocolVersionParts, A>) -> Self {
+        ProtocolVersion { major, minor }
+    }
+}
+
 impl<A: Allocator + Copy> Structure<A> for ProtocolVersion {
-    ghost item = { structure 0x420069 true (of (λ x. (x.major, x.minor)) ⟦<ProtocolVersionParts as PartList<A>>⟧.rules) refl
-        ⟦<ProtocolVersion as PartialEq>⟧.eq (λ x y e. e) };
+    ghost rules = { structure true ⟦<ProtocolVersionParts as PartList<A>>⟧.rules ⟦<ProtocolVersion as FromParts<A, ProtocolVersionParts>>⟧.parts refl ⟦<ProtocolVersion as PartialEq>⟧.eq (λ x y e. e) };
 
-    fn number() -> u32 {
-        0x420069
+    fn read<'b>(scope: &Scope<'b, A>, tag: u32, cursor: &mut Cursor<'b, A>) -> Step<Self, A> {
+        read_structure::<ProtocolVersionParts, Self, A>(scope, tag, true, cursor)
     }
 
-    fn read_nested<'b>(scope: &Scope<'b, A>, cursor: &mut Cursor<'b, A>) -> Step<Self, A> {
-        match read_parts::<ProtocolVersionParts, A>(scope, 0x420069, true, cursor) {
-            Ok(parts) => {
-                let (major, minor) = parts;
-                Ok(ProtocolVersion { major, minor })
-            }
-            Err(failure) => Err(failure),
-        }
+    fn tell_parts<W: Walk<A>>(&self, state: &mut W::State) -> Result<(), AllocError> {
+        W::two::<Leaf<i32, 0x42006A>, Leaf<i32, 0x42006B>>(state, &self.major, &self.minor)
     }
-
-    fn visit_parts<V: Visitor>(&self, visitor: &mut V) -> Result<(), AllocError> {
-        visit_structure_two::<Leaf<i32, 0x42006A>, Leaf<i32, 0x42006B>, V, A>(
-            visitor,
-            0x420069,
-            &self.major,
-            &self.minor,
-        )
-    }
-
-    fn is_whole(&self) -> bool {
-        are_whole_two::<Leaf<i32, 0x42006A>, Leaf<i32, 0x42006B>, A>(&self.major, &self.minor)
-    }
-
-    ghost structured = { (refl, refl) };
 }
 
 /// What a client proves who it is by (section 9.1.3.2.1).
@@ -90,41 +74,28 @@ pub struct UsernameAndPassword<A: Allocator = Global> {
 
 type UsernameAndPasswordParts<A> = (Leaf<String<A>, 0x420099>, MaybeLeaf<String<A>, 0x4200A1>);
 
+impl<A: Allocator + Copy> FromParts<A, UsernameAndPasswordParts<A>> for UsernameAndPassword<A> {
+    ghost parts = { λ x. (x.username, x.password) };
+
+    fn from_parts((username, password): Holds<UsernameAndPasswordParts<A>, A>) -> Self {
+        UsernameAndPassword { username, password }
+    }
+}
+
 impl<A: Allocator + Copy> Structure<A> for UsernameAndPassword<A> {
-    ghost item = { structure 0x420025 true (of (λ x. (x.username, x.password)) ⟦<UsernameAndPasswordParts<A> as PartList<A>>⟧.rules) refl
-        ⟦<UsernameAndPassword<A> as PartialEq>⟧.eq (λ x y e. e) };
+    ghost rules = { structure true ⟦<UsernameAndPasswordParts<A> as PartList<A>>⟧.rules ⟦<UsernameAndPassword<A> as FromParts<A, UsernameAndPasswordParts<A>>>⟧.parts refl ⟦<UsernameAndPassword<A> as PartialEq>⟧.eq (λ x y e. e) };
 
-    fn number() -> u32 {
-        0x420025
+    fn read<'b>(scope: &Scope<'b, A>, tag: u32, cursor: &mut Cursor<'b, A>) -> Step<Self, A> {
+        read_structure::<UsernameAndPasswordParts<A>, Self, A>(scope, tag, true, cursor)
     }
 
-    fn read_nested<'b>(scope: &Scope<'b, A>, cursor: &mut Cursor<'b, A>) -> Step<Self, A> {
-        match read_parts::<UsernameAndPasswordParts<A>, A>(scope, 0x420025, true, cursor) {
-            Ok(parts) => {
-                let (username, password) = parts;
-                Ok(UsernameAndPassword { username, password })
-            }
-            Err(failure) => Err(failure),
-        }
-    }
-
-    fn visit_parts<V: Visitor>(&self, visitor: &mut V) -> Result<(), AllocError> {
-        visit_structure_two::<Leaf<String<A>, 0x420099>, MaybeLeaf<String<A>, 0x4200A1>, V, A>(
-            visitor,
-            0x420025,
+    fn tell_parts<W: Walk<A>>(&self, state: &mut W::State) -> Result<(), AllocError> {
+        W::two::<Leaf<String<A>, 0x420099>, MaybeLeaf<String<A>, 0x4200A1>>(
+            state,
             &self.username,
             &self.password,
         )
     }
-
-    fn is_whole(&self) -> bool {
-        are_whole_two::<Leaf<String<A>, 0x420099>, MaybeLeaf<String<A>, 0x4200A1>, A>(
-            &self.username,
-            &self.password,
-        )
-    }
-
-    ghost structured = { (refl, refl) };
 }
 
 /// What a device knows of itself (KMIP 1.1, section 2.1.2).
@@ -145,96 +116,70 @@ pub struct Device<A: Allocator = Global> {
     pub media_identifier: Option<String<A>>,
 }
 
-type DeviceParts<A> = Four<
+type DeviceFirst<A> = (
     MaybeLeaf<String<A>, 0x4200B0>,
     MaybeLeaf<String<A>, 0x4200A1>,
     MaybeLeaf<String<A>, 0x4200A2>,
     MaybeLeaf<String<A>, 0x4200AB>,
-    (
-        MaybeLeaf<String<A>, 0x4200A9>,
-        MaybeLeaf<String<A>, 0x4200AA>,
-    ),
->;
+);
 
-impl<A: Allocator + Copy> Structure<A> for Device<A> {
-    ghost item = { structure 0x420025 true (of (λ x. (x.device_serial_number, x.password, x.device_identifier, x.network_identifier, (x.machine_identifier, x.media_identifier))) ⟦<DeviceParts<A> as PartList<A>>⟧.rules) refl
-        ⟦<Device<A> as PartialEq>⟧.eq (λ x y e. e) };
+type DeviceSecond<A> = (
+    MaybeLeaf<String<A>, 0x4200A9>,
+    MaybeLeaf<String<A>, 0x4200AA>,
+);
 
-    fn number() -> u32 {
-        0x420025
-    }
+type DeviceParts<A> = Four<DeviceFirst<A>, DeviceSecond<A>>;
 
-    fn read_nested<'b>(scope: &Scope<'b, A>, cursor: &mut Cursor<'b, A>) -> Step<Self, A> {
-        match read_parts::<DeviceParts<A>, A>(scope, 0x420025, true, cursor) {
-            Ok(parts) => {
-                let (
-                    device_serial_number,
-                    password,
-                    device_identifier,
-                    network_identifier,
-                    others,
-                ) = parts;
-                let (machine_identifier, media_identifier) = others;
-                Ok(Device {
-                    device_serial_number,
-                    password,
-                    device_identifier,
-                    network_identifier,
-                    machine_identifier,
-                    media_identifier,
-                })
-            }
-            Err(failure) => Err(failure),
+impl<A: Allocator + Copy> FromParts<A, DeviceParts<A>> for Device<A> {
+    ghost parts = { λ x. (x.device_serial_number, x.password, x.device_identifier, x.network_identifier, (x.machine_identifier, x.media_identifier)) };
+
+    fn from_parts(
+        (
+            device_serial_number,
+            password,
+            device_identifier,
+            network_identifier,
+            (machine_identifier, media_identifier),
+        ): Holds<DeviceParts<A>, A>,
+    ) -> Self {
+        Device {
+            device_serial_number,
+            password,
+            device_identifier,
+            network_identifier,
+            machine_identifier,
+            media_identifier,
         }
     }
+}
 
-    fn visit_parts<V: Visitor>(&self, visitor: &mut V) -> Result<(), AllocError> {
-        writing::begin_structure(visitor, 0x420025)?;
-        visit_four::<
+impl<A: Allocator + Copy> Structure<A> for Device<A> {
+    ghost rules = { structure true ⟦<DeviceParts<A> as PartList<A>>⟧.rules ⟦<Device<A> as FromParts<A, DeviceParts<A>>>⟧.parts refl ⟦<Device<A> as PartialEq>⟧.eq (λ x y e. e) };
+
+    fn read<'b>(scope: &Scope<'b, A>, tag: u32, cursor: &mut Cursor<'b, A>) -> Step<Self, A> {
+        read_structure::<DeviceParts<A>, Self, A>(scope, tag, true, cursor)
+    }
+
+    fn tell_parts<W: Walk<A>>(&self, state: &mut W::State) -> Result<(), AllocError> {
+        W::four::<
             MaybeLeaf<String<A>, 0x4200B0>,
             MaybeLeaf<String<A>, 0x4200A1>,
             MaybeLeaf<String<A>, 0x4200A2>,
             MaybeLeaf<String<A>, 0x4200AB>,
-            V,
-            A,
         >(
-            visitor,
+            state,
             &self.device_serial_number,
             &self.password,
             &self.device_identifier,
             &self.network_identifier,
         )?;
-        visit_two::<MaybeLeaf<String<A>, 0x4200A9>, MaybeLeaf<String<A>, 0x4200AA>, V, A>(
-            visitor,
+        W::two::<MaybeLeaf<String<A>, 0x4200A9>, MaybeLeaf<String<A>, 0x4200AA>>(
+            state,
             &self.machine_identifier,
             &self.media_identifier,
         )?;
-        writing::end_structure(visitor, 0x420025)?;
         Ok(())
     }
-
-    fn is_whole(&self) -> bool {
-        let first_four = are_whole_four::<
-            MaybeLeaf<String<A>, 0x4200B0>,
-            MaybeLeaf<String<A>, 0x4200A1>,
-            MaybeLeaf<String<A>, 0x4200A2>,
-            MaybeLeaf<String<A>, 0x4200AB>,
-            A,
-        >(
-            &self.device_serial_number,
-            &self.password,
-            &self.device_identifier,
-            &self.network_identifier,
-        );
-        let others = are_whole_two::<
-            MaybeLeaf<String<A>, 0x4200A9>,
-            MaybeLeaf<String<A>, 0x4200AA>,
-            A,
-        >(&self.machine_identifier, &self.media_identifier);
-        both(first_four, others)
-    }
-
-    ghost structured = { (refl, refl) };
 }
 
 /// What a client says of itself.
@@ -248,54 +193,33 @@ pub enum CredentialValue<A: Allocator = Global> {
 }
 
 impl<A: Allocator> CredentialValue<A> {
-    /// Whether this text, if it is that of 0x420024, chooses it.
-    pub fn is_chosen_by(&self, text: &str) -> bool
-        ensures { IsTrue result ↔ ChoosesCredentialValue text.now self.now }
+    /// The number that chooses it, of the Enumeration 0x420024.
+    pub fn chosen_by(&self) -> u32
+        ensures { result ≡ credential_value_chosen_by self.now }
     {
         match self {
-            CredentialValue::UsernameAndPassword(_) => text == "0x00000001",
-            CredentialValue::Device(_) => text == "0x00000002",
-        }
-    }
-
-    /// The same of an Enumeration's number.
-    pub fn is_chosen_by_number(&self, number: u32) -> bool
-        ensures { IsTrue result ↔ ChoosesCredentialValueNumber number self.now }
-    {
-        match self {
-            CredentialValue::UsernameAndPassword(_) => number == 0x00000001,
-            CredentialValue::Device(_) => number == 0x00000002,
+            CredentialValue::UsernameAndPassword(_) => 0x00000001,
+            CredentialValue::Device(_) => 0x00000002,
         }
     }
 }
 
 impl<A: Allocator + Copy> Choice<A> for CredentialValue<A> {
     ghost chosen = { credential_value_choice ⟦<CredentialValue<A> as PartialEq>⟧.eq record {
-      username_and_password = held ⟦<Of<UsernameAndPassword<A>> as Element<A>>⟧.rules refl refl (λ x y e. e);
-      device = held ⟦<Of<Device<A>> as Element<A>>⟧.rules refl refl (λ x y e. e);
+      username_and_password = held ⟦<Of<UsernameAndPassword<A>, 0x420025> as Element<A>>⟧.rules refl refl (λ x y e. e);
+      device = held ⟦<Of<Device<A>, 0x420025> as Element<A>>⟧.rules refl refl (λ x y e. e);
     } };
 
     fn read_chosen<'b>(scope: &Scope<'b, A>, cursor: &mut Cursor<'b, A>) -> Step<Self, A> {
         reader::read_choice(scope, cursor)
     }
 
-    fn visit_chosen<V: Visitor>(&self, visitor: &mut V) -> Result<(), AllocError> {
+    fn tell_held<W: Walk<A>>(&self, state: &mut W::State) -> Result<(), AllocError> {
         match self {
-            CredentialValue::UsernameAndPassword(inner) => <Of<UsernameAndPassword<A>> as Element<
-                A,
-            >>::visit_one(inner, visitor),
-            CredentialValue::Device(inner) => <Of<Device<A>> as Element<A>>::visit_one(
-                inner, visitor,
-            ),
-        }
-    }
-
-    fn is_whole(&self) -> bool {
-        match self {
-            CredentialValue::UsernameAndPassword(inner) => <Of<UsernameAndPassword<A>> as Element<
-                A,
-            >>::is_whole(inner),
-            CredentialValue::Device(inner) => <Of<Device<A>> as Element<A>>::is_whole(inner),
+            CredentialValue::UsernameAndPassword(inner) => W::item::<
+                Of<UsernameAndPassword<A>, 0x420025>,
+            >(state, inner),
+            CredentialValue::Device(inner) => W::item::<Of<Device<A>, 0x420025>>(state, inner),
         }
     }
 
@@ -314,15 +238,15 @@ impl Rule for CredentialValueUsernameAndPasswordRule {
 
     #[tactic(auto, unfolding(kmip_ttlv_reader::specs::RuleParts::parts_of))]
     fn parts() -> Option<RuleParts> {
-        Some(RuleParts::Texts {
-            tag: 0x420024,
-            texts: &["0x00000001"],
-        })
+        texts_in(0x420024, &["0x00000001"])
     }
 }
 
-impl<A: Allocator + Copy> VariantOf<AsElement<Of<UsernameAndPassword<A>>>, CredentialValue<A>, A>
-    for CredentialValueUsernameAndPasswordRule {
+impl<A: Allocator + Copy> VariantOf<
+    AsElement<Of<UsernameAndPassword<A>, 0x420025>>,
+    CredentialValue<A>,
+    A,
+> for CredentialValueUsernameAndPasswordRule {
     #[tactic(auto, unfolding(crate::specs::Choices::credential_value_by))]
     fn from_content(inner: UsernameAndPassword<A>) -> CredentialValue<A> {
         CredentialValue::UsernameAndPassword(inner)
@@ -341,14 +265,11 @@ impl Rule for CredentialValueDeviceRule {
 
     #[tactic(auto, unfolding(kmip_ttlv_reader::specs::RuleParts::parts_of))]
     fn parts() -> Option<RuleParts> {
-        Some(RuleParts::Texts {
-            tag: 0x420024,
-            texts: &["0x00000002"],
-        })
+        texts_in(0x420024, &["0x00000002"])
     }
 }
 
-impl<A: Allocator + Copy> VariantOf<AsElement<Of<Device<A>>>, CredentialValue<A>, A>
+impl<A: Allocator + Copy> VariantOf<AsElement<Of<Device<A>, 0x420025>>, CredentialValue<A>, A>
     for CredentialValueDeviceRule {
     #[tactic(auto, unfolding(crate::specs::Choices::credential_value_by))]
     fn from_content(inner: Device<A>) -> CredentialValue<A> {
@@ -366,11 +287,8 @@ impl<A: Allocator + Copy> reader::Choice<A> for CredentialValue<A> {
     ghost form = { ⟦<CredentialValue<A> as Choice<A>>⟧.chosen.form };
 
     type Variants = (
-        Variant<CredentialValueUsernameAndPasswordRule, AsElement<Of<UsernameAndPassword<A>>>>,
-        (
-            Variant<CredentialValueDeviceRule, AsElement<Of<Device<A>>>>,
-            (),
-        ),
+        Case<CredentialValueUsernameAndPasswordRule, Of<UsernameAndPassword<A>, 0x420025>>,
+        (Case<CredentialValueDeviceRule, Of<Device<A>, 0x420025>>, ()),
     );
 
     fn has_form() {}
@@ -386,51 +304,44 @@ pub struct Credential<A: Allocator = Global> {
     pub credential_value: CredentialValue<A>,
 }
 
+impl<A: Allocator> Decided for Credential<A> {
+    ghost IsDecided = { λ x. (x.credential_type.number ≡ credential_value_chosen_by x.credential_value) };
+
+    fn is_decided(&self) -> bool {
+        self.credential_value.chosen_by() == self.credential_type.number
+    }
+}
+
 type CredentialParts<A> = (One<CredentialType>, OneOf<CredentialValue<A>, 0x420025>);
 
-impl<A: Allocator + Copy> Structure<A> for Credential<A> {
-    ghost item = { structure_where 0x420023 true (of (λ x. (x.credential_type, x.credential_value)) ⟦<CredentialParts<A> as PartList<A>>⟧.rules) refl
-        (λ x. ChoosesCredentialValueNumber x.credential_type.number x.credential_value) (λ x d. (tt, (credential_value_numbered x.credential_type.number x.credential_value d)))
-        ⟦<Credential<A> as PartialEq>⟧.eq (λ x y e. e) };
+impl<A: Allocator + Copy> FromParts<A, CredentialParts<A>> for Credential<A> {
+    ghost parts = { λ x. (x.credential_type, x.credential_value) };
 
-    fn number() -> u32 {
-        0x420023
-    }
-
-    fn read_nested<'b>(scope: &Scope<'b, A>, cursor: &mut Cursor<'b, A>) -> Step<Self, A> {
-        match read_parts::<CredentialParts<A>, A>(scope, 0x420023, true, cursor) {
-            Ok(parts) => {
-                let (credential_type, credential_value) = parts;
-                Ok(Credential {
-                    credential_type,
-                    credential_value,
-                })
-            }
-            Err(failure) => Err(failure),
+    fn from_parts((credential_type, credential_value): Holds<CredentialParts<A>, A>) -> Self {
+        Credential {
+            credential_type,
+            credential_value,
         }
     }
+}
 
-    fn visit_parts<V: Visitor>(&self, visitor: &mut V) -> Result<(), AllocError> {
-        visit_structure_two::<One<CredentialType>, OneOf<CredentialValue<A>, 0x420025>, V, A>(
-            visitor,
-            0x420023,
-            &self.credential_type,
-            &self.credential_value,
-        )
+impl<A: Allocator + Copy> Structure<A> for Credential<A> {
+    ghost rules = { structure_where true ⟦<CredentialParts<A> as PartList<A>>⟧.rules ⟦<Credential<A> as FromParts<A, CredentialParts<A>>>⟧.parts refl
+        (λ x. (x.credential_type.number ≡ credential_value_chosen_by x.credential_value)) (λ x d. (tt, (ap text_of_number d))) ⟦<Credential<A> as PartialEq>⟧.eq (λ x y e. e) };
+
+    fn read<'b>(scope: &Scope<'b, A>, tag: u32, cursor: &mut Cursor<'b, A>) -> Step<Self, A> {
+        read_structure::<CredentialParts<A>, Self, A>(scope, tag, true, cursor)
     }
 
-    fn is_whole(&self) -> bool {
-        let parts = are_whole_two::<One<CredentialType>, OneOf<CredentialValue<A>, 0x420025>, A>(
+    fn tell_parts<W: Walk<A>>(&self, state: &mut W::State) -> Result<(), AllocError> {
+        W::two::<One<CredentialType>, OneOf<CredentialValue<A>, 0x420025>>(
+            state,
             &self.credential_type,
             &self.credential_value,
-        );
-        let chosen = self
-            .credential_value
-            .is_chosen_by_number(self.credential_type.number);
-        both(parts, chosen)
+        )?;
+        W::check(state, self);
+        Ok(())
     }
-
-    ghost structured = { (refl, refl) };
 }
 
 /// Who a client is (section 6.6).
@@ -441,39 +352,26 @@ pub struct Authentication<A: Allocator = Global> {
     pub credentials: Vec<Credential<A>, A>,
 }
 
-type AuthenticationParts<A> = Alone<Several<Of<Credential<A>>, 0x420023>>;
+type AuthenticationParts<A> = Alone<Several<Of<Credential<A>, 0x420023>, 0x420023>>;
+
+impl<A: Allocator + Copy> FromParts<A, AuthenticationParts<A>> for Authentication<A> {
+    ghost parts = { λ x. x.credentials };
+
+    fn from_parts(credentials: Holds<AuthenticationParts<A>, A>) -> Self {
+        Authentication { credentials }
+    }
+}
 
 impl<A: Allocator + Copy> Structure<A> for Authentication<A> {
-    ghost item = { structure 0x42000C true (of (λ x. x.credentials) ⟦<AuthenticationParts<A> as PartList<A>>⟧.rules) refl
-        ⟦<Authentication<A> as PartialEq>⟧.eq (λ x y e. e) };
+    ghost rules = { structure true ⟦<AuthenticationParts<A> as PartList<A>>⟧.rules ⟦<Authentication<A> as FromParts<A, AuthenticationParts<A>>>⟧.parts refl ⟦<Authentication<A> as PartialEq>⟧.eq (λ x y e. e) };
 
-    fn number() -> u32 {
-        0x42000C
+    fn read<'b>(scope: &Scope<'b, A>, tag: u32, cursor: &mut Cursor<'b, A>) -> Step<Self, A> {
+        read_structure::<AuthenticationParts<A>, Self, A>(scope, tag, true, cursor)
     }
 
-    fn read_nested<'b>(scope: &Scope<'b, A>, cursor: &mut Cursor<'b, A>) -> Step<Self, A> {
-        match read_parts::<AuthenticationParts<A>, A>(scope, 0x42000C, true, cursor) {
-            Ok(parts) => {
-                let credentials = parts;
-                Ok(Authentication { credentials })
-            }
-            Err(failure) => Err(failure),
-        }
+    fn tell_parts<W: Walk<A>>(&self, state: &mut W::State) -> Result<(), AllocError> {
+        W::one::<Several<Of<Credential<A>, 0x420023>, 0x420023>>(state, &self.credentials)
     }
-
-    fn visit_parts<V: Visitor>(&self, visitor: &mut V) -> Result<(), AllocError> {
-        visit_structure_one::<Several<Of<Credential<A>>, 0x420023>, V, A>(
-            visitor,
-            0x42000C,
-            &self.credentials,
-        )
-    }
-
-    fn is_whole(&self) -> bool {
-        are_whole_one::<Several<Of<Credential<A>>, 0x420023>, A>(&self.credentials)
-    }
-
-    ghost structured = { (refl, refl) };
 }
 
 /// What a server does after an item that failed (section 9.1.3.2.29).
@@ -519,117 +417,81 @@ pub struct RequestHeader<A: Allocator = Global> {
     pub batch_count: i32,
 }
 
-type RequestHeaderParts<A> = Four<
-    One<Of<ProtocolVersion>>,
+type RequestHeaderFirst<A> = (
+    One<Of<ProtocolVersion, 0x420069>>,
     MaybeLeaf<i32, 0x420050>,
     MaybeLeaf<bool, 0x420007>,
-    Maybe<Of<Authentication<A>>, 0x42000C>,
-    (
-        Maybe<BatchErrorContinuationOption, 0x42000E>,
-        MaybeLeaf<bool, 0x420010>,
-        MaybeLeaf<DateTime, 0x420092>,
-        Leaf<i32, 0x42000D>,
-    ),
->;
+    Maybe<Of<Authentication<A>, 0x42000C>, 0x42000C>,
+);
 
-impl<A: Allocator + Copy> Structure<A> for RequestHeader<A> {
-    ghost item = { structure 0x420077 true (of (λ x. (x.version, x.maximum_response_size, x.asynchronous_indicator, x.authentication, (x.batch_error_continuation_option, x.batch_order_option, x.time_stamp, x.batch_count))) ⟦<RequestHeaderParts<A> as PartList<A>>⟧.rules) refl
-        ⟦<RequestHeader<A> as PartialEq>⟧.eq (λ x y e. e) };
+type RequestHeaderSecond = (
+    Maybe<BatchErrorContinuationOption, 0x42000E>,
+    MaybeLeaf<bool, 0x420010>,
+    MaybeLeaf<DateTime, 0x420092>,
+    Leaf<i32, 0x42000D>,
+);
 
-    fn number() -> u32 {
-        0x420077
-    }
+type RequestHeaderParts<A> = Four<RequestHeaderFirst<A>, RequestHeaderSecond>;
 
-    fn read_nested<'b>(scope: &Scope<'b, A>, cursor: &mut Cursor<'b, A>) -> Step<Self, A> {
-        match read_parts::<RequestHeaderParts<A>, A>(scope, 0x420077, true, cursor) {
-            Ok(parts) => {
-                let (
-                    version,
-                    maximum_response_size,
-                    asynchronous_indicator,
-                    authentication,
-                    others,
-                ) = parts;
-                let (batch_error_continuation_option, batch_order_option, time_stamp, batch_count) =
-                    others;
-                Ok(RequestHeader {
-                    version,
-                    maximum_response_size,
-                    asynchronous_indicator,
-                    authentication,
-                    batch_error_continuation_option,
-                    batch_order_option,
-                    time_stamp,
-                    batch_count,
-                })
-            }
-            Err(failure) => Err(failure),
+impl<A: Allocator + Copy> FromParts<A, RequestHeaderParts<A>> for RequestHeader<A> {
+    ghost parts = { λ x. (x.version, x.maximum_response_size, x.asynchronous_indicator, x.authentication, (x.batch_error_continuation_option, x.batch_order_option, x.time_stamp, x.batch_count)) };
+
+    fn from_parts(
+        (
+            version,
+            maximum_response_size,
+            asynchronous_indicator,
+            authentication,
+            (batch_error_continuation_option, batch_order_option, time_stamp, batch_count),
+        ): Holds<RequestHeaderParts<A>, A>,
+    ) -> Self {
+        RequestHeader {
+            version,
+            maximum_response_size,
+            asynchronous_indicator,
+            authentication,
+            batch_error_continuation_option,
+            batch_order_option,
+            time_stamp,
+            batch_count,
         }
     }
+}
 
-    fn visit_parts<V: Visitor>(&self, visitor: &mut V) -> Result<(), AllocError> {
-        writing::begin_structure(visitor, 0x420077)?;
-        visit_four::<
-            One<Of<ProtocolVersion>>,
+impl<A: Allocator + Copy> Structure<A> for RequestHeader<A> {
+    ghost rules = { structure true ⟦<RequestHeaderParts<A> as PartList<A>>⟧.rules ⟦<RequestHeader<A> as FromParts<A, RequestHeaderParts<A>>>⟧.parts refl ⟦<RequestHeader<A> as PartialEq>⟧.eq (λ x y e. e) };
+
+    fn read<'b>(scope: &Scope<'b, A>, tag: u32, cursor: &mut Cursor<'b, A>) -> Step<Self, A> {
+        read_structure::<RequestHeaderParts<A>, Self, A>(scope, tag, true, cursor)
+    }
+
+    fn tell_parts<W: Walk<A>>(&self, state: &mut W::State) -> Result<(), AllocError> {
+        W::four::<
+            One<Of<ProtocolVersion, 0x420069>>,
             MaybeLeaf<i32, 0x420050>,
             MaybeLeaf<bool, 0x420007>,
-            Maybe<Of<Authentication<A>>, 0x42000C>,
-            V,
-            A,
+            Maybe<Of<Authentication<A>, 0x42000C>, 0x42000C>,
         >(
-            visitor,
+            state,
             &self.version,
             &self.maximum_response_size,
             &self.asynchronous_indicator,
             &self.authentication,
         )?;
-        visit_four::<
+        W::four::<
             Maybe<BatchErrorContinuationOption, 0x42000E>,
             MaybeLeaf<bool, 0x420010>,
             MaybeLeaf<DateTime, 0x420092>,
             Leaf<i32, 0x42000D>,
-            V,
-            A,
         >(
-            visitor,
+            state,
             &self.batch_error_continuation_option,
             &self.batch_order_option,
             &self.time_stamp,
             &self.batch_count,
         )?;
-        writing::end_structure(visitor, 0x420077)?;
         Ok(())
     }
-
-    fn is_whole(&self) -> bool {
-        let first_four = are_whole_four::<
-            One<Of<ProtocolVersion>>,
-            MaybeLeaf<i32, 0x420050>,
-            MaybeLeaf<bool, 0x420007>,
-            Maybe<Of<Authentication<A>>, 0x42000C>,
-            A,
-        >(
-            &self.version,
-            &self.maximum_response_size,
-            &self.asynchronous_indicator,
-            &self.authentication,
-        );
-        let others = are_whole_four::<
-            Maybe<BatchErrorContinuationOption, 0x42000E>,
-            MaybeLeaf<bool, 0x420010>,
-            MaybeLeaf<DateTime, 0x420092>,
-            Leaf<i32, 0x42000D>,
-            A,
-        >(
-            &self.batch_error_continuation_option,
-            &self.batch_order_option,
-            &self.time_stamp,
-            &self.batch_count,
-        );
-        both(first_four, others)
-    }
-
-    ghost structured = { (refl, refl) };
 }
 
 /// The header of a response (section 7.2).
@@ -644,59 +506,37 @@ pub struct ResponseHeader {
 }
 
 type ResponseHeaderParts = (
-    One<Of<ProtocolVersion>>,
+    One<Of<ProtocolVersion, 0x420069>>,
     Leaf<DateTime, 0x420092>,
     Leaf<i32, 0x42000D>,
 );
 
-impl<A: Allocator + Copy> Structure<A> for ResponseHeader {
-    ghost item = { structure 0x42007A true (of (λ x. (x.version, x.time_stamp, x.batch_count)) ⟦<ResponseHeaderParts as PartList<A>>⟧.rules) refl
-        ⟦<ResponseHeader as PartialEq>⟧.eq (λ x y e. e) };
+impl<A: Allocator + Copy> FromParts<A, ResponseHeaderParts> for ResponseHeader {
+    ghost parts = { λ x. (x.version, x.time_stamp, x.batch_count) };
 
-    fn number() -> u32 {
-        0x42007A
-    }
-
-    fn read_nested<'b>(scope: &Scope<'b, A>, cursor: &mut Cursor<'b, A>) -> Step<Self, A> {
-        match read_parts::<ResponseHeaderParts, A>(scope, 0x42007A, true, cursor) {
-            Ok(parts) => {
-                let (version, time_stamp, batch_count) = parts;
-                Ok(ResponseHeader {
-                    version,
-                    time_stamp,
-                    batch_count,
-                })
-            }
-            Err(failure) => Err(failure),
+    fn from_parts((version, time_stamp, batch_count): Holds<ResponseHeaderParts, A>) -> Self {
+        ResponseHeader {
+            version,
+            time_stamp,
+            batch_count,
         }
     }
+}
 
-    fn visit_parts<V: Visitor>(&self, visitor: &mut V) -> Result<(), AllocError> {
-        visit_structure_three::<
-            One<Of<ProtocolVersion>>,
-            Leaf<DateTime, 0x420092>,
-            Leaf<i32, 0x42000D>,
-            V,
-            A,
-        >(
-            visitor,
-            0x42007A,
-            &self.version,
-            &self.time_stamp,
-            &self.batch_count,
-        )
+impl<A: Allocator + Copy> Structure<A> for ResponseHeader {
+    ghost rules = { structure true ⟦<ResponseHeaderParts as PartList<A>>⟧.rules ⟦<ResponseHeader as FromParts<A, ResponseHeaderParts>>⟧.parts refl ⟦<ResponseHeader as PartialEq>⟧.eq (λ x y e. e) };
+
+    fn read<'b>(scope: &Scope<'b, A>, tag: u32, cursor: &mut Cursor<'b, A>) -> Step<Self, A> {
+        read_structure::<ResponseHeaderParts, Self, A>(scope, tag, true, cursor)
     }
 
-    fn is_whole(&self) -> bool {
-        are_whole_three::<
-            One<Of<ProtocolVersion>>,
+    fn tell_parts<W: Walk<A>>(&self, state: &mut W::State) -> Result<(), AllocError> {
+        W::three::<
+            One<Of<ProtocolVersion, 0x420069>>,
             Leaf<DateTime, 0x420092>,
             Leaf<i32, 0x42000D>,
-            A,
-        >(&self.version, &self.time_stamp, &self.batch_count)
+        >(state, &self.version, &self.time_stamp, &self.batch_count)
     }
-
-    ghost structured = { (refl, refl) };
 }
 
 /// What an item asks for (section 9.1.3.2.26).
@@ -766,6 +606,246 @@ pub mod operation {
     pub const DISCOVER_VERSIONS: Operation = Operation { number: 0x0000001E };
 }
 
+/// The rule that chooses `Operation::Create`.
+pub struct OperationCreateRule;
+
+impl Rule for OperationCreateRule {
+    ghost condition = { codes "0x42005C==0x00000001" };
+
+    fn name() -> &'static str {
+        "if 0x42005C==0x00000001"
+    }
+
+    #[tactic(auto, unfolding(kmip_ttlv_reader::specs::RuleParts::parts_of))]
+    fn parts() -> Option<RuleParts> {
+        texts_in(0x42005C, &["0x00000001"])
+    }
+}
+
+/// The rule that chooses `Operation::CreateKeyPair`.
+pub struct OperationCreateKeyPairRule;
+
+impl Rule for OperationCreateKeyPairRule {
+    ghost condition = { codes "0x42005C==0x00000002" };
+
+    fn name() -> &'static str {
+        "if 0x42005C==0x00000002"
+    }
+
+    #[tactic(auto, unfolding(kmip_ttlv_reader::specs::RuleParts::parts_of))]
+    fn parts() -> Option<RuleParts> {
+        texts_in(0x42005C, &["0x00000002"])
+    }
+}
+
+/// The rule that chooses `Operation::Register`.
+pub struct OperationRegisterRule;
+
+impl Rule for OperationRegisterRule {
+    ghost condition = { codes "0x42005C==0x00000003" };
+
+    fn name() -> &'static str {
+        "if 0x42005C==0x00000003"
+    }
+
+    #[tactic(auto, unfolding(kmip_ttlv_reader::specs::RuleParts::parts_of))]
+    fn parts() -> Option<RuleParts> {
+        texts_in(0x42005C, &["0x00000003"])
+    }
+}
+
+/// The rule that chooses `Operation::Locate`.
+pub struct OperationLocateRule;
+
+impl Rule for OperationLocateRule {
+    ghost condition = { codes "0x42005C==0x00000008" };
+
+    fn name() -> &'static str {
+        "if 0x42005C==0x00000008"
+    }
+
+    #[tactic(auto, unfolding(kmip_ttlv_reader::specs::RuleParts::parts_of))]
+    fn parts() -> Option<RuleParts> {
+        texts_in(0x42005C, &["0x00000008"])
+    }
+}
+
+/// The rule that chooses `Operation::Get`.
+pub struct OperationGetRule;
+
+impl Rule for OperationGetRule {
+    ghost condition = { codes "0x42005C==0x0000000A" };
+
+    fn name() -> &'static str {
+        "if 0x42005C==0x0000000A"
+    }
+
+    #[tactic(auto, unfolding(kmip_ttlv_reader::specs::RuleParts::parts_of))]
+    fn parts() -> Option<RuleParts> {
+        texts_in(0x42005C, &["0x0000000A"])
+    }
+}
+
+/// The rule that chooses `Operation::GetAttributes`.
+pub struct OperationGetAttributesRule;
+
+impl Rule for OperationGetAttributesRule {
+    ghost condition = { codes "0x42005C==0x0000000B" };
+
+    fn name() -> &'static str {
+        "if 0x42005C==0x0000000B"
+    }
+
+    #[tactic(auto, unfolding(kmip_ttlv_reader::specs::RuleParts::parts_of))]
+    fn parts() -> Option<RuleParts> {
+        texts_in(0x42005C, &["0x0000000B"])
+    }
+}
+
+/// The rule that chooses `Operation::GetAttributeList`.
+pub struct OperationGetAttributeListRule;
+
+impl Rule for OperationGetAttributeListRule {
+    ghost condition = { codes "0x42005C==0x0000000C" };
+
+    fn name() -> &'static str {
+        "if 0x42005C==0x0000000C"
+    }
+
+    #[tactic(auto, unfolding(kmip_ttlv_reader::specs::RuleParts::parts_of))]
+    fn parts() -> Option<RuleParts> {
+        texts_in(0x42005C, &["0x0000000C"])
+    }
+}
+
+/// The rule that chooses `Operation::AddAttribute`.
+pub struct OperationAddAttributeRule;
+
+impl Rule for OperationAddAttributeRule {
+    ghost condition = { codes "0x42005C==0x0000000D" };
+
+    fn name() -> &'static str {
+        "if 0x42005C==0x0000000D"
+    }
+
+    #[tactic(auto, unfolding(kmip_ttlv_reader::specs::RuleParts::parts_of))]
+    fn parts() -> Option<RuleParts> {
+        texts_in(0x42005C, &["0x0000000D"])
+    }
+}
+
+/// The rule that chooses `Operation::ModifyAttribute`.
+pub struct OperationModifyAttributeRule;
+
+impl Rule for OperationModifyAttributeRule {
+    ghost condition = { codes "0x42005C==0x0000000E" };
+
+    fn name() -> &'static str {
+        "if 0x42005C==0x0000000E"
+    }
+
+    #[tactic(auto, unfolding(kmip_ttlv_reader::specs::RuleParts::parts_of))]
+    fn parts() -> Option<RuleParts> {
+        texts_in(0x42005C, &["0x0000000E"])
+    }
+}
+
+/// The rule that chooses `Operation::DeleteAttribute`.
+pub struct OperationDeleteAttributeRule;
+
+impl Rule for OperationDeleteAttributeRule {
+    ghost condition = { codes "0x42005C==0x0000000F" };
+
+    fn name() -> &'static str {
+        "if 0x42005C==0x0000000F"
+    }
+
+    #[tactic(auto, unfolding(kmip_ttlv_reader::specs::RuleParts::parts_of))]
+    fn parts() -> Option<RuleParts> {
+        texts_in(0x42005C, &["0x0000000F"])
+    }
+}
+
+/// The rule that chooses `Operation::Activate`.
+pub struct OperationActivateRule;
+
+impl Rule for OperationActivateRule {
+    ghost condition = { codes "0x42005C==0x00000012" };
+
+    fn name() -> &'static str {
+        "if 0x42005C==0x00000012"
+    }
+
+    #[tactic(auto, unfolding(kmip_ttlv_reader::specs::RuleParts::parts_of))]
+    fn parts() -> Option<RuleParts> {
+        texts_in(0x42005C, &["0x00000012"])
+    }
+}
+
+/// The rule that chooses `Operation::Revoke`.
+pub struct OperationRevokeRule;
+
+impl Rule for OperationRevokeRule {
+    ghost condition = { codes "0x42005C==0x00000013" };
+
+    fn name() -> &'static str {
+        "if 0x42005C==0x00000013"
+    }
+
+    #[tactic(auto, unfolding(kmip_ttlv_reader::specs::RuleParts::parts_of))]
+    fn parts() -> Option<RuleParts> {
+        texts_in(0x42005C, &["0x00000013"])
+    }
+}
+
+/// The rule that chooses `Operation::Destroy`.
+pub struct OperationDestroyRule;
+
+impl Rule for OperationDestroyRule {
+    ghost condition = { codes "0x42005C==0x00000014" };
+
+    fn name() -> &'static str {
+        "if 0x42005C==0x00000014"
+    }
+
+    #[tactic(auto, unfolding(kmip_ttlv_reader::specs::RuleParts::parts_of))]
+    fn parts() -> Option<RuleParts> {
+        texts_in(0x42005C, &["0x00000014"])
+    }
+}
+
+/// The rule that chooses `Operation::Query`.
+pub struct OperationQueryRule;
+
+impl Rule for OperationQueryRule {
+    ghost condition = { codes "0x42005C==0x00000018" };
+
+    fn name() -> &'static str {
+        "if 0x42005C==0x00000018"
+    }
+
+    #[tactic(auto, unfolding(kmip_ttlv_reader::specs::RuleParts::parts_of))]
+    fn parts() -> Option<RuleParts> {
+        texts_in(0x42005C, &["0x00000018"])
+    }
+}
+
+/// The rule that chooses `Operation::DiscoverVersions`.
+pub struct OperationDiscoverVersionsRule;
+
+impl Rule for OperationDiscoverVersionsRule {
+    ghost condition = { codes "0x42005C==0x0000001E" };
+
+    fn name() -> &'static str {
+        "if 0x42005C==0x0000001E"
+    }
+
+    #[tactic(auto, unfolding(kmip_ttlv_reader::specs::RuleParts::parts_of))]
+    fn parts() -> Option<RuleParts> {
+        texts_in(0x42005C, &["0x0000001E"])
+    }
+}
+
 /// What a vendor adds (section 6.16). Its Vendor Extension is ignored, and lost when it is encoded again.
 #[derive(Drop)]
 #[derive_where(PartialEq)]
@@ -778,42 +858,31 @@ pub struct MessageExtension<A: Allocator = Global> {
 
 type MessageExtensionParts<A> = (Leaf<String<A>, 0x42009D>, Leaf<bool, 0x420026>);
 
-impl<A: Allocator + Copy> Structure<A> for MessageExtension<A> {
-    ghost item = { structure 0x420051 false (of (λ x. (x.vendor_identification, x.criticality_indicator)) ⟦<MessageExtensionParts<A> as PartList<A>>⟧.rules) refl
-        ⟦<MessageExtension<A> as PartialEq>⟧.eq (λ x y e. e) };
+impl<A: Allocator + Copy> FromParts<A, MessageExtensionParts<A>> for MessageExtension<A> {
+    ghost parts = { λ x. (x.vendor_identification, x.criticality_indicator) };
 
-    fn number() -> u32 {
-        0x420051
-    }
-
-    fn read_nested<'b>(scope: &Scope<'b, A>, cursor: &mut Cursor<'b, A>) -> Step<Self, A> {
-        match read_parts::<MessageExtensionParts<A>, A>(scope, 0x420051, false, cursor) {
-            Ok(parts) => {
-                let (vendor_identification, criticality_indicator) = parts;
-                Ok(MessageExtension {
-                    vendor_identification,
-                    criticality_indicator,
-                })
-            }
-            Err(failure) => Err(failure),
+    fn from_parts(
+        (vendor_identification, criticality_indicator): Holds<MessageExtensionParts<A>, A>,
+    ) -> Self {
+        MessageExtension {
+            vendor_identification,
+            criticality_indicator,
         }
     }
+}
 
-    fn visit_parts<V: Visitor>(&self, visitor: &mut V) -> Result<(), AllocError> {
-        visit_structure_two::<Leaf<String<A>, 0x42009D>, Leaf<bool, 0x420026>, V, A>(
-            visitor,
-            0x420051,
+impl<A: Allocator + Copy> Structure<A> for MessageExtension<A> {
+    ghost rules = { structure false ⟦<MessageExtensionParts<A> as PartList<A>>⟧.rules ⟦<MessageExtension<A> as FromParts<A, MessageExtensionParts<A>>>⟧.parts refl ⟦<MessageExtension<A> as PartialEq>⟧.eq (λ x y e. e) };
+
+    fn read<'b>(scope: &Scope<'b, A>, tag: u32, cursor: &mut Cursor<'b, A>) -> Step<Self, A> {
+        read_structure::<MessageExtensionParts<A>, Self, A>(scope, tag, false, cursor)
+    }
+
+    fn tell_parts<W: Walk<A>>(&self, state: &mut W::State) -> Result<(), AllocError> {
+        W::two::<Leaf<String<A>, 0x42009D>, Leaf<bool, 0x420026>>(
+            state,
             &self.vendor_identification,
             &self.criticality_indicator,
         )
     }
-
-    fn is_whole(&self) -> bool {
-        are_whole_two::<Leaf<String<A>, 0x42009D>, Leaf<bool, 0x420026>, A>(
-            &self.vendor_identification,
-            &self.criticality_indicator,
-        )
-    }
-
-    ghost structured = { (refl, refl) };
 }

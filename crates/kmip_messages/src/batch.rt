@@ -6,7 +6,7 @@ use crate::request::{Request, RequestItem};
 use crate::response::Response;
 use kmip_headers::header::Operation;
 use kmip_requests::request_payload::RequestPayload;
-use kmip_ttlv_kinds::Structure;
+use kmip_ttlv_kinds::{Structure, is_structure_whole};
 use std::alloc::Allocator;
 
 impl<A: Allocator> RequestItem<A> {
@@ -47,10 +47,11 @@ pub trait Batch<A: Allocator + Copy>: Structure<A> {
 
     /// Whether the message is sound, so each item has the payload of its operation (in a response, if it has one), and its Batch Count
     /// is the number of its items.
+    #[tactic(auto, unfolding(kmip_ttlv_kinds::specs::Parts::IsWithinSound))]
     fn is_consistent(&self) -> bool
-        ensures { IsTrue result ↔ (Self.Structure.item.rules.IsSound self.now × IsCounted self.now) }
+        ensures { IsTrue result ↔ (Self.Structure.rules.IsSound self.now × IsCounted self.now) }
     {
-        self.is_whole() && self.is_counted()
+        is_structure_whole(self) && self.is_counted()
     }
 }
 

@@ -2,18 +2,21 @@
 //! A request: what its items ask for (KMIP 1.0, section 7).
 
 ghost use Rattle.std.specs.Prelude.{◌≡◌, refl, true};
-ghost use Rattle.kmip_ttlv_kinds.specs.Parts.{of, structure, structure_where};
-ghost use Rattle.kmip_requests.specs.Choices.{ChoosesRequestPayloadNumber, request_payload_numbered};
+ghost use Rattle.std.proofs.Common.{ap};
+ghost use Rattle.kmip_ttlv_parts.specs.Returns.{text_of_number};
+ghost use Rattle.kmip_ttlv_kinds.specs.Parts.{structure, structure_where};
+ghost use Rattle.kmip_requests.specs.Choices.{request_payload_chosen_by};
 
+use kmip_attributes::values::State;
 use kmip_headers::header::{MessageExtension, Operation, RequestHeader};
 use kmip_requests::request_payload::RequestPayload;
 use kmip_ttlv::error::Error;
 use kmip_ttlv::laws::{Message, Sound};
 use kmip_ttlv::shape::{Decode, Serialize};
 use kmip_ttlv_kinds::{
-    Maybe, MaybeLeaf, Of, One, OneOf, PartList, Several, Structure, are_whole_four, are_whole_two,
-    both, read_message_parts, read_parts, structures_come_back, visit_structure_four,
-    visit_structure_two,
+    Decided, Element, FromParts, Holds, Maybe, MaybeLeaf, Of, One, OneOf, PartList, Several,
+    Structure, Walk, decode_structure, is_structure_whole, read_structure, structures_come_back,
+    visit_structure,
 };
 use kmip_ttlv_parts::reader::{Cursor, Scope, Step};
 use kmip_ttlv_parts::visit::Visitor;
@@ -33,73 +36,63 @@ pub struct RequestItem<A: Allocator = Global> {
     pub message_extension: Option<MessageExtension<A>>,
 }
 
+impl<A: Allocator> Decided for RequestItem<A> {
+    ghost IsDecided = { λ x. (x.operation.number ≡ request_payload_chosen_by x.payload) };
+
+    fn is_decided(&self) -> bool {
+        self.payload.chosen_by() == self.operation.number
+    }
+}
+
 type RequestItemParts<A> = (
     One<Operation>,
     MaybeLeaf<Vec<u8, A>, 0x420093>,
     OneOf<RequestPayload<A>, 0x420079>,
-    Maybe<Of<MessageExtension<A>>, 0x420051>,
+    Maybe<Of<MessageExtension<A>, 0x420051>, 0x420051>,
 );
 
-impl<A: Allocator + Copy> Structure<A> for RequestItem<A> {
-    ghost item = { structure_where 0x42000F true (of (λ x. (x.operation, x.unique_batch_item_id, x.payload, x.message_extension)) ⟦<RequestItemParts<A> as PartList<A>>⟧.rules) refl
-        (λ x. ChoosesRequestPayloadNumber x.operation.number x.payload) (λ x d. (tt, (tt, (request_payload_numbered x.operation.number x.payload d, (tt)))))
-        ⟦<RequestItem<A> as PartialEq>⟧.eq (λ x y e. e) };
+impl<A: Allocator + Copy> FromParts<A, RequestItemParts<A>> for RequestItem<A> {
+    ghost parts = { λ x. (x.operation, x.unique_batch_item_id, x.payload, x.message_extension) };
 
-    fn number() -> u32 {
-        0x42000F
-    }
-
-    fn read_nested<'b>(scope: &Scope<'b, A>, cursor: &mut Cursor<'b, A>) -> Step<Self, A> {
-        match read_parts::<RequestItemParts<A>, A>(scope, 0x42000F, true, cursor) {
-            Ok(parts) => {
-                let (operation, unique_batch_item_id, payload, message_extension) = parts;
-                Ok(RequestItem {
-                    operation,
-                    unique_batch_item_id,
-                    payload,
-                    message_extension,
-                })
-            }
-            Err(failure) => Err(failure),
+    fn from_parts(
+        (operation, unique_batch_item_id, payload, message_extension): Holds<
+            RequestItemParts<A>,
+            A,
+        >,
+    ) -> Self {
+        RequestItem {
+            operation,
+            unique_batch_item_id,
+            payload,
+            message_extension,
         }
     }
+}
 
-    fn visit_parts<V: Visitor>(&self, visitor: &mut V) -> Result<(), AllocError> {
-        visit_structure_four::<
+impl<A: Allocator + Copy> Structure<A> for RequestItem<A> {
+    ghost rules = { structure_where true ⟦<RequestItemParts<A> as PartList<A>>⟧.rules ⟦<RequestItem<A> as FromParts<A, RequestItemParts<A>>>⟧.parts refl
+        (λ x. (x.operation.number ≡ request_payload_chosen_by x.payload)) (λ x d. (tt, (tt, (ap text_of_number d, (tt))))) ⟦<RequestItem<A> as PartialEq>⟧.eq (λ x y e. e) };
+
+    fn read<'b>(scope: &Scope<'b, A>, tag: u32, cursor: &mut Cursor<'b, A>) -> Step<Self, A> {
+        read_structure::<RequestItemParts<A>, Self, A>(scope, tag, true, cursor)
+    }
+
+    fn tell_parts<W: Walk<A>>(&self, state: &mut W::State) -> Result<(), AllocError> {
+        W::four::<
             One<Operation>,
             MaybeLeaf<Vec<u8, A>, 0x420093>,
             OneOf<RequestPayload<A>, 0x420079>,
-            Maybe<Of<MessageExtension<A>>, 0x420051>,
-            V,
-            A,
+            Maybe<Of<MessageExtension<A>, 0x420051>, 0x420051>,
         >(
-            visitor,
-            0x42000F,
+            state,
             &self.operation,
             &self.unique_batch_item_id,
             &self.payload,
             &self.message_extension,
-        )
+        )?;
+        W::check(state, self);
+        Ok(())
     }
-
-    fn is_whole(&self) -> bool {
-        let parts = are_whole_four::<
-            One<Operation>,
-            MaybeLeaf<Vec<u8, A>, 0x420093>,
-            OneOf<RequestPayload<A>, 0x420079>,
-            Maybe<Of<MessageExtension<A>>, 0x420051>,
-            A,
-        >(
-            &self.operation,
-            &self.unique_batch_item_id,
-            &self.payload,
-            &self.message_extension,
-        );
-        let chosen = self.payload.is_chosen_by_number(self.operation.number);
-        both(parts, chosen)
-    }
-
-    ghost structured = { (refl, refl) };
 }
 
 /// A request (section 7.1).
@@ -113,81 +106,61 @@ pub struct Request<A: Allocator = Global> {
 }
 
 type RequestParts<A> = (
-    One<Of<RequestHeader<A>>>,
-    Several<Of<RequestItem<A>>, 0x42000F>,
+    One<Of<RequestHeader<A>, 0x420077>>,
+    Several<Of<RequestItem<A>, 0x42000F>, 0x42000F>,
 );
 
+impl<A: Allocator + Copy> FromParts<A, RequestParts<A>> for Request<A> {
+    ghost parts = { λ x. (x.header, x.items) };
+
+    fn from_parts((header, items): Holds<RequestParts<A>, A>) -> Self {
+        Request { header, items }
+    }
+}
+
 impl<A: Allocator + Copy> Structure<A> for Request<A> {
-    ghost item = { structure 0x420078 true (of (λ x. (x.header, x.items)) ⟦<RequestParts<A> as PartList<A>>⟧.rules) refl
-        ⟦<Request<A> as PartialEq>⟧.eq (λ x y e. e) };
+    ghost rules = { structure true ⟦<RequestParts<A> as PartList<A>>⟧.rules ⟦<Request<A> as FromParts<A, RequestParts<A>>>⟧.parts refl ⟦<Request<A> as PartialEq>⟧.eq (λ x y e. e) };
 
-    fn number() -> u32 {
-        0x420078
+    fn read<'b>(scope: &Scope<'b, A>, tag: u32, cursor: &mut Cursor<'b, A>) -> Step<Self, A> {
+        read_structure::<RequestParts<A>, Self, A>(scope, tag, true, cursor)
     }
 
-    fn read_nested<'b>(scope: &Scope<'b, A>, cursor: &mut Cursor<'b, A>) -> Step<Self, A> {
-        match read_parts::<RequestParts<A>, A>(scope, 0x420078, true, cursor) {
-            Ok(parts) => {
-                let (header, items) = parts;
-                Ok(Request { header, items })
-            }
-            Err(failure) => Err(failure),
-        }
+    fn tell_parts<W: Walk<A>>(&self, state: &mut W::State) -> Result<(), AllocError> {
+        W::two::<
+            One<Of<RequestHeader<A>, 0x420077>>,
+            Several<Of<RequestItem<A>, 0x42000F>, 0x42000F>,
+        >(state, &self.header, &self.items)
     }
-
-    fn visit_parts<V: Visitor>(&self, visitor: &mut V) -> Result<(), AllocError> {
-        visit_structure_two::<
-            One<Of<RequestHeader<A>>>,
-            Several<Of<RequestItem<A>>, 0x42000F>,
-            V,
-            A,
-        >(visitor, 0x420078, &self.header, &self.items)
-    }
-
-    fn is_whole(&self) -> bool {
-        are_whole_two::<One<Of<RequestHeader<A>>>, Several<Of<RequestItem<A>>, 0x42000F>, A>(
-            &self.header,
-            &self.items,
-        )
-    }
-
-    ghost structured = { (refl, refl) };
 }
 
 impl<A: Allocator + Copy> Serialize for Request<A> {
-    ghost stated = { ⟦<Request<A> as Structure<A>>⟧.item.rules.written };
+    ghost stated = { ⟦<Of<Request<A>, 0x420078> as Element<A>>⟧.rules.written };
 
     fn visit<V: Visitor>(&self, visitor: &mut V) -> Result<(), AllocError> {
-        <Request<A> as Structure<A>>::visit_parts(self, visitor)
+        visit_structure(self, 0x420078, visitor)
     }
 }
 
 impl<A: Allocator + Copy> Decode<A> for Request<A> {
-    ghost form = { ⟦<Request<A> as Structure<A>>⟧.item.form };
+    ghost form = { ⟦<Of<Request<A>, 0x420078> as Element<A>>⟧.form };
 
-    ghost is_value = { λ v x. v ≡ ⟦<Request<A> as Structure<A>>⟧.item.value x };
+    ghost is_value = { λ v x. v ≡ ⟦<Of<Request<A>, 0x420078> as Element<A>>⟧.value x };
 
     fn decode(alloc: A, bytes: &[u8]) -> Result<Self, Error<A>> {
-        match read_message_parts::<RequestParts<A>, A>(alloc, 0x420078, true, bytes) {
-            Ok(parts) => {
-                let (header, items) = parts;
-                Ok(Request { header, items })
-            }
-            Err(error) => Err(error),
-        }
+        decode_structure::<RequestParts<A>, Self, A>(alloc, 0x420078, true, bytes)
     }
 }
 
 impl<A: Allocator + Copy> Sound for Request<A> {
-    ghost IsSound = { ⟦<Request<A> as Structure<A>>⟧.item.rules.IsSound };
+    ghost IsSound = { ⟦<Of<Request<A>, 0x420078> as Element<A>>⟧.rules.IsSound };
 
     fn is_sound(&self) -> bool {
-        <Request<A> as Structure<A>>::is_whole(self)
+        is_structure_whole(self)
     }
 }
 
 impl<A: Allocator + Copy> Message<A> for Request<A> {
     fn comes_back() {
-        structures_come_back::<Request<A>, A>();
+        structures_come_back::<Request<A>, 0x420078, A>();
     }
 }

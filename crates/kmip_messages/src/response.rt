@@ -1,23 +1,24 @@
 // Written by codegen from types.table: change that, and run codegen/codegen.
 //! A response: what became of each item (KMIP 1.0, section 7).
 
-ghost use Rattle.std.specs.Prelude.{◌≡◌, ◌↔◌, ◌+◌, None, IfSome, IsTrue, Some, false, refl, true};
+ghost use Rattle.std.specs.Prelude.{◌≡◌, IfSome, refl, true};
 ghost use Rattle.std.specs.Option.{IsSomeAnd};
-ghost use Rattle.kmip_ttlv_kinds.specs.Parts.{of, structure, structure_where};
-ghost use Rattle.kmip_responses.specs.Choices.{ChoosesResponsePayloadNumber, response_payload_numbered_where};
+ghost use Rattle.kmip_ttlv_kinds.specs.Parts.{structure, structure_where};
+ghost use Rattle.kmip_ttlv_kinds.specs.Choices.{numbered_where};
+ghost use Rattle.kmip_responses.specs.Choices.{response_payload_chosen_by};
 
+use kmip_attributes::values::State;
 use kmip_headers::header::{MessageExtension, Operation, ResponseHeader};
 use kmip_responses::response_payload::ResponsePayload;
 use kmip_ttlv::error::Error;
 use kmip_ttlv::laws::{Message, Sound};
 use kmip_ttlv::shape::{Decode, Serialize};
 use kmip_ttlv_kinds::{
-    Four, Maybe, MaybeLeaf, MaybeOneOf, Of, One, PartList, Several, Structure, are_whole_four,
-    are_whole_two, both, read_message_parts, read_parts, structures_come_back, visit_four,
-    visit_structure_two,
+    Decided, Element, Four, FromParts, Holds, Maybe, MaybeLeaf, MaybeOneOf, Of, One, PartList,
+    Several, Structure, Walk, decode_structure, is_structure_whole, read_structure,
+    structures_come_back, visit_structure,
 };
 use kmip_ttlv_parts::Enumeration;
-use kmip_ttlv_parts::messages::writing;
 use kmip_ttlv_parts::reader::{Cursor, Scope, Step};
 use kmip_ttlv_parts::visit::Visitor;
 use std::alloc::{AllocError, Allocator, Global};
@@ -110,127 +111,95 @@ pub struct ResponseItem<A: Allocator = Global> {
     pub message_extension: Option<MessageExtension<A>>,
 }
 
-impl<A: Allocator> ResponseItem<A> {
-    // Whether `operation` chooses `payload`, if that is there.
-    fn is_payload_chosen(&self) -> bool
-        ensures { IsTrue result ↔ IfSome self.now.payload (λ y. IsSomeAnd self.now.operation (λ z. ChoosesResponsePayloadNumber z.number y)) }
-    {
+impl<A: Allocator> Decided for ResponseItem<A> {
+    ghost IsDecided = { λ x. IfSome x.payload (λ y. IsSomeAnd x.operation (λ z. z.number ≡ response_payload_chosen_by y)) };
+
+    fn is_decided(&self) -> bool {
         match (&self.operation, &self.payload) {
-            (Some(said), Some(inner)) => inner.is_chosen_by_number(said.number),
+            (Some(said), Some(inner)) => inner.chosen_by() == said.number,
             (None, Some(_)) => false,
             (_, None) => true,
         }
     }
 }
 
-type ResponseItemParts<A> = Four<
+type ResponseItemFirst<A> = (
     Maybe<Operation, 0x42005C>,
     MaybeLeaf<Vec<u8, A>, 0x420093>,
     One<ResultStatus>,
     Maybe<ResultReason, 0x42007E>,
-    (
-        MaybeLeaf<String<A>, 0x42007D>,
-        MaybeLeaf<Vec<u8, A>, 0x420006>,
-        MaybeOneOf<ResponsePayload<A>, 0x42007C>,
-        Maybe<Of<MessageExtension<A>>, 0x420051>,
-    ),
->;
+);
 
-impl<A: Allocator + Copy> Structure<A> for ResponseItem<A> {
-    ghost item = { structure_where 0x42000F true (of (λ x. (x.operation, x.unique_batch_item_id, x.result_status, x.result_reason, (x.result_message, x.asynchronous_correlation_value, x.payload, x.message_extension))) ⟦<ResponseItemParts<A> as PartList<A>>⟧.rules) refl
-        (λ x. IfSome x.payload (λ y. IsSomeAnd x.operation (λ z. ChoosesResponsePayloadNumber z.number y))) (λ x d. (tt, (tt, (tt, (tt, (tt, (tt, (response_payload_numbered_where x.operation x.payload d, (tt)))))))))
-        ⟦<ResponseItem<A> as PartialEq>⟧.eq (λ x y e. e) };
+type ResponseItemSecond<A> = (
+    MaybeLeaf<String<A>, 0x42007D>,
+    MaybeLeaf<Vec<u8, A>, 0x420006>,
+    MaybeOneOf<ResponsePayload<A>, 0x42007C>,
+    Maybe<Of<MessageExtension<A>, 0x420051>, 0x420051>,
+);
 
-    fn number() -> u32 {
-        0x42000F
-    }
+type ResponseItemParts<A> = Four<ResponseItemFirst<A>, ResponseItemSecond<A>>;
 
-    fn read_nested<'b>(scope: &Scope<'b, A>, cursor: &mut Cursor<'b, A>) -> Step<Self, A> {
-        match read_parts::<ResponseItemParts<A>, A>(scope, 0x42000F, true, cursor) {
-            Ok(parts) => {
-                let (operation, unique_batch_item_id, result_status, result_reason, others) = parts;
-                let (result_message, asynchronous_correlation_value, payload, message_extension) =
-                    others;
-                Ok(ResponseItem {
-                    operation,
-                    unique_batch_item_id,
-                    result_status,
-                    result_reason,
-                    result_message,
-                    asynchronous_correlation_value,
-                    payload,
-                    message_extension,
-                })
-            }
-            Err(failure) => Err(failure),
+impl<A: Allocator + Copy> FromParts<A, ResponseItemParts<A>> for ResponseItem<A> {
+    ghost parts = { λ x. (x.operation, x.unique_batch_item_id, x.result_status, x.result_reason, (x.result_message, x.asynchronous_correlation_value, x.payload, x.message_extension)) };
+
+    fn from_parts(
+        (
+            operation,
+            unique_batch_item_id,
+            result_status,
+            result_reason,
+            (result_message, asynchronous_correlation_value, payload, message_extension),
+        ): Holds<ResponseItemParts<A>, A>,
+    ) -> Self {
+        ResponseItem {
+            operation,
+            unique_batch_item_id,
+            result_status,
+            result_reason,
+            result_message,
+            asynchronous_correlation_value,
+            payload,
+            message_extension,
         }
     }
+}
 
-    fn visit_parts<V: Visitor>(&self, visitor: &mut V) -> Result<(), AllocError> {
-        writing::begin_structure(visitor, 0x42000F)?;
-        visit_four::<
+impl<A: Allocator + Copy> Structure<A> for ResponseItem<A> {
+    ghost rules = { structure_where true ⟦<ResponseItemParts<A> as PartList<A>>⟧.rules ⟦<ResponseItem<A> as FromParts<A, ResponseItemParts<A>>>⟧.parts refl
+        (λ x. IfSome x.payload (λ y. IsSomeAnd x.operation (λ z. z.number ≡ response_payload_chosen_by y))) (λ x d. (tt, (tt, (tt, (tt, (tt, (tt, (numbered_where response_payload_chosen_by x.operation x.payload d, (tt))))))))) ⟦<ResponseItem<A> as PartialEq>⟧.eq (λ x y e. e) };
+
+    fn read<'b>(scope: &Scope<'b, A>, tag: u32, cursor: &mut Cursor<'b, A>) -> Step<Self, A> {
+        read_structure::<ResponseItemParts<A>, Self, A>(scope, tag, true, cursor)
+    }
+
+    fn tell_parts<W: Walk<A>>(&self, state: &mut W::State) -> Result<(), AllocError> {
+        W::four::<
             Maybe<Operation, 0x42005C>,
             MaybeLeaf<Vec<u8, A>, 0x420093>,
             One<ResultStatus>,
             Maybe<ResultReason, 0x42007E>,
-            V,
-            A,
         >(
-            visitor,
+            state,
             &self.operation,
             &self.unique_batch_item_id,
             &self.result_status,
             &self.result_reason,
         )?;
-        visit_four::<
+        W::four::<
             MaybeLeaf<String<A>, 0x42007D>,
             MaybeLeaf<Vec<u8, A>, 0x420006>,
             MaybeOneOf<ResponsePayload<A>, 0x42007C>,
-            Maybe<Of<MessageExtension<A>>, 0x420051>,
-            V,
-            A,
+            Maybe<Of<MessageExtension<A>, 0x420051>, 0x420051>,
         >(
-            visitor,
+            state,
             &self.result_message,
             &self.asynchronous_correlation_value,
             &self.payload,
             &self.message_extension,
         )?;
-        writing::end_structure(visitor, 0x42000F)?;
+        W::check(state, self);
         Ok(())
     }
-
-    fn is_whole(&self) -> bool {
-        let first_four = are_whole_four::<
-            Maybe<Operation, 0x42005C>,
-            MaybeLeaf<Vec<u8, A>, 0x420093>,
-            One<ResultStatus>,
-            Maybe<ResultReason, 0x42007E>,
-            A,
-        >(
-            &self.operation,
-            &self.unique_batch_item_id,
-            &self.result_status,
-            &self.result_reason,
-        );
-        let others = are_whole_four::<
-            MaybeLeaf<String<A>, 0x42007D>,
-            MaybeLeaf<Vec<u8, A>, 0x420006>,
-            MaybeOneOf<ResponsePayload<A>, 0x42007C>,
-            Maybe<Of<MessageExtension<A>>, 0x420051>,
-            A,
-        >(
-            &self.result_message,
-            &self.asynchronous_correlation_value,
-            &self.payload,
-            &self.message_extension,
-        );
-        let parts = both(first_four, others);
-        let chosen = self.is_payload_chosen();
-        both(parts, chosen)
-    }
-
-    ghost structured = { (refl, refl) };
 }
 
 /// A response (section 7.1).
@@ -244,81 +213,61 @@ pub struct Response<A: Allocator = Global> {
 }
 
 type ResponseParts<A> = (
-    One<Of<ResponseHeader>>,
-    Several<Of<ResponseItem<A>>, 0x42000F>,
+    One<Of<ResponseHeader, 0x42007A>>,
+    Several<Of<ResponseItem<A>, 0x42000F>, 0x42000F>,
 );
 
+impl<A: Allocator + Copy> FromParts<A, ResponseParts<A>> for Response<A> {
+    ghost parts = { λ x. (x.header, x.items) };
+
+    fn from_parts((header, items): Holds<ResponseParts<A>, A>) -> Self {
+        Response { header, items }
+    }
+}
+
 impl<A: Allocator + Copy> Structure<A> for Response<A> {
-    ghost item = { structure 0x42007B true (of (λ x. (x.header, x.items)) ⟦<ResponseParts<A> as PartList<A>>⟧.rules) refl
-        ⟦<Response<A> as PartialEq>⟧.eq (λ x y e. e) };
+    ghost rules = { structure true ⟦<ResponseParts<A> as PartList<A>>⟧.rules ⟦<Response<A> as FromParts<A, ResponseParts<A>>>⟧.parts refl ⟦<Response<A> as PartialEq>⟧.eq (λ x y e. e) };
 
-    fn number() -> u32 {
-        0x42007B
+    fn read<'b>(scope: &Scope<'b, A>, tag: u32, cursor: &mut Cursor<'b, A>) -> Step<Self, A> {
+        read_structure::<ResponseParts<A>, Self, A>(scope, tag, true, cursor)
     }
 
-    fn read_nested<'b>(scope: &Scope<'b, A>, cursor: &mut Cursor<'b, A>) -> Step<Self, A> {
-        match read_parts::<ResponseParts<A>, A>(scope, 0x42007B, true, cursor) {
-            Ok(parts) => {
-                let (header, items) = parts;
-                Ok(Response { header, items })
-            }
-            Err(failure) => Err(failure),
-        }
+    fn tell_parts<W: Walk<A>>(&self, state: &mut W::State) -> Result<(), AllocError> {
+        W::two::<
+            One<Of<ResponseHeader, 0x42007A>>,
+            Several<Of<ResponseItem<A>, 0x42000F>, 0x42000F>,
+        >(state, &self.header, &self.items)
     }
-
-    fn visit_parts<V: Visitor>(&self, visitor: &mut V) -> Result<(), AllocError> {
-        visit_structure_two::<
-            One<Of<ResponseHeader>>,
-            Several<Of<ResponseItem<A>>, 0x42000F>,
-            V,
-            A,
-        >(visitor, 0x42007B, &self.header, &self.items)
-    }
-
-    fn is_whole(&self) -> bool {
-        are_whole_two::<One<Of<ResponseHeader>>, Several<Of<ResponseItem<A>>, 0x42000F>, A>(
-            &self.header,
-            &self.items,
-        )
-    }
-
-    ghost structured = { (refl, refl) };
 }
 
 impl<A: Allocator + Copy> Serialize for Response<A> {
-    ghost stated = { ⟦<Response<A> as Structure<A>>⟧.item.rules.written };
+    ghost stated = { ⟦<Of<Response<A>, 0x42007B> as Element<A>>⟧.rules.written };
 
     fn visit<V: Visitor>(&self, visitor: &mut V) -> Result<(), AllocError> {
-        <Response<A> as Structure<A>>::visit_parts(self, visitor)
+        visit_structure(self, 0x42007B, visitor)
     }
 }
 
 impl<A: Allocator + Copy> Decode<A> for Response<A> {
-    ghost form = { ⟦<Response<A> as Structure<A>>⟧.item.form };
+    ghost form = { ⟦<Of<Response<A>, 0x42007B> as Element<A>>⟧.form };
 
-    ghost is_value = { λ v x. v ≡ ⟦<Response<A> as Structure<A>>⟧.item.value x };
+    ghost is_value = { λ v x. v ≡ ⟦<Of<Response<A>, 0x42007B> as Element<A>>⟧.value x };
 
     fn decode(alloc: A, bytes: &[u8]) -> Result<Self, Error<A>> {
-        match read_message_parts::<ResponseParts<A>, A>(alloc, 0x42007B, true, bytes) {
-            Ok(parts) => {
-                let (header, items) = parts;
-                Ok(Response { header, items })
-            }
-            Err(error) => Err(error),
-        }
+        decode_structure::<ResponseParts<A>, Self, A>(alloc, 0x42007B, true, bytes)
     }
 }
 
 impl<A: Allocator + Copy> Sound for Response<A> {
-    ghost IsSound = { ⟦<Response<A> as Structure<A>>⟧.item.rules.IsSound };
+    ghost IsSound = { ⟦<Of<Response<A>, 0x42007B> as Element<A>>⟧.rules.IsSound };
 
     fn is_sound(&self) -> bool {
-        <Response<A> as Structure<A>>::is_whole(self)
+        is_structure_whole(self)
     }
 }
 
 impl<A: Allocator + Copy> Message<A> for Response<A> {
     fn comes_back() {
-        structures_come_back::<Response<A>, A>();
+        structures_come_back::<Response<A>, 0x42007B, A>();
     }
 }

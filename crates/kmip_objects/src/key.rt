@@ -2,26 +2,21 @@
 //! A key: its bytes, and how they are wrapped (KMIP 1.0, sections 2.1.3 to 2.1.5).
 
 ghost use Rattle.std.specs.Prelude.{codes, refl, true};
-ghost use Rattle.kmip_ttlv_kinds.specs.Parts.{of, structure};
+ghost use Rattle.kmip_ttlv_kinds.specs.Parts.{structure};
 ghost use Rattle.kmip_ttlv_kinds.specs.Choices.{held};
 ghost use Rattle.kmip_objects.specs.Choices.{key_material_choice, key_value_choice};
 
 use kmip_attributes::attribute::Attribute;
 use kmip_attributes::values::{
     BlockCipherMode, CryptographicAlgorithm, HashingAlgorithm, KeyFormatType, KeyRoleType,
-    PaddingMethod,
+    PaddingMethod, State,
 };
 use kmip_ttlv_kinds::{
-    Alone, Any, AsElement, Choice, Element, Four, Leaf, LeafItem, Maybe, MaybeLeaf, Of, One, OneOf,
-    PartList, Structure, are_whole_four, are_whole_one, are_whole_two, both, read_parts,
-    visit_four, visit_structure_four, visit_structure_one, visit_structure_two, visit_two,
+    Alone, Any, AsElement, Case, Choice, Element, Four, FromParts, Holds, InBox, Leaf, LeafItem,
+    Maybe, MaybeLeaf, Of, One, OneOf, PartList, Structure, Walk, read_structure,
 };
-use kmip_ttlv_parts::messages::writing;
-use kmip_ttlv_parts::reader::{
-    ChoiceValue, Cursor, Rule, RuleParts, Scope, Step, Variant, VariantOf,
-};
+use kmip_ttlv_parts::reader::{ChoiceValue, Cursor, Rule, RuleParts, Scope, Step, VariantOf};
 use kmip_ttlv_parts::types::TtlvType;
-use kmip_ttlv_parts::visit::Visitor;
 use kmip_ttlv_parts::{Boxed, Enumeration, reader};
 use std::alloc::{AllocError, Allocator, Global};
 
@@ -102,63 +97,45 @@ type WrappingParametersParts = (
     Maybe<KeyRoleType, 0x420083>,
 );
 
-impl<A: Allocator + Copy> Structure<A> for WrappingParameters {
-    ghost item = { structure 0x42002B true (of (λ x. (x.block_cipher_mode, x.padding_method, x.hashing_algorithm, x.key_role_type)) ⟦<WrappingParametersParts as PartList<A>>⟧.rules) refl
-        ⟦<WrappingParameters as PartialEq>⟧.eq (λ x y e. e) };
+impl<A: Allocator + Copy> FromParts<A, WrappingParametersParts> for WrappingParameters {
+    ghost parts = { λ x. (x.block_cipher_mode, x.padding_method, x.hashing_algorithm, x.key_role_type) };
 
-    fn number() -> u32 {
-        0x42002B
-    }
-
-    fn read_nested<'b>(scope: &Scope<'b, A>, cursor: &mut Cursor<'b, A>) -> Step<Self, A> {
-        match read_parts::<WrappingParametersParts, A>(scope, 0x42002B, true, cursor) {
-            Ok(parts) => {
-                let (block_cipher_mode, padding_method, hashing_algorithm, key_role_type) = parts;
-                Ok(WrappingParameters {
-                    block_cipher_mode,
-                    padding_method,
-                    hashing_algorithm,
-                    key_role_type,
-                })
-            }
-            Err(failure) => Err(failure),
+    fn from_parts(
+        (block_cipher_mode, padding_method, hashing_algorithm, key_role_type): Holds<
+            WrappingParametersParts,
+            A,
+        >,
+    ) -> Self {
+        WrappingParameters {
+            block_cipher_mode,
+            padding_method,
+            hashing_algorithm,
+            key_role_type,
         }
     }
+}
 
-    fn visit_parts<V: Visitor>(&self, visitor: &mut V) -> Result<(), AllocError> {
-        visit_structure_four::<
+impl<A: Allocator + Copy> Structure<A> for WrappingParameters {
+    ghost rules = { structure true ⟦<WrappingParametersParts as PartList<A>>⟧.rules ⟦<WrappingParameters as FromParts<A, WrappingParametersParts>>⟧.parts refl ⟦<WrappingParameters as PartialEq>⟧.eq (λ x y e. e) };
+
+    fn read<'b>(scope: &Scope<'b, A>, tag: u32, cursor: &mut Cursor<'b, A>) -> Step<Self, A> {
+        read_structure::<WrappingParametersParts, Self, A>(scope, tag, true, cursor)
+    }
+
+    fn tell_parts<W: Walk<A>>(&self, state: &mut W::State) -> Result<(), AllocError> {
+        W::four::<
             Maybe<BlockCipherMode, 0x420011>,
             Maybe<PaddingMethod, 0x42005F>,
             Maybe<HashingAlgorithm, 0x420038>,
             Maybe<KeyRoleType, 0x420083>,
-            V,
-            A,
         >(
-            visitor,
-            0x42002B,
+            state,
             &self.block_cipher_mode,
             &self.padding_method,
             &self.hashing_algorithm,
             &self.key_role_type,
         )
     }
-
-    fn is_whole(&self) -> bool {
-        are_whole_four::<
-            Maybe<BlockCipherMode, 0x420011>,
-            Maybe<PaddingMethod, 0x42005F>,
-            Maybe<HashingAlgorithm, 0x420038>,
-            Maybe<KeyRoleType, 0x420083>,
-            A,
-        >(
-            &self.block_cipher_mode,
-            &self.padding_method,
-            &self.hashing_algorithm,
-            &self.key_role_type,
-        )
-    }
-
-    ghost structured = { (refl, refl) };
 }
 
 /// The key that encrypts.
@@ -173,52 +150,37 @@ pub struct EncryptionKeyInformation<A: Allocator = Global> {
 
 type EncryptionKeyInformationParts<A> = (
     Leaf<String<A>, 0x420094>,
-    Maybe<Of<WrappingParameters>, 0x42002B>,
+    Maybe<Of<WrappingParameters, 0x42002B>, 0x42002B>,
 );
 
-impl<A: Allocator + Copy> Structure<A> for EncryptionKeyInformation<A> {
-    ghost item = { structure 0x420036 true (of (λ x. (x.unique_identifier, x.cryptographic_parameters)) ⟦<EncryptionKeyInformationParts<A> as PartList<A>>⟧.rules) refl
-        ⟦<EncryptionKeyInformation<A> as PartialEq>⟧.eq (λ x y e. e) };
+impl<A: Allocator + Copy> FromParts<A, EncryptionKeyInformationParts<A>>
+    for EncryptionKeyInformation<A> {
+    ghost parts = { λ x. (x.unique_identifier, x.cryptographic_parameters) };
 
-    fn number() -> u32 {
-        0x420036
-    }
-
-    fn read_nested<'b>(scope: &Scope<'b, A>, cursor: &mut Cursor<'b, A>) -> Step<Self, A> {
-        match read_parts::<EncryptionKeyInformationParts<A>, A>(scope, 0x420036, true, cursor) {
-            Ok(parts) => {
-                let (unique_identifier, cryptographic_parameters) = parts;
-                Ok(EncryptionKeyInformation {
-                    unique_identifier,
-                    cryptographic_parameters,
-                })
-            }
-            Err(failure) => Err(failure),
+    fn from_parts(
+        (unique_identifier, cryptographic_parameters): Holds<EncryptionKeyInformationParts<A>, A>,
+    ) -> Self {
+        EncryptionKeyInformation {
+            unique_identifier,
+            cryptographic_parameters,
         }
     }
+}
 
-    fn visit_parts<V: Visitor>(&self, visitor: &mut V) -> Result<(), AllocError> {
-        visit_structure_two::<
-            Leaf<String<A>, 0x420094>,
-            Maybe<Of<WrappingParameters>, 0x42002B>,
-            V,
-            A,
-        >(
-            visitor,
-            0x420036,
+impl<A: Allocator + Copy> Structure<A> for EncryptionKeyInformation<A> {
+    ghost rules = { structure true ⟦<EncryptionKeyInformationParts<A> as PartList<A>>⟧.rules ⟦<EncryptionKeyInformation<A> as FromParts<A, EncryptionKeyInformationParts<A>>>⟧.parts refl ⟦<EncryptionKeyInformation<A> as PartialEq>⟧.eq (λ x y e. e) };
+
+    fn read<'b>(scope: &Scope<'b, A>, tag: u32, cursor: &mut Cursor<'b, A>) -> Step<Self, A> {
+        read_structure::<EncryptionKeyInformationParts<A>, Self, A>(scope, tag, true, cursor)
+    }
+
+    fn tell_parts<W: Walk<A>>(&self, state: &mut W::State) -> Result<(), AllocError> {
+        W::two::<Leaf<String<A>, 0x420094>, Maybe<Of<WrappingParameters, 0x42002B>, 0x42002B>>(
+            state,
             &self.unique_identifier,
             &self.cryptographic_parameters,
         )
     }
-
-    fn is_whole(&self) -> bool {
-        are_whole_two::<Leaf<String<A>, 0x420094>, Maybe<Of<WrappingParameters>, 0x42002B>, A>(
-            &self.unique_identifier,
-            &self.cryptographic_parameters,
-        )
-    }
-
-    ghost structured = { (refl, refl) };
 }
 
 /// The key that makes a MAC or a signature.
@@ -233,52 +195,37 @@ pub struct MacSignatureKeyInformation<A: Allocator = Global> {
 
 type MacSignatureKeyInformationParts<A> = (
     Leaf<String<A>, 0x420094>,
-    Maybe<Of<WrappingParameters>, 0x42002B>,
+    Maybe<Of<WrappingParameters, 0x42002B>, 0x42002B>,
 );
 
-impl<A: Allocator + Copy> Structure<A> for MacSignatureKeyInformation<A> {
-    ghost item = { structure 0x42004E true (of (λ x. (x.unique_identifier, x.cryptographic_parameters)) ⟦<MacSignatureKeyInformationParts<A> as PartList<A>>⟧.rules) refl
-        ⟦<MacSignatureKeyInformation<A> as PartialEq>⟧.eq (λ x y e. e) };
+impl<A: Allocator + Copy> FromParts<A, MacSignatureKeyInformationParts<A>>
+    for MacSignatureKeyInformation<A> {
+    ghost parts = { λ x. (x.unique_identifier, x.cryptographic_parameters) };
 
-    fn number() -> u32 {
-        0x42004E
-    }
-
-    fn read_nested<'b>(scope: &Scope<'b, A>, cursor: &mut Cursor<'b, A>) -> Step<Self, A> {
-        match read_parts::<MacSignatureKeyInformationParts<A>, A>(scope, 0x42004E, true, cursor) {
-            Ok(parts) => {
-                let (unique_identifier, cryptographic_parameters) = parts;
-                Ok(MacSignatureKeyInformation {
-                    unique_identifier,
-                    cryptographic_parameters,
-                })
-            }
-            Err(failure) => Err(failure),
+    fn from_parts(
+        (unique_identifier, cryptographic_parameters): Holds<MacSignatureKeyInformationParts<A>, A>,
+    ) -> Self {
+        MacSignatureKeyInformation {
+            unique_identifier,
+            cryptographic_parameters,
         }
     }
+}
 
-    fn visit_parts<V: Visitor>(&self, visitor: &mut V) -> Result<(), AllocError> {
-        visit_structure_two::<
-            Leaf<String<A>, 0x420094>,
-            Maybe<Of<WrappingParameters>, 0x42002B>,
-            V,
-            A,
-        >(
-            visitor,
-            0x42004E,
+impl<A: Allocator + Copy> Structure<A> for MacSignatureKeyInformation<A> {
+    ghost rules = { structure true ⟦<MacSignatureKeyInformationParts<A> as PartList<A>>⟧.rules ⟦<MacSignatureKeyInformation<A> as FromParts<A, MacSignatureKeyInformationParts<A>>>⟧.parts refl ⟦<MacSignatureKeyInformation<A> as PartialEq>⟧.eq (λ x y e. e) };
+
+    fn read<'b>(scope: &Scope<'b, A>, tag: u32, cursor: &mut Cursor<'b, A>) -> Step<Self, A> {
+        read_structure::<MacSignatureKeyInformationParts<A>, Self, A>(scope, tag, true, cursor)
+    }
+
+    fn tell_parts<W: Walk<A>>(&self, state: &mut W::State) -> Result<(), AllocError> {
+        W::two::<Leaf<String<A>, 0x420094>, Maybe<Of<WrappingParameters, 0x42002B>, 0x42002B>>(
+            state,
             &self.unique_identifier,
             &self.cryptographic_parameters,
         )
     }
-
-    fn is_whole(&self) -> bool {
-        are_whole_two::<Leaf<String<A>, 0x420094>, Maybe<Of<WrappingParameters>, 0x42002B>, A>(
-            &self.unique_identifier,
-            &self.cryptographic_parameters,
-        )
-    }
-
-    ghost structured = { (refl, refl) };
 }
 
 /// How a key is wrapped (KMIP 1.0, section 2.1.5).
@@ -299,96 +246,70 @@ pub struct KeyWrappingData<A: Allocator = Global> {
     pub encoding_option: Option<EncodingOption>,
 }
 
-type KeyWrappingDataParts<A> = Four<
+type KeyWrappingDataFirst<A> = (
     One<WrappingMethod>,
-    Maybe<Of<EncryptionKeyInformation<A>>, 0x420036>,
-    Maybe<Of<MacSignatureKeyInformation<A>>, 0x42004E>,
+    Maybe<Of<EncryptionKeyInformation<A>, 0x420036>, 0x420036>,
+    Maybe<Of<MacSignatureKeyInformation<A>, 0x42004E>, 0x42004E>,
     MaybeLeaf<Vec<u8, A>, 0x42004D>,
-    (
-        MaybeLeaf<Vec<u8, A>, 0x42003D>,
-        Maybe<EncodingOption, 0x4200A3>,
-    ),
->;
+);
 
-impl<A: Allocator + Copy> Structure<A> for KeyWrappingData<A> {
-    ghost item = { structure 0x420046 true (of (λ x. (x.wrapping_method, x.encryption_key_information, x.mac_signature_key_information, x.mac_signature, (x.iv_counter_nonce, x.encoding_option))) ⟦<KeyWrappingDataParts<A> as PartList<A>>⟧.rules) refl
-        ⟦<KeyWrappingData<A> as PartialEq>⟧.eq (λ x y e. e) };
+type KeyWrappingDataSecond<A> = (
+    MaybeLeaf<Vec<u8, A>, 0x42003D>,
+    Maybe<EncodingOption, 0x4200A3>,
+);
 
-    fn number() -> u32 {
-        0x420046
-    }
+type KeyWrappingDataParts<A> = Four<KeyWrappingDataFirst<A>, KeyWrappingDataSecond<A>>;
 
-    fn read_nested<'b>(scope: &Scope<'b, A>, cursor: &mut Cursor<'b, A>) -> Step<Self, A> {
-        match read_parts::<KeyWrappingDataParts<A>, A>(scope, 0x420046, true, cursor) {
-            Ok(parts) => {
-                let (
-                    wrapping_method,
-                    encryption_key_information,
-                    mac_signature_key_information,
-                    mac_signature,
-                    others,
-                ) = parts;
-                let (iv_counter_nonce, encoding_option) = others;
-                Ok(KeyWrappingData {
-                    wrapping_method,
-                    encryption_key_information,
-                    mac_signature_key_information,
-                    mac_signature,
-                    iv_counter_nonce,
-                    encoding_option,
-                })
-            }
-            Err(failure) => Err(failure),
+impl<A: Allocator + Copy> FromParts<A, KeyWrappingDataParts<A>> for KeyWrappingData<A> {
+    ghost parts = { λ x. (x.wrapping_method, x.encryption_key_information, x.mac_signature_key_information, x.mac_signature, (x.iv_counter_nonce, x.encoding_option)) };
+
+    fn from_parts(
+        (
+            wrapping_method,
+            encryption_key_information,
+            mac_signature_key_information,
+            mac_signature,
+            (iv_counter_nonce, encoding_option),
+        ): Holds<KeyWrappingDataParts<A>, A>,
+    ) -> Self {
+        KeyWrappingData {
+            wrapping_method,
+            encryption_key_information,
+            mac_signature_key_information,
+            mac_signature,
+            iv_counter_nonce,
+            encoding_option,
         }
     }
+}
 
-    fn visit_parts<V: Visitor>(&self, visitor: &mut V) -> Result<(), AllocError> {
-        writing::begin_structure(visitor, 0x420046)?;
-        visit_four::<
+impl<A: Allocator + Copy> Structure<A> for KeyWrappingData<A> {
+    ghost rules = { structure true ⟦<KeyWrappingDataParts<A> as PartList<A>>⟧.rules ⟦<KeyWrappingData<A> as FromParts<A, KeyWrappingDataParts<A>>>⟧.parts refl ⟦<KeyWrappingData<A> as PartialEq>⟧.eq (λ x y e. e) };
+
+    fn read<'b>(scope: &Scope<'b, A>, tag: u32, cursor: &mut Cursor<'b, A>) -> Step<Self, A> {
+        read_structure::<KeyWrappingDataParts<A>, Self, A>(scope, tag, true, cursor)
+    }
+
+    fn tell_parts<W: Walk<A>>(&self, state: &mut W::State) -> Result<(), AllocError> {
+        W::four::<
             One<WrappingMethod>,
-            Maybe<Of<EncryptionKeyInformation<A>>, 0x420036>,
-            Maybe<Of<MacSignatureKeyInformation<A>>, 0x42004E>,
+            Maybe<Of<EncryptionKeyInformation<A>, 0x420036>, 0x420036>,
+            Maybe<Of<MacSignatureKeyInformation<A>, 0x42004E>, 0x42004E>,
             MaybeLeaf<Vec<u8, A>, 0x42004D>,
-            V,
-            A,
         >(
-            visitor,
+            state,
             &self.wrapping_method,
             &self.encryption_key_information,
             &self.mac_signature_key_information,
             &self.mac_signature,
         )?;
-        visit_two::<MaybeLeaf<Vec<u8, A>, 0x42003D>, Maybe<EncodingOption, 0x4200A3>, V, A>(
-            visitor,
+        W::two::<MaybeLeaf<Vec<u8, A>, 0x42003D>, Maybe<EncodingOption, 0x4200A3>>(
+            state,
             &self.iv_counter_nonce,
             &self.encoding_option,
         )?;
-        writing::end_structure(visitor, 0x420046)?;
         Ok(())
     }
-
-    fn is_whole(&self) -> bool {
-        let first_four = are_whole_four::<
-            One<WrappingMethod>,
-            Maybe<Of<EncryptionKeyInformation<A>>, 0x420036>,
-            Maybe<Of<MacSignatureKeyInformation<A>>, 0x42004E>,
-            MaybeLeaf<Vec<u8, A>, 0x42004D>,
-            A,
-        >(
-            &self.wrapping_method,
-            &self.encryption_key_information,
-            &self.mac_signature_key_information,
-            &self.mac_signature,
-        );
-        let others = are_whole_two::<
-            MaybeLeaf<Vec<u8, A>, 0x42003D>,
-            Maybe<EncodingOption, 0x4200A3>,
-            A,
-        >(&self.iv_counter_nonce, &self.encoding_option);
-        both(first_four, others)
-    }
-
-    ghost structured = { (refl, refl) };
 }
 
 /// A symmetric key as a structure (KMIP 1.0, section 2.1.7.1).
@@ -401,33 +322,25 @@ pub struct TransparentSymmetricKey<A: Allocator = Global> {
 
 type TransparentSymmetricKeyParts<A> = Alone<Leaf<Vec<u8, A>, 0x42003F>>;
 
+impl<A: Allocator + Copy> FromParts<A, TransparentSymmetricKeyParts<A>>
+    for TransparentSymmetricKey<A> {
+    ghost parts = { λ x. x.key };
+
+    fn from_parts(key: Holds<TransparentSymmetricKeyParts<A>, A>) -> Self {
+        TransparentSymmetricKey { key }
+    }
+}
+
 impl<A: Allocator + Copy> Structure<A> for TransparentSymmetricKey<A> {
-    ghost item = { structure 0x420043 true (of (λ x. x.key) ⟦<TransparentSymmetricKeyParts<A> as PartList<A>>⟧.rules) refl
-        ⟦<TransparentSymmetricKey<A> as PartialEq>⟧.eq (λ x y e. e) };
+    ghost rules = { structure true ⟦<TransparentSymmetricKeyParts<A> as PartList<A>>⟧.rules ⟦<TransparentSymmetricKey<A> as FromParts<A, TransparentSymmetricKeyParts<A>>>⟧.parts refl ⟦<TransparentSymmetricKey<A> as PartialEq>⟧.eq (λ x y e. e) };
 
-    fn number() -> u32 {
-        0x420043
+    fn read<'b>(scope: &Scope<'b, A>, tag: u32, cursor: &mut Cursor<'b, A>) -> Step<Self, A> {
+        read_structure::<TransparentSymmetricKeyParts<A>, Self, A>(scope, tag, true, cursor)
     }
 
-    fn read_nested<'b>(scope: &Scope<'b, A>, cursor: &mut Cursor<'b, A>) -> Step<Self, A> {
-        match read_parts::<TransparentSymmetricKeyParts<A>, A>(scope, 0x420043, true, cursor) {
-            Ok(parts) => {
-                let key = parts;
-                Ok(TransparentSymmetricKey { key })
-            }
-            Err(failure) => Err(failure),
-        }
+    fn tell_parts<W: Walk<A>>(&self, state: &mut W::State) -> Result<(), AllocError> {
+        W::one::<Leaf<Vec<u8, A>, 0x42003F>>(state, &self.key)
     }
-
-    fn visit_parts<V: Visitor>(&self, visitor: &mut V) -> Result<(), AllocError> {
-        visit_structure_one::<Leaf<Vec<u8, A>, 0x42003F>, V, A>(visitor, 0x420043, &self.key)
-    }
-
-    fn is_whole(&self) -> bool {
-        are_whole_one::<Leaf<Vec<u8, A>, 0x42003F>, A>(&self.key)
-    }
-
-    ghost structured = { (refl, refl) };
 }
 
 /// The key itself: its bytes, or a structure.
@@ -443,32 +356,19 @@ pub enum KeyMaterial<A: Allocator = Global> {
 impl<A: Allocator + Copy> Choice<A> for KeyMaterial<A> {
     ghost chosen = { key_material_choice ⟦<KeyMaterial<A> as PartialEq>⟧.eq record {
       bytes = held ⟦<LeafItem<Vec<u8, A>, 0x420043> as Element<A>>⟧.rules refl refl (λ x y e. e);
-      transparent_symmetric_key = held ⟦<Of<TransparentSymmetricKey<A>> as Element<A>>⟧.rules refl refl (λ x y e. e);
+      transparent_symmetric_key = held ⟦<Of<TransparentSymmetricKey<A>, 0x420043> as Element<A>>⟧.rules refl refl (λ x y e. e);
     } };
 
     fn read_chosen<'b>(scope: &Scope<'b, A>, cursor: &mut Cursor<'b, A>) -> Step<Self, A> {
         reader::read_choice(scope, cursor)
     }
 
-    fn visit_chosen<V: Visitor>(&self, visitor: &mut V) -> Result<(), AllocError> {
+    fn tell_held<W: Walk<A>>(&self, state: &mut W::State) -> Result<(), AllocError> {
         match self {
-            KeyMaterial::Bytes(inner) => <LeafItem<Vec<u8, A>, 0x420043> as Element<A>>::visit_one(
-                inner, visitor,
-            ),
-            KeyMaterial::TransparentSymmetricKey(inner) => <Of<
-                TransparentSymmetricKey<A>,
-            > as Element<A>>::visit_one(inner, visitor),
-        }
-    }
-
-    fn is_whole(&self) -> bool {
-        match self {
-            KeyMaterial::Bytes(inner) => <LeafItem<Vec<u8, A>, 0x420043> as Element<A>>::is_whole(
-                inner,
-            ),
-            KeyMaterial::TransparentSymmetricKey(inner) => <Of<
-                TransparentSymmetricKey<A>,
-            > as Element<A>>::is_whole(inner),
+            KeyMaterial::Bytes(inner) => W::item::<LeafItem<Vec<u8, A>, 0x420043>>(state, inner),
+            KeyMaterial::TransparentSymmetricKey(inner) => W::item::<
+                Of<TransparentSymmetricKey<A>, 0x420043>,
+            >(state, inner),
         }
     }
 
@@ -515,8 +415,11 @@ impl Rule for KeyMaterialTransparentSymmetricKeyRule {
     }
 }
 
-impl<A: Allocator + Copy> VariantOf<AsElement<Of<TransparentSymmetricKey<A>>>, KeyMaterial<A>, A>
-    for KeyMaterialTransparentSymmetricKeyRule {
+impl<A: Allocator + Copy> VariantOf<
+    AsElement<Of<TransparentSymmetricKey<A>, 0x420043>>,
+    KeyMaterial<A>,
+    A,
+> for KeyMaterialTransparentSymmetricKeyRule {
     #[tactic(auto, unfolding(crate::specs::Choices::key_material_by))]
     fn from_content(inner: TransparentSymmetricKey<A>) -> KeyMaterial<A> {
         KeyMaterial::TransparentSymmetricKey(inner)
@@ -533,12 +436,9 @@ impl<A: Allocator + Copy> reader::Choice<A> for KeyMaterial<A> {
     ghost form = { ⟦<KeyMaterial<A> as Choice<A>>⟧.chosen.form };
 
     type Variants = (
-        Variant<KeyMaterialBytesRule, AsElement<LeafItem<Vec<u8, A>, 0x420043>>>,
+        Case<KeyMaterialBytesRule, LeafItem<Vec<u8, A>, 0x420043>>,
         (
-            Variant<
-                KeyMaterialTransparentSymmetricKeyRule,
-                AsElement<Of<TransparentSymmetricKey<A>>>,
-            >,
+            Case<KeyMaterialTransparentSymmetricKeyRule, Of<TransparentSymmetricKey<A>, 0x420043>>,
             (),
         ),
     );
@@ -558,47 +458,34 @@ pub struct PlainKeyValue<A: Allocator = Global> {
 
 type PlainKeyValueParts<A> = (
     OneOf<KeyMaterial<A>, 0x420043>,
-    Any<Of<Attribute<A>>, 0x420008>,
+    Any<Of<Attribute<A>, 0x420008>, 0x420008>,
 );
 
-impl<A: Allocator + Copy> Structure<A> for PlainKeyValue<A> {
-    ghost item = { structure 0x420045 true (of (λ x. (x.key_material, x.attributes)) ⟦<PlainKeyValueParts<A> as PartList<A>>⟧.rules) refl
-        ⟦<PlainKeyValue<A> as PartialEq>⟧.eq (λ x y e. e) };
+impl<A: Allocator + Copy> FromParts<A, PlainKeyValueParts<A>> for PlainKeyValue<A> {
+    ghost parts = { λ x. (x.key_material, x.attributes) };
 
-    fn number() -> u32 {
-        0x420045
-    }
-
-    fn read_nested<'b>(scope: &Scope<'b, A>, cursor: &mut Cursor<'b, A>) -> Step<Self, A> {
-        match read_parts::<PlainKeyValueParts<A>, A>(scope, 0x420045, true, cursor) {
-            Ok(parts) => {
-                let (key_material, attributes) = parts;
-                Ok(PlainKeyValue {
-                    key_material,
-                    attributes,
-                })
-            }
-            Err(failure) => Err(failure),
+    fn from_parts((key_material, attributes): Holds<PlainKeyValueParts<A>, A>) -> Self {
+        PlainKeyValue {
+            key_material,
+            attributes,
         }
     }
+}
 
-    fn visit_parts<V: Visitor>(&self, visitor: &mut V) -> Result<(), AllocError> {
-        visit_structure_two::<
-            OneOf<KeyMaterial<A>, 0x420043>,
-            Any<Of<Attribute<A>>, 0x420008>,
-            V,
-            A,
-        >(visitor, 0x420045, &self.key_material, &self.attributes)
+impl<A: Allocator + Copy> Structure<A> for PlainKeyValue<A> {
+    ghost rules = { structure true ⟦<PlainKeyValueParts<A> as PartList<A>>⟧.rules ⟦<PlainKeyValue<A> as FromParts<A, PlainKeyValueParts<A>>>⟧.parts refl ⟦<PlainKeyValue<A> as PartialEq>⟧.eq (λ x y e. e) };
+
+    fn read<'b>(scope: &Scope<'b, A>, tag: u32, cursor: &mut Cursor<'b, A>) -> Step<Self, A> {
+        read_structure::<PlainKeyValueParts<A>, Self, A>(scope, tag, true, cursor)
     }
 
-    fn is_whole(&self) -> bool {
-        are_whole_two::<OneOf<KeyMaterial<A>, 0x420043>, Any<Of<Attribute<A>>, 0x420008>, A>(
+    fn tell_parts<W: Walk<A>>(&self, state: &mut W::State) -> Result<(), AllocError> {
+        W::two::<OneOf<KeyMaterial<A>, 0x420043>, Any<Of<Attribute<A>, 0x420008>, 0x420008>>(
+            state,
             &self.key_material,
             &self.attributes,
         )
     }
-
-    ghost structured = { (refl, refl) };
 }
 
 /// The value of a key: plain, or wrapped as a whole.
@@ -613,7 +500,7 @@ pub enum KeyValue<A: Allocator = Global> {
 
 impl<A: Allocator + Copy> Choice<A> for KeyValue<A> {
     ghost chosen = { key_value_choice ⟦<KeyValue<A> as PartialEq>⟧.eq record {
-      plain = held ⟦<Of<PlainKeyValue<A>> as Element<A>>⟧.rules refl refl (λ x y e. e);
+      plain = held ⟦<Of<PlainKeyValue<A>, 0x420045> as Element<A>>⟧.rules refl refl (λ x y e. e);
       wrapped = held ⟦<LeafItem<Vec<u8, A>, 0x420045> as Element<A>>⟧.rules refl refl (λ x y e. e);
     } };
 
@@ -621,23 +508,10 @@ impl<A: Allocator + Copy> Choice<A> for KeyValue<A> {
         reader::read_choice(scope, cursor)
     }
 
-    fn visit_chosen<V: Visitor>(&self, visitor: &mut V) -> Result<(), AllocError> {
+    fn tell_held<W: Walk<A>>(&self, state: &mut W::State) -> Result<(), AllocError> {
         match self {
-            KeyValue::Plain(inner) => <Of<PlainKeyValue<A>> as Element<A>>::visit_one(
-                inner, visitor,
-            ),
-            KeyValue::Wrapped(inner) => <LeafItem<Vec<u8, A>, 0x420045> as Element<A>>::visit_one(
-                inner, visitor,
-            ),
-        }
-    }
-
-    fn is_whole(&self) -> bool {
-        match self {
-            KeyValue::Plain(inner) => <Of<PlainKeyValue<A>> as Element<A>>::is_whole(inner),
-            KeyValue::Wrapped(inner) => <LeafItem<Vec<u8, A>, 0x420045> as Element<A>>::is_whole(
-                inner,
-            ),
+            KeyValue::Plain(inner) => W::item::<Of<PlainKeyValue<A>, 0x420045>>(state, inner),
+            KeyValue::Wrapped(inner) => W::item::<LeafItem<Vec<u8, A>, 0x420045>>(state, inner),
         }
     }
 
@@ -660,7 +534,7 @@ impl Rule for KeyValuePlainRule {
     }
 }
 
-impl<A: Allocator + Copy> VariantOf<AsElement<Of<PlainKeyValue<A>>>, KeyValue<A>, A>
+impl<A: Allocator + Copy> VariantOf<AsElement<Of<PlainKeyValue<A>, 0x420045>>, KeyValue<A>, A>
     for KeyValuePlainRule {
     #[tactic(auto, unfolding(crate::specs::Choices::key_value_by))]
     fn from_content(inner: PlainKeyValue<A>) -> KeyValue<A> {
@@ -702,9 +576,9 @@ impl<A: Allocator + Copy> reader::Choice<A> for KeyValue<A> {
     ghost form = { ⟦<KeyValue<A> as Choice<A>>⟧.chosen.form };
 
     type Variants = (
-        Variant<KeyValuePlainRule, AsElement<Of<PlainKeyValue<A>>>>,
+        Case<KeyValuePlainRule, Of<PlainKeyValue<A>, 0x420045>>,
         (
-            Variant<KeyValueWrappedRule, AsElement<LeafItem<Vec<u8, A>, 0x420045>>>,
+            Case<KeyValueWrappedRule, LeafItem<Vec<u8, A>, 0x420045>>,
             (),
         ),
     );
@@ -730,95 +604,67 @@ pub struct KeyBlock<A: Allocator = Global> {
     pub key_wrapping_data: Option<Boxed<KeyWrappingData<A>, A>>,
 }
 
-type KeyBlockParts<A> = Four<
+type KeyBlockFirst<A> = (
     One<KeyFormatType>,
     Maybe<KeyCompressionType, 0x420041>,
     OneOf<KeyValue<A>, 0x420045>,
     Maybe<CryptographicAlgorithm, 0x420028>,
-    (
-        MaybeLeaf<i32, 0x42002A>,
-        Maybe<Of<Boxed<KeyWrappingData<A>, A>>, 0x420046>,
-    ),
->;
+);
 
-impl<A: Allocator + Copy> Structure<A> for KeyBlock<A> {
-    ghost item = { structure 0x420040 true (of (λ x. (x.key_format_type, x.key_compression_type, x.key_value, x.cryptographic_algorithm, (x.cryptographic_length, x.key_wrapping_data))) ⟦<KeyBlockParts<A> as PartList<A>>⟧.rules) refl
-        ⟦<KeyBlock<A> as PartialEq>⟧.eq (λ x y e. e) };
+type KeyBlockSecond<A> = (
+    MaybeLeaf<i32, 0x42002A>,
+    Maybe<InBox<Of<KeyWrappingData<A>, 0x420046>>, 0x420046>,
+);
 
-    fn number() -> u32 {
-        0x420040
-    }
+type KeyBlockParts<A> = Four<KeyBlockFirst<A>, KeyBlockSecond<A>>;
 
-    fn read_nested<'b>(scope: &Scope<'b, A>, cursor: &mut Cursor<'b, A>) -> Step<Self, A> {
-        match read_parts::<KeyBlockParts<A>, A>(scope, 0x420040, true, cursor) {
-            Ok(parts) => {
-                let (
-                    key_format_type,
-                    key_compression_type,
-                    key_value,
-                    cryptographic_algorithm,
-                    others,
-                ) = parts;
-                let (cryptographic_length, key_wrapping_data) = others;
-                Ok(KeyBlock {
-                    key_format_type,
-                    key_compression_type,
-                    key_value,
-                    cryptographic_algorithm,
-                    cryptographic_length,
-                    key_wrapping_data,
-                })
-            }
-            Err(failure) => Err(failure),
+impl<A: Allocator + Copy> FromParts<A, KeyBlockParts<A>> for KeyBlock<A> {
+    ghost parts = { λ x. (x.key_format_type, x.key_compression_type, x.key_value, x.cryptographic_algorithm, (x.cryptographic_length, x.key_wrapping_data)) };
+
+    fn from_parts(
+        (
+            key_format_type,
+            key_compression_type,
+            key_value,
+            cryptographic_algorithm,
+            (cryptographic_length, key_wrapping_data),
+        ): Holds<KeyBlockParts<A>, A>,
+    ) -> Self {
+        KeyBlock {
+            key_format_type,
+            key_compression_type,
+            key_value,
+            cryptographic_algorithm,
+            cryptographic_length,
+            key_wrapping_data,
         }
     }
+}
 
-    fn visit_parts<V: Visitor>(&self, visitor: &mut V) -> Result<(), AllocError> {
-        writing::begin_structure(visitor, 0x420040)?;
-        visit_four::<
+impl<A: Allocator + Copy> Structure<A> for KeyBlock<A> {
+    ghost rules = { structure true ⟦<KeyBlockParts<A> as PartList<A>>⟧.rules ⟦<KeyBlock<A> as FromParts<A, KeyBlockParts<A>>>⟧.parts refl ⟦<KeyBlock<A> as PartialEq>⟧.eq (λ x y e. e) };
+
+    fn read<'b>(scope: &Scope<'b, A>, tag: u32, cursor: &mut Cursor<'b, A>) -> Step<Self, A> {
+        read_structure::<KeyBlockParts<A>, Self, A>(scope, tag, true, cursor)
+    }
+
+    fn tell_parts<W: Walk<A>>(&self, state: &mut W::State) -> Result<(), AllocError> {
+        W::four::<
             One<KeyFormatType>,
             Maybe<KeyCompressionType, 0x420041>,
             OneOf<KeyValue<A>, 0x420045>,
             Maybe<CryptographicAlgorithm, 0x420028>,
-            V,
-            A,
         >(
-            visitor,
+            state,
             &self.key_format_type,
             &self.key_compression_type,
             &self.key_value,
             &self.cryptographic_algorithm,
         )?;
-        visit_two::<
+        W::two::<
             MaybeLeaf<i32, 0x42002A>,
-            Maybe<Of<Boxed<KeyWrappingData<A>, A>>, 0x420046>,
-            V,
-            A,
-        >(visitor, &self.cryptographic_length, &self.key_wrapping_data)?;
-        writing::end_structure(visitor, 0x420040)?;
+            Maybe<InBox<Of<KeyWrappingData<A>, 0x420046>>, 0x420046>,
+        >(state, &self.cryptographic_length, &self.key_wrapping_data)?;
         Ok(())
     }
-
-    fn is_whole(&self) -> bool {
-        let first_four = are_whole_four::<
-            One<KeyFormatType>,
-            Maybe<KeyCompressionType, 0x420041>,
-            OneOf<KeyValue<A>, 0x420045>,
-            Maybe<CryptographicAlgorithm, 0x420028>,
-            A,
-        >(
-            &self.key_format_type,
-            &self.key_compression_type,
-            &self.key_value,
-            &self.cryptographic_algorithm,
-        );
-        let others = are_whole_two::<
-            MaybeLeaf<i32, 0x42002A>,
-            Maybe<Of<Boxed<KeyWrappingData<A>, A>>, 0x420046>,
-            A,
-        >(&self.cryptographic_length, &self.key_wrapping_data);
-        both(first_four, others)
-    }
-
-    ghost structured = { (refl, refl) };
 }

@@ -2,20 +2,17 @@
 //! What a server keeps (KMIP 1.0, section 2.2).
 
 ghost use Rattle.std.specs.Prelude.{refl, true};
-ghost use Rattle.kmip_ttlv_kinds.specs.Parts.{of, structure};
+ghost use Rattle.kmip_ttlv_kinds.specs.Parts.{structure};
 
 use crate::key::KeyBlock;
 use kmip_attributes::attribute::Attribute;
-use kmip_attributes::values::CertificateType;
+use kmip_attributes::values::{CertificateType, State};
 use kmip_ttlv_kinds::{
-    Alone, BigNumber, Four, Leaf, MaybeLeaf, Of, One, PartList, Several, Structure, are_whole_four,
-    are_whole_one, are_whole_two, both, read_parts, visit_four, visit_structure_one,
-    visit_structure_two, visit_two,
+    Alone, BigNumber, Four, FromParts, Holds, Leaf, MaybeLeaf, Of, One, PartList, Several,
+    Structure, Walk, read_structure,
 };
 use kmip_ttlv_parts::Enumeration;
-use kmip_ttlv_parts::messages::writing;
 use kmip_ttlv_parts::reader::{Cursor, Scope, Step};
-use kmip_ttlv_parts::visit::Visitor;
 use std::alloc::{AllocError, Allocator, Global};
 
 /// A certificate.
@@ -30,44 +27,31 @@ pub struct Certificate<A: Allocator = Global> {
 
 type CertificateParts<A> = (One<CertificateType>, Leaf<Vec<u8, A>, 0x42001E>);
 
-impl<A: Allocator + Copy> Structure<A> for Certificate<A> {
-    ghost item = { structure 0x420013 true (of (λ x. (x.certificate_type, x.certificate_value)) ⟦<CertificateParts<A> as PartList<A>>⟧.rules) refl
-        ⟦<Certificate<A> as PartialEq>⟧.eq (λ x y e. e) };
+impl<A: Allocator + Copy> FromParts<A, CertificateParts<A>> for Certificate<A> {
+    ghost parts = { λ x. (x.certificate_type, x.certificate_value) };
 
-    fn number() -> u32 {
-        0x420013
-    }
-
-    fn read_nested<'b>(scope: &Scope<'b, A>, cursor: &mut Cursor<'b, A>) -> Step<Self, A> {
-        match read_parts::<CertificateParts<A>, A>(scope, 0x420013, true, cursor) {
-            Ok(parts) => {
-                let (certificate_type, certificate_value) = parts;
-                Ok(Certificate {
-                    certificate_type,
-                    certificate_value,
-                })
-            }
-            Err(failure) => Err(failure),
+    fn from_parts((certificate_type, certificate_value): Holds<CertificateParts<A>, A>) -> Self {
+        Certificate {
+            certificate_type,
+            certificate_value,
         }
     }
+}
 
-    fn visit_parts<V: Visitor>(&self, visitor: &mut V) -> Result<(), AllocError> {
-        visit_structure_two::<One<CertificateType>, Leaf<Vec<u8, A>, 0x42001E>, V, A>(
-            visitor,
-            0x420013,
+impl<A: Allocator + Copy> Structure<A> for Certificate<A> {
+    ghost rules = { structure true ⟦<CertificateParts<A> as PartList<A>>⟧.rules ⟦<Certificate<A> as FromParts<A, CertificateParts<A>>>⟧.parts refl ⟦<Certificate<A> as PartialEq>⟧.eq (λ x y e. e) };
+
+    fn read<'b>(scope: &Scope<'b, A>, tag: u32, cursor: &mut Cursor<'b, A>) -> Step<Self, A> {
+        read_structure::<CertificateParts<A>, Self, A>(scope, tag, true, cursor)
+    }
+
+    fn tell_parts<W: Walk<A>>(&self, state: &mut W::State) -> Result<(), AllocError> {
+        W::two::<One<CertificateType>, Leaf<Vec<u8, A>, 0x42001E>>(
+            state,
             &self.certificate_type,
             &self.certificate_value,
         )
     }
-
-    fn is_whole(&self) -> bool {
-        are_whole_two::<One<CertificateType>, Leaf<Vec<u8, A>, 0x42001E>, A>(
-            &self.certificate_type,
-            &self.certificate_value,
-        )
-    }
-
-    ghost structured = { (refl, refl) };
 }
 
 /// A symmetric key.
@@ -78,35 +62,26 @@ pub struct SymmetricKey<A: Allocator = Global> {
     pub key_block: KeyBlock<A>,
 }
 
-type SymmetricKeyParts<A> = Alone<One<Of<KeyBlock<A>>>>;
+type SymmetricKeyParts<A> = Alone<One<Of<KeyBlock<A>, 0x420040>>>;
+
+impl<A: Allocator + Copy> FromParts<A, SymmetricKeyParts<A>> for SymmetricKey<A> {
+    ghost parts = { λ x. x.key_block };
+
+    fn from_parts(key_block: Holds<SymmetricKeyParts<A>, A>) -> Self {
+        SymmetricKey { key_block }
+    }
+}
 
 impl<A: Allocator + Copy> Structure<A> for SymmetricKey<A> {
-    ghost item = { structure 0x42008F true (of (λ x. x.key_block) ⟦<SymmetricKeyParts<A> as PartList<A>>⟧.rules) refl
-        ⟦<SymmetricKey<A> as PartialEq>⟧.eq (λ x y e. e) };
+    ghost rules = { structure true ⟦<SymmetricKeyParts<A> as PartList<A>>⟧.rules ⟦<SymmetricKey<A> as FromParts<A, SymmetricKeyParts<A>>>⟧.parts refl ⟦<SymmetricKey<A> as PartialEq>⟧.eq (λ x y e. e) };
 
-    fn number() -> u32 {
-        0x42008F
+    fn read<'b>(scope: &Scope<'b, A>, tag: u32, cursor: &mut Cursor<'b, A>) -> Step<Self, A> {
+        read_structure::<SymmetricKeyParts<A>, Self, A>(scope, tag, true, cursor)
     }
 
-    fn read_nested<'b>(scope: &Scope<'b, A>, cursor: &mut Cursor<'b, A>) -> Step<Self, A> {
-        match read_parts::<SymmetricKeyParts<A>, A>(scope, 0x42008F, true, cursor) {
-            Ok(parts) => {
-                let key_block = parts;
-                Ok(SymmetricKey { key_block })
-            }
-            Err(failure) => Err(failure),
-        }
+    fn tell_parts<W: Walk<A>>(&self, state: &mut W::State) -> Result<(), AllocError> {
+        W::one::<One<Of<KeyBlock<A>, 0x420040>>>(state, &self.key_block)
     }
-
-    fn visit_parts<V: Visitor>(&self, visitor: &mut V) -> Result<(), AllocError> {
-        visit_structure_one::<One<Of<KeyBlock<A>>>, V, A>(visitor, 0x42008F, &self.key_block)
-    }
-
-    fn is_whole(&self) -> bool {
-        are_whole_one::<One<Of<KeyBlock<A>>>, A>(&self.key_block)
-    }
-
-    ghost structured = { (refl, refl) };
 }
 
 /// A public key.
@@ -117,35 +92,26 @@ pub struct PublicKey<A: Allocator = Global> {
     pub key_block: KeyBlock<A>,
 }
 
-type PublicKeyParts<A> = Alone<One<Of<KeyBlock<A>>>>;
+type PublicKeyParts<A> = Alone<One<Of<KeyBlock<A>, 0x420040>>>;
+
+impl<A: Allocator + Copy> FromParts<A, PublicKeyParts<A>> for PublicKey<A> {
+    ghost parts = { λ x. x.key_block };
+
+    fn from_parts(key_block: Holds<PublicKeyParts<A>, A>) -> Self {
+        PublicKey { key_block }
+    }
+}
 
 impl<A: Allocator + Copy> Structure<A> for PublicKey<A> {
-    ghost item = { structure 0x42006D true (of (λ x. x.key_block) ⟦<PublicKeyParts<A> as PartList<A>>⟧.rules) refl
-        ⟦<PublicKey<A> as PartialEq>⟧.eq (λ x y e. e) };
+    ghost rules = { structure true ⟦<PublicKeyParts<A> as PartList<A>>⟧.rules ⟦<PublicKey<A> as FromParts<A, PublicKeyParts<A>>>⟧.parts refl ⟦<PublicKey<A> as PartialEq>⟧.eq (λ x y e. e) };
 
-    fn number() -> u32 {
-        0x42006D
+    fn read<'b>(scope: &Scope<'b, A>, tag: u32, cursor: &mut Cursor<'b, A>) -> Step<Self, A> {
+        read_structure::<PublicKeyParts<A>, Self, A>(scope, tag, true, cursor)
     }
 
-    fn read_nested<'b>(scope: &Scope<'b, A>, cursor: &mut Cursor<'b, A>) -> Step<Self, A> {
-        match read_parts::<PublicKeyParts<A>, A>(scope, 0x42006D, true, cursor) {
-            Ok(parts) => {
-                let key_block = parts;
-                Ok(PublicKey { key_block })
-            }
-            Err(failure) => Err(failure),
-        }
+    fn tell_parts<W: Walk<A>>(&self, state: &mut W::State) -> Result<(), AllocError> {
+        W::one::<One<Of<KeyBlock<A>, 0x420040>>>(state, &self.key_block)
     }
-
-    fn visit_parts<V: Visitor>(&self, visitor: &mut V) -> Result<(), AllocError> {
-        visit_structure_one::<One<Of<KeyBlock<A>>>, V, A>(visitor, 0x42006D, &self.key_block)
-    }
-
-    fn is_whole(&self) -> bool {
-        are_whole_one::<One<Of<KeyBlock<A>>>, A>(&self.key_block)
-    }
-
-    ghost structured = { (refl, refl) };
 }
 
 /// A private key.
@@ -156,35 +122,26 @@ pub struct PrivateKey<A: Allocator = Global> {
     pub key_block: KeyBlock<A>,
 }
 
-type PrivateKeyParts<A> = Alone<One<Of<KeyBlock<A>>>>;
+type PrivateKeyParts<A> = Alone<One<Of<KeyBlock<A>, 0x420040>>>;
+
+impl<A: Allocator + Copy> FromParts<A, PrivateKeyParts<A>> for PrivateKey<A> {
+    ghost parts = { λ x. x.key_block };
+
+    fn from_parts(key_block: Holds<PrivateKeyParts<A>, A>) -> Self {
+        PrivateKey { key_block }
+    }
+}
 
 impl<A: Allocator + Copy> Structure<A> for PrivateKey<A> {
-    ghost item = { structure 0x420064 true (of (λ x. x.key_block) ⟦<PrivateKeyParts<A> as PartList<A>>⟧.rules) refl
-        ⟦<PrivateKey<A> as PartialEq>⟧.eq (λ x y e. e) };
+    ghost rules = { structure true ⟦<PrivateKeyParts<A> as PartList<A>>⟧.rules ⟦<PrivateKey<A> as FromParts<A, PrivateKeyParts<A>>>⟧.parts refl ⟦<PrivateKey<A> as PartialEq>⟧.eq (λ x y e. e) };
 
-    fn number() -> u32 {
-        0x420064
+    fn read<'b>(scope: &Scope<'b, A>, tag: u32, cursor: &mut Cursor<'b, A>) -> Step<Self, A> {
+        read_structure::<PrivateKeyParts<A>, Self, A>(scope, tag, true, cursor)
     }
 
-    fn read_nested<'b>(scope: &Scope<'b, A>, cursor: &mut Cursor<'b, A>) -> Step<Self, A> {
-        match read_parts::<PrivateKeyParts<A>, A>(scope, 0x420064, true, cursor) {
-            Ok(parts) => {
-                let key_block = parts;
-                Ok(PrivateKey { key_block })
-            }
-            Err(failure) => Err(failure),
-        }
+    fn tell_parts<W: Walk<A>>(&self, state: &mut W::State) -> Result<(), AllocError> {
+        W::one::<One<Of<KeyBlock<A>, 0x420040>>>(state, &self.key_block)
     }
-
-    fn visit_parts<V: Visitor>(&self, visitor: &mut V) -> Result<(), AllocError> {
-        visit_structure_one::<One<Of<KeyBlock<A>>>, V, A>(visitor, 0x420064, &self.key_block)
-    }
-
-    fn is_whole(&self) -> bool {
-        are_whole_one::<One<Of<KeyBlock<A>>>, A>(&self.key_block)
-    }
-
-    ghost structured = { (refl, refl) };
 }
 
 /// How a key was split (KMIP 1.0, section 9.1.3.2.7).
@@ -222,92 +179,70 @@ pub struct SplitKey<A: Allocator = Global> {
     pub key_block: KeyBlock<A>,
 }
 
-type SplitKeyParts<A> = Four<
+type SplitKeyFirst = (
     Leaf<i32, 0x42008B>,
     Leaf<i32, 0x420044>,
     Leaf<i32, 0x42008C>,
     One<SplitKeyMethod>,
-    (MaybeLeaf<BigNumber<A>, 0x420062>, One<Of<KeyBlock<A>>>),
->;
+);
 
-impl<A: Allocator + Copy> Structure<A> for SplitKey<A> {
-    ghost item = { structure 0x420089 true (of (λ x. (x.split_key_parts, x.key_part_identifier, x.split_key_threshold, x.split_key_method, (x.prime_field_size, x.key_block))) ⟦<SplitKeyParts<A> as PartList<A>>⟧.rules) refl
-        ⟦<SplitKey<A> as PartialEq>⟧.eq (λ x y e. e) };
+type SplitKeySecond<A> = (
+    MaybeLeaf<BigNumber<A>, 0x420062>,
+    One<Of<KeyBlock<A>, 0x420040>>,
+);
 
-    fn number() -> u32 {
-        0x420089
-    }
+type SplitKeyParts<A> = Four<SplitKeyFirst, SplitKeySecond<A>>;
 
-    fn read_nested<'b>(scope: &Scope<'b, A>, cursor: &mut Cursor<'b, A>) -> Step<Self, A> {
-        match read_parts::<SplitKeyParts<A>, A>(scope, 0x420089, true, cursor) {
-            Ok(parts) => {
-                let (
-                    split_key_parts,
-                    key_part_identifier,
-                    split_key_threshold,
-                    split_key_method,
-                    others,
-                ) = parts;
-                let (prime_field_size, key_block) = others;
-                Ok(SplitKey {
-                    split_key_parts,
-                    key_part_identifier,
-                    split_key_threshold,
-                    split_key_method,
-                    prime_field_size,
-                    key_block,
-                })
-            }
-            Err(failure) => Err(failure),
+impl<A: Allocator + Copy> FromParts<A, SplitKeyParts<A>> for SplitKey<A> {
+    ghost parts = { λ x. (x.split_key_parts, x.key_part_identifier, x.split_key_threshold, x.split_key_method, (x.prime_field_size, x.key_block)) };
+
+    fn from_parts(
+        (
+            split_key_parts,
+            key_part_identifier,
+            split_key_threshold,
+            split_key_method,
+            (prime_field_size, key_block),
+        ): Holds<SplitKeyParts<A>, A>,
+    ) -> Self {
+        SplitKey {
+            split_key_parts,
+            key_part_identifier,
+            split_key_threshold,
+            split_key_method,
+            prime_field_size,
+            key_block,
         }
     }
+}
 
-    fn visit_parts<V: Visitor>(&self, visitor: &mut V) -> Result<(), AllocError> {
-        writing::begin_structure(visitor, 0x420089)?;
-        visit_four::<
+impl<A: Allocator + Copy> Structure<A> for SplitKey<A> {
+    ghost rules = { structure true ⟦<SplitKeyParts<A> as PartList<A>>⟧.rules ⟦<SplitKey<A> as FromParts<A, SplitKeyParts<A>>>⟧.parts refl ⟦<SplitKey<A> as PartialEq>⟧.eq (λ x y e. e) };
+
+    fn read<'b>(scope: &Scope<'b, A>, tag: u32, cursor: &mut Cursor<'b, A>) -> Step<Self, A> {
+        read_structure::<SplitKeyParts<A>, Self, A>(scope, tag, true, cursor)
+    }
+
+    fn tell_parts<W: Walk<A>>(&self, state: &mut W::State) -> Result<(), AllocError> {
+        W::four::<
             Leaf<i32, 0x42008B>,
             Leaf<i32, 0x420044>,
             Leaf<i32, 0x42008C>,
             One<SplitKeyMethod>,
-            V,
-            A,
         >(
-            visitor,
+            state,
             &self.split_key_parts,
             &self.key_part_identifier,
             &self.split_key_threshold,
             &self.split_key_method,
         )?;
-        visit_two::<MaybeLeaf<BigNumber<A>, 0x420062>, One<Of<KeyBlock<A>>>, V, A>(
-            visitor,
+        W::two::<MaybeLeaf<BigNumber<A>, 0x420062>, One<Of<KeyBlock<A>, 0x420040>>>(
+            state,
             &self.prime_field_size,
             &self.key_block,
         )?;
-        writing::end_structure(visitor, 0x420089)?;
         Ok(())
     }
-
-    fn is_whole(&self) -> bool {
-        let first_four = are_whole_four::<
-            Leaf<i32, 0x42008B>,
-            Leaf<i32, 0x420044>,
-            Leaf<i32, 0x42008C>,
-            One<SplitKeyMethod>,
-            A,
-        >(
-            &self.split_key_parts,
-            &self.key_part_identifier,
-            &self.split_key_threshold,
-            &self.split_key_method,
-        );
-        let others = are_whole_two::<MaybeLeaf<BigNumber<A>, 0x420062>, One<Of<KeyBlock<A>>>, A>(
-            &self.prime_field_size,
-            &self.key_block,
-        );
-        both(first_four, others)
-    }
-
-    ghost structured = { (refl, refl) };
 }
 
 /// Attributes that other objects are made with.
@@ -318,39 +253,26 @@ pub struct Template<A: Allocator = Global> {
     pub attributes: Vec<Attribute<A>, A>,
 }
 
-type TemplateParts<A> = Alone<Several<Of<Attribute<A>>, 0x420008>>;
+type TemplateParts<A> = Alone<Several<Of<Attribute<A>, 0x420008>, 0x420008>>;
+
+impl<A: Allocator + Copy> FromParts<A, TemplateParts<A>> for Template<A> {
+    ghost parts = { λ x. x.attributes };
+
+    fn from_parts(attributes: Holds<TemplateParts<A>, A>) -> Self {
+        Template { attributes }
+    }
+}
 
 impl<A: Allocator + Copy> Structure<A> for Template<A> {
-    ghost item = { structure 0x420090 true (of (λ x. x.attributes) ⟦<TemplateParts<A> as PartList<A>>⟧.rules) refl
-        ⟦<Template<A> as PartialEq>⟧.eq (λ x y e. e) };
+    ghost rules = { structure true ⟦<TemplateParts<A> as PartList<A>>⟧.rules ⟦<Template<A> as FromParts<A, TemplateParts<A>>>⟧.parts refl ⟦<Template<A> as PartialEq>⟧.eq (λ x y e. e) };
 
-    fn number() -> u32 {
-        0x420090
+    fn read<'b>(scope: &Scope<'b, A>, tag: u32, cursor: &mut Cursor<'b, A>) -> Step<Self, A> {
+        read_structure::<TemplateParts<A>, Self, A>(scope, tag, true, cursor)
     }
 
-    fn read_nested<'b>(scope: &Scope<'b, A>, cursor: &mut Cursor<'b, A>) -> Step<Self, A> {
-        match read_parts::<TemplateParts<A>, A>(scope, 0x420090, true, cursor) {
-            Ok(parts) => {
-                let attributes = parts;
-                Ok(Template { attributes })
-            }
-            Err(failure) => Err(failure),
-        }
+    fn tell_parts<W: Walk<A>>(&self, state: &mut W::State) -> Result<(), AllocError> {
+        W::one::<Several<Of<Attribute<A>, 0x420008>, 0x420008>>(state, &self.attributes)
     }
-
-    fn visit_parts<V: Visitor>(&self, visitor: &mut V) -> Result<(), AllocError> {
-        visit_structure_one::<Several<Of<Attribute<A>>, 0x420008>, V, A>(
-            visitor,
-            0x420090,
-            &self.attributes,
-        )
-    }
-
-    fn is_whole(&self) -> bool {
-        are_whole_one::<Several<Of<Attribute<A>>, 0x420008>, A>(&self.attributes)
-    }
-
-    ghost structured = { (refl, refl) };
 }
 
 /// What a secret is (KMIP 1.0, section 9.1.3.2.8).
@@ -376,46 +298,33 @@ pub struct SecretData<A: Allocator = Global> {
     pub key_block: KeyBlock<A>,
 }
 
-type SecretDataParts<A> = (One<SecretDataType>, One<Of<KeyBlock<A>>>);
+type SecretDataParts<A> = (One<SecretDataType>, One<Of<KeyBlock<A>, 0x420040>>);
 
-impl<A: Allocator + Copy> Structure<A> for SecretData<A> {
-    ghost item = { structure 0x420085 true (of (λ x. (x.secret_data_type, x.key_block)) ⟦<SecretDataParts<A> as PartList<A>>⟧.rules) refl
-        ⟦<SecretData<A> as PartialEq>⟧.eq (λ x y e. e) };
+impl<A: Allocator + Copy> FromParts<A, SecretDataParts<A>> for SecretData<A> {
+    ghost parts = { λ x. (x.secret_data_type, x.key_block) };
 
-    fn number() -> u32 {
-        0x420085
-    }
-
-    fn read_nested<'b>(scope: &Scope<'b, A>, cursor: &mut Cursor<'b, A>) -> Step<Self, A> {
-        match read_parts::<SecretDataParts<A>, A>(scope, 0x420085, true, cursor) {
-            Ok(parts) => {
-                let (secret_data_type, key_block) = parts;
-                Ok(SecretData {
-                    secret_data_type,
-                    key_block,
-                })
-            }
-            Err(failure) => Err(failure),
+    fn from_parts((secret_data_type, key_block): Holds<SecretDataParts<A>, A>) -> Self {
+        SecretData {
+            secret_data_type,
+            key_block,
         }
     }
+}
 
-    fn visit_parts<V: Visitor>(&self, visitor: &mut V) -> Result<(), AllocError> {
-        visit_structure_two::<One<SecretDataType>, One<Of<KeyBlock<A>>>, V, A>(
-            visitor,
-            0x420085,
+impl<A: Allocator + Copy> Structure<A> for SecretData<A> {
+    ghost rules = { structure true ⟦<SecretDataParts<A> as PartList<A>>⟧.rules ⟦<SecretData<A> as FromParts<A, SecretDataParts<A>>>⟧.parts refl ⟦<SecretData<A> as PartialEq>⟧.eq (λ x y e. e) };
+
+    fn read<'b>(scope: &Scope<'b, A>, tag: u32, cursor: &mut Cursor<'b, A>) -> Step<Self, A> {
+        read_structure::<SecretDataParts<A>, Self, A>(scope, tag, true, cursor)
+    }
+
+    fn tell_parts<W: Walk<A>>(&self, state: &mut W::State) -> Result<(), AllocError> {
+        W::two::<One<SecretDataType>, One<Of<KeyBlock<A>, 0x420040>>>(
+            state,
             &self.secret_data_type,
             &self.key_block,
         )
     }
-
-    fn is_whole(&self) -> bool {
-        are_whole_two::<One<SecretDataType>, One<Of<KeyBlock<A>>>, A>(
-            &self.secret_data_type,
-            &self.key_block,
-        )
-    }
-
-    ghost structured = { (refl, refl) };
 }
 
 /// What bytes are that the server doesn't interpret: the standard names nothing.
@@ -441,44 +350,31 @@ pub struct OpaqueObject<A: Allocator = Global> {
 
 type OpaqueObjectParts<A> = (One<OpaqueDataType>, Leaf<Vec<u8, A>, 0x42005A>);
 
-impl<A: Allocator + Copy> Structure<A> for OpaqueObject<A> {
-    ghost item = { structure 0x42005B true (of (λ x. (x.opaque_data_type, x.opaque_data_value)) ⟦<OpaqueObjectParts<A> as PartList<A>>⟧.rules) refl
-        ⟦<OpaqueObject<A> as PartialEq>⟧.eq (λ x y e. e) };
+impl<A: Allocator + Copy> FromParts<A, OpaqueObjectParts<A>> for OpaqueObject<A> {
+    ghost parts = { λ x. (x.opaque_data_type, x.opaque_data_value) };
 
-    fn number() -> u32 {
-        0x42005B
-    }
-
-    fn read_nested<'b>(scope: &Scope<'b, A>, cursor: &mut Cursor<'b, A>) -> Step<Self, A> {
-        match read_parts::<OpaqueObjectParts<A>, A>(scope, 0x42005B, true, cursor) {
-            Ok(parts) => {
-                let (opaque_data_type, opaque_data_value) = parts;
-                Ok(OpaqueObject {
-                    opaque_data_type,
-                    opaque_data_value,
-                })
-            }
-            Err(failure) => Err(failure),
+    fn from_parts((opaque_data_type, opaque_data_value): Holds<OpaqueObjectParts<A>, A>) -> Self {
+        OpaqueObject {
+            opaque_data_type,
+            opaque_data_value,
         }
     }
+}
 
-    fn visit_parts<V: Visitor>(&self, visitor: &mut V) -> Result<(), AllocError> {
-        visit_structure_two::<One<OpaqueDataType>, Leaf<Vec<u8, A>, 0x42005A>, V, A>(
-            visitor,
-            0x42005B,
+impl<A: Allocator + Copy> Structure<A> for OpaqueObject<A> {
+    ghost rules = { structure true ⟦<OpaqueObjectParts<A> as PartList<A>>⟧.rules ⟦<OpaqueObject<A> as FromParts<A, OpaqueObjectParts<A>>>⟧.parts refl ⟦<OpaqueObject<A> as PartialEq>⟧.eq (λ x y e. e) };
+
+    fn read<'b>(scope: &Scope<'b, A>, tag: u32, cursor: &mut Cursor<'b, A>) -> Step<Self, A> {
+        read_structure::<OpaqueObjectParts<A>, Self, A>(scope, tag, true, cursor)
+    }
+
+    fn tell_parts<W: Walk<A>>(&self, state: &mut W::State) -> Result<(), AllocError> {
+        W::two::<One<OpaqueDataType>, Leaf<Vec<u8, A>, 0x42005A>>(
+            state,
             &self.opaque_data_type,
             &self.opaque_data_value,
         )
     }
-
-    fn is_whole(&self) -> bool {
-        are_whole_two::<One<OpaqueDataType>, Leaf<Vec<u8, A>, 0x42005A>, A>(
-            &self.opaque_data_type,
-            &self.opaque_data_value,
-        )
-    }
-
-    ghost structured = { (refl, refl) };
 }
 
 /// What a server keeps.

@@ -2,15 +2,14 @@
 //! What objects are made with (KMIP 1.0, section 2.1.8).
 
 ghost use Rattle.std.specs.Prelude.{refl, true};
-ghost use Rattle.kmip_ttlv_kinds.specs.Parts.{of, structure};
+ghost use Rattle.kmip_ttlv_kinds.specs.Parts.{structure};
 
 use kmip_attributes::attribute::Attribute;
-use kmip_attributes::values::NameType;
+use kmip_attributes::values::{NameType, State};
 use kmip_ttlv_kinds::{
-    Any, Leaf, Of, One, PartList, Structure, are_whole_two, read_parts, visit_structure_two,
+    Any, FromParts, Holds, Leaf, Of, One, PartList, Structure, Walk, read_structure,
 };
 use kmip_ttlv_parts::reader::{Cursor, Scope, Step};
-use kmip_ttlv_parts::visit::Visitor;
 use std::alloc::{AllocError, Allocator, Global};
 
 /// The name of a template (section 3.2).
@@ -25,38 +24,24 @@ pub struct TemplateName<A: Allocator = Global> {
 
 type TemplateNameParts<A> = (Leaf<String<A>, 0x420055>, One<NameType>);
 
+impl<A: Allocator + Copy> FromParts<A, TemplateNameParts<A>> for TemplateName<A> {
+    ghost parts = { λ x. (x.value, x.name_type) };
+
+    fn from_parts((value, name_type): Holds<TemplateNameParts<A>, A>) -> Self {
+        TemplateName { value, name_type }
+    }
+}
+
 impl<A: Allocator + Copy> Structure<A> for TemplateName<A> {
-    ghost item = { structure 0x420053 true (of (λ x. (x.value, x.name_type)) ⟦<TemplateNameParts<A> as PartList<A>>⟧.rules) refl
-        ⟦<TemplateName<A> as PartialEq>⟧.eq (λ x y e. e) };
+    ghost rules = { structure true ⟦<TemplateNameParts<A> as PartList<A>>⟧.rules ⟦<TemplateName<A> as FromParts<A, TemplateNameParts<A>>>⟧.parts refl ⟦<TemplateName<A> as PartialEq>⟧.eq (λ x y e. e) };
 
-    fn number() -> u32 {
-        0x420053
+    fn read<'b>(scope: &Scope<'b, A>, tag: u32, cursor: &mut Cursor<'b, A>) -> Step<Self, A> {
+        read_structure::<TemplateNameParts<A>, Self, A>(scope, tag, true, cursor)
     }
 
-    fn read_nested<'b>(scope: &Scope<'b, A>, cursor: &mut Cursor<'b, A>) -> Step<Self, A> {
-        match read_parts::<TemplateNameParts<A>, A>(scope, 0x420053, true, cursor) {
-            Ok(parts) => {
-                let (value, name_type) = parts;
-                Ok(TemplateName { value, name_type })
-            }
-            Err(failure) => Err(failure),
-        }
+    fn tell_parts<W: Walk<A>>(&self, state: &mut W::State) -> Result<(), AllocError> {
+        W::two::<Leaf<String<A>, 0x420055>, One<NameType>>(state, &self.value, &self.name_type)
     }
-
-    fn visit_parts<V: Visitor>(&self, visitor: &mut V) -> Result<(), AllocError> {
-        visit_structure_two::<Leaf<String<A>, 0x420055>, One<NameType>, V, A>(
-            visitor,
-            0x420053,
-            &self.value,
-            &self.name_type,
-        )
-    }
-
-    fn is_whole(&self) -> bool {
-        are_whole_two::<Leaf<String<A>, 0x420055>, One<NameType>, A>(&self.value, &self.name_type)
-    }
-
-    ghost structured = { (refl, refl) };
 }
 
 /// Templates and attributes.
@@ -70,45 +55,31 @@ pub struct TemplateAttribute<A: Allocator = Global> {
 }
 
 type TemplateAttributeParts<A> = (
-    Any<Of<TemplateName<A>>, 0x420053>,
-    Any<Of<Attribute<A>>, 0x420008>,
+    Any<Of<TemplateName<A>, 0x420053>, 0x420053>,
+    Any<Of<Attribute<A>, 0x420008>, 0x420008>,
 );
 
+impl<A: Allocator + Copy> FromParts<A, TemplateAttributeParts<A>> for TemplateAttribute<A> {
+    ghost parts = { λ x. (x.names, x.attributes) };
+
+    fn from_parts((names, attributes): Holds<TemplateAttributeParts<A>, A>) -> Self {
+        TemplateAttribute { names, attributes }
+    }
+}
+
 impl<A: Allocator + Copy> Structure<A> for TemplateAttribute<A> {
-    ghost item = { structure 0x420091 true (of (λ x. (x.names, x.attributes)) ⟦<TemplateAttributeParts<A> as PartList<A>>⟧.rules) refl
-        ⟦<TemplateAttribute<A> as PartialEq>⟧.eq (λ x y e. e) };
+    ghost rules = { structure true ⟦<TemplateAttributeParts<A> as PartList<A>>⟧.rules ⟦<TemplateAttribute<A> as FromParts<A, TemplateAttributeParts<A>>>⟧.parts refl ⟦<TemplateAttribute<A> as PartialEq>⟧.eq (λ x y e. e) };
 
-    fn number() -> u32 {
-        0x420091
+    fn read<'b>(scope: &Scope<'b, A>, tag: u32, cursor: &mut Cursor<'b, A>) -> Step<Self, A> {
+        read_structure::<TemplateAttributeParts<A>, Self, A>(scope, tag, true, cursor)
     }
 
-    fn read_nested<'b>(scope: &Scope<'b, A>, cursor: &mut Cursor<'b, A>) -> Step<Self, A> {
-        match read_parts::<TemplateAttributeParts<A>, A>(scope, 0x420091, true, cursor) {
-            Ok(parts) => {
-                let (names, attributes) = parts;
-                Ok(TemplateAttribute { names, attributes })
-            }
-            Err(failure) => Err(failure),
-        }
+    fn tell_parts<W: Walk<A>>(&self, state: &mut W::State) -> Result<(), AllocError> {
+        W::two::<
+            Any<Of<TemplateName<A>, 0x420053>, 0x420053>,
+            Any<Of<Attribute<A>, 0x420008>, 0x420008>,
+        >(state, &self.names, &self.attributes)
     }
-
-    fn visit_parts<V: Visitor>(&self, visitor: &mut V) -> Result<(), AllocError> {
-        visit_structure_two::<
-            Any<Of<TemplateName<A>>, 0x420053>,
-            Any<Of<Attribute<A>>, 0x420008>,
-            V,
-            A,
-        >(visitor, 0x420091, &self.names, &self.attributes)
-    }
-
-    fn is_whole(&self) -> bool {
-        are_whole_two::<Any<Of<TemplateName<A>>, 0x420053>, Any<Of<Attribute<A>>, 0x420008>, A>(
-            &self.names,
-            &self.attributes,
-        )
-    }
-
-    ghost structured = { (refl, refl) };
 }
 
 /// What both keys of a pair are made with.
@@ -122,45 +93,32 @@ pub struct CommonTemplateAttribute<A: Allocator = Global> {
 }
 
 type CommonTemplateAttributeParts<A> = (
-    Any<Of<TemplateName<A>>, 0x420053>,
-    Any<Of<Attribute<A>>, 0x420008>,
+    Any<Of<TemplateName<A>, 0x420053>, 0x420053>,
+    Any<Of<Attribute<A>, 0x420008>, 0x420008>,
 );
 
+impl<A: Allocator + Copy> FromParts<A, CommonTemplateAttributeParts<A>>
+    for CommonTemplateAttribute<A> {
+    ghost parts = { λ x. (x.names, x.attributes) };
+
+    fn from_parts((names, attributes): Holds<CommonTemplateAttributeParts<A>, A>) -> Self {
+        CommonTemplateAttribute { names, attributes }
+    }
+}
+
 impl<A: Allocator + Copy> Structure<A> for CommonTemplateAttribute<A> {
-    ghost item = { structure 0x42001F true (of (λ x. (x.names, x.attributes)) ⟦<CommonTemplateAttributeParts<A> as PartList<A>>⟧.rules) refl
-        ⟦<CommonTemplateAttribute<A> as PartialEq>⟧.eq (λ x y e. e) };
+    ghost rules = { structure true ⟦<CommonTemplateAttributeParts<A> as PartList<A>>⟧.rules ⟦<CommonTemplateAttribute<A> as FromParts<A, CommonTemplateAttributeParts<A>>>⟧.parts refl ⟦<CommonTemplateAttribute<A> as PartialEq>⟧.eq (λ x y e. e) };
 
-    fn number() -> u32 {
-        0x42001F
+    fn read<'b>(scope: &Scope<'b, A>, tag: u32, cursor: &mut Cursor<'b, A>) -> Step<Self, A> {
+        read_structure::<CommonTemplateAttributeParts<A>, Self, A>(scope, tag, true, cursor)
     }
 
-    fn read_nested<'b>(scope: &Scope<'b, A>, cursor: &mut Cursor<'b, A>) -> Step<Self, A> {
-        match read_parts::<CommonTemplateAttributeParts<A>, A>(scope, 0x42001F, true, cursor) {
-            Ok(parts) => {
-                let (names, attributes) = parts;
-                Ok(CommonTemplateAttribute { names, attributes })
-            }
-            Err(failure) => Err(failure),
-        }
+    fn tell_parts<W: Walk<A>>(&self, state: &mut W::State) -> Result<(), AllocError> {
+        W::two::<
+            Any<Of<TemplateName<A>, 0x420053>, 0x420053>,
+            Any<Of<Attribute<A>, 0x420008>, 0x420008>,
+        >(state, &self.names, &self.attributes)
     }
-
-    fn visit_parts<V: Visitor>(&self, visitor: &mut V) -> Result<(), AllocError> {
-        visit_structure_two::<
-            Any<Of<TemplateName<A>>, 0x420053>,
-            Any<Of<Attribute<A>>, 0x420008>,
-            V,
-            A,
-        >(visitor, 0x42001F, &self.names, &self.attributes)
-    }
-
-    fn is_whole(&self) -> bool {
-        are_whole_two::<Any<Of<TemplateName<A>>, 0x420053>, Any<Of<Attribute<A>>, 0x420008>, A>(
-            &self.names,
-            &self.attributes,
-        )
-    }
-
-    ghost structured = { (refl, refl) };
 }
 
 /// What a private key is made with.
@@ -174,45 +132,32 @@ pub struct PrivateKeyTemplateAttribute<A: Allocator = Global> {
 }
 
 type PrivateKeyTemplateAttributeParts<A> = (
-    Any<Of<TemplateName<A>>, 0x420053>,
-    Any<Of<Attribute<A>>, 0x420008>,
+    Any<Of<TemplateName<A>, 0x420053>, 0x420053>,
+    Any<Of<Attribute<A>, 0x420008>, 0x420008>,
 );
 
+impl<A: Allocator + Copy> FromParts<A, PrivateKeyTemplateAttributeParts<A>>
+    for PrivateKeyTemplateAttribute<A> {
+    ghost parts = { λ x. (x.names, x.attributes) };
+
+    fn from_parts((names, attributes): Holds<PrivateKeyTemplateAttributeParts<A>, A>) -> Self {
+        PrivateKeyTemplateAttribute { names, attributes }
+    }
+}
+
 impl<A: Allocator + Copy> Structure<A> for PrivateKeyTemplateAttribute<A> {
-    ghost item = { structure 0x420065 true (of (λ x. (x.names, x.attributes)) ⟦<PrivateKeyTemplateAttributeParts<A> as PartList<A>>⟧.rules) refl
-        ⟦<PrivateKeyTemplateAttribute<A> as PartialEq>⟧.eq (λ x y e. e) };
+    ghost rules = { structure true ⟦<PrivateKeyTemplateAttributeParts<A> as PartList<A>>⟧.rules ⟦<PrivateKeyTemplateAttribute<A> as FromParts<A, PrivateKeyTemplateAttributeParts<A>>>⟧.parts refl ⟦<PrivateKeyTemplateAttribute<A> as PartialEq>⟧.eq (λ x y e. e) };
 
-    fn number() -> u32 {
-        0x420065
+    fn read<'b>(scope: &Scope<'b, A>, tag: u32, cursor: &mut Cursor<'b, A>) -> Step<Self, A> {
+        read_structure::<PrivateKeyTemplateAttributeParts<A>, Self, A>(scope, tag, true, cursor)
     }
 
-    fn read_nested<'b>(scope: &Scope<'b, A>, cursor: &mut Cursor<'b, A>) -> Step<Self, A> {
-        match read_parts::<PrivateKeyTemplateAttributeParts<A>, A>(scope, 0x420065, true, cursor) {
-            Ok(parts) => {
-                let (names, attributes) = parts;
-                Ok(PrivateKeyTemplateAttribute { names, attributes })
-            }
-            Err(failure) => Err(failure),
-        }
+    fn tell_parts<W: Walk<A>>(&self, state: &mut W::State) -> Result<(), AllocError> {
+        W::two::<
+            Any<Of<TemplateName<A>, 0x420053>, 0x420053>,
+            Any<Of<Attribute<A>, 0x420008>, 0x420008>,
+        >(state, &self.names, &self.attributes)
     }
-
-    fn visit_parts<V: Visitor>(&self, visitor: &mut V) -> Result<(), AllocError> {
-        visit_structure_two::<
-            Any<Of<TemplateName<A>>, 0x420053>,
-            Any<Of<Attribute<A>>, 0x420008>,
-            V,
-            A,
-        >(visitor, 0x420065, &self.names, &self.attributes)
-    }
-
-    fn is_whole(&self) -> bool {
-        are_whole_two::<Any<Of<TemplateName<A>>, 0x420053>, Any<Of<Attribute<A>>, 0x420008>, A>(
-            &self.names,
-            &self.attributes,
-        )
-    }
-
-    ghost structured = { (refl, refl) };
 }
 
 /// What a public key is made with.
@@ -226,43 +171,30 @@ pub struct PublicKeyTemplateAttribute<A: Allocator = Global> {
 }
 
 type PublicKeyTemplateAttributeParts<A> = (
-    Any<Of<TemplateName<A>>, 0x420053>,
-    Any<Of<Attribute<A>>, 0x420008>,
+    Any<Of<TemplateName<A>, 0x420053>, 0x420053>,
+    Any<Of<Attribute<A>, 0x420008>, 0x420008>,
 );
 
+impl<A: Allocator + Copy> FromParts<A, PublicKeyTemplateAttributeParts<A>>
+    for PublicKeyTemplateAttribute<A> {
+    ghost parts = { λ x. (x.names, x.attributes) };
+
+    fn from_parts((names, attributes): Holds<PublicKeyTemplateAttributeParts<A>, A>) -> Self {
+        PublicKeyTemplateAttribute { names, attributes }
+    }
+}
+
 impl<A: Allocator + Copy> Structure<A> for PublicKeyTemplateAttribute<A> {
-    ghost item = { structure 0x42006E true (of (λ x. (x.names, x.attributes)) ⟦<PublicKeyTemplateAttributeParts<A> as PartList<A>>⟧.rules) refl
-        ⟦<PublicKeyTemplateAttribute<A> as PartialEq>⟧.eq (λ x y e. e) };
+    ghost rules = { structure true ⟦<PublicKeyTemplateAttributeParts<A> as PartList<A>>⟧.rules ⟦<PublicKeyTemplateAttribute<A> as FromParts<A, PublicKeyTemplateAttributeParts<A>>>⟧.parts refl ⟦<PublicKeyTemplateAttribute<A> as PartialEq>⟧.eq (λ x y e. e) };
 
-    fn number() -> u32 {
-        0x42006E
+    fn read<'b>(scope: &Scope<'b, A>, tag: u32, cursor: &mut Cursor<'b, A>) -> Step<Self, A> {
+        read_structure::<PublicKeyTemplateAttributeParts<A>, Self, A>(scope, tag, true, cursor)
     }
 
-    fn read_nested<'b>(scope: &Scope<'b, A>, cursor: &mut Cursor<'b, A>) -> Step<Self, A> {
-        match read_parts::<PublicKeyTemplateAttributeParts<A>, A>(scope, 0x42006E, true, cursor) {
-            Ok(parts) => {
-                let (names, attributes) = parts;
-                Ok(PublicKeyTemplateAttribute { names, attributes })
-            }
-            Err(failure) => Err(failure),
-        }
+    fn tell_parts<W: Walk<A>>(&self, state: &mut W::State) -> Result<(), AllocError> {
+        W::two::<
+            Any<Of<TemplateName<A>, 0x420053>, 0x420053>,
+            Any<Of<Attribute<A>, 0x420008>, 0x420008>,
+        >(state, &self.names, &self.attributes)
     }
-
-    fn visit_parts<V: Visitor>(&self, visitor: &mut V) -> Result<(), AllocError> {
-        visit_structure_two::<
-            Any<Of<TemplateName<A>>, 0x420053>,
-            Any<Of<Attribute<A>>, 0x420008>,
-            V,
-            A,
-        >(visitor, 0x42006E, &self.names, &self.attributes)
-    }
-
-    fn is_whole(&self) -> bool {
-        are_whole_two::<Any<Of<TemplateName<A>>, 0x420053>, Any<Of<Attribute<A>>, 0x420008>, A>(
-            &self.names,
-            &self.attributes,
-        )
-    }
-
-    ghost structured = { (refl, refl) };
 }

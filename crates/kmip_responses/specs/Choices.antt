@@ -1,16 +1,15 @@
 -- Written by codegen from types.table: change that, and run codegen/codegen.
 -- Which rules choose what, and what is there of what may be.
-use Rattle.std.proofs.Common.{ap, refl, subst, sym, true, ◌∙◌}
+use Rattle.std.proofs.Common.{ap, refl, true, ◌∙◌}
 use Rattle.std.specs.Option.{IsSomeAnd}
-use Rattle.std.specs.Prelude.{IfSome, IsTrue, List, None, Option, Some, codes, option_map, ℕ, ◌+◌, ◌≡◌, ◌↔◌}
+use Rattle.std.specs.Prelude.{None, Option, Some, codes, ℕ, ◌+◌, ◌≡◌}
 use Rattle.std.specs.Str.{chars, trim_end, trim_start}
 use lib.Utf8.{encode}
-use Rattle.kmip_ttlv_kinds.specs.Choices.{Case, ChoiceOf, Held, case_of, choice_by}
+use Rattle.kmip_ttlv_kinds.specs.Choices.{Case, ChoiceOf, Held, Meaning, as_item, case_of, choice_by}
 use Rattle.kmip_ttlv_parts.proofs.Equal.{apart, in_variant}
 use Rattle.kmip_ttlv_parts.specs.Agreements.{first_variant, later_variant}
 use Rattle.kmip_ttlv_parts.specs.Forms.{Variants, enum, no_variants, variant, wrapped}
 use Rattle.kmip_ttlv_parts.specs.MessageParts.{there}
-use Rattle.kmip_ttlv_parts.specs.Values.{Value, newtype_variant_value}
 use Rattle.kmip_ttlv_parts.specs.Names.{number, tag_of}
 use Rattle.kmip_ttlv_parts.specs.Returns.{text_of_number}
 use Rattle.kmip_ttlv_parts.specs.Rules.{at_least, equal, in_brackets, member, rule, sides}
@@ -46,85 +45,44 @@ IsGetResponseObject x (Some (managed_object.Template inner)) = (x.certificate �
 IsGetResponseObject x (Some (managed_object.SecretData inner)) = (x.certificate ≡ None) × (x.symmetric_key ≡ None) × (x.public_key ≡ None) × (x.private_key ≡ None) × (x.split_key ≡ None) × (x.template ≡ None) × (IsSomeAnd x.secret_data (λ y. y.inner.value ≡ inner.now)) × (x.opaque_object ≡ None)
 IsGetResponseObject x (Some (managed_object.OpaqueObject inner)) = (x.certificate ≡ None) × (x.symmetric_key ≡ None) × (x.public_key ≡ None) × (x.private_key ≡ None) × (x.split_key ≡ None) × (x.template ≡ None) × (x.secret_data ≡ None) × (x.opaque_object ≡ Some inner.now)
 
--- what is said, if it is the text of 42005C, chooses what is in a `ResponsePayload`
-abbrev pub ChoosesResponsePayload : {A : Type 0} → List ℕ → ResponsePayload A → Type 0
-ChoosesResponsePayload said (response_payload.Create x) = (said ≡ codes "0x00000001")
-ChoosesResponsePayload said (response_payload.CreateKeyPair x) = (said ≡ codes "0x00000002")
-ChoosesResponsePayload said (response_payload.Register x) = (said ≡ codes "0x00000003")
-ChoosesResponsePayload said (response_payload.Locate x) = (said ≡ codes "0x00000008")
-ChoosesResponsePayload said (response_payload.Get x) = (said ≡ codes "0x0000000A")
-ChoosesResponsePayload said (response_payload.GetAttributes x) = (said ≡ codes "0x0000000B")
-ChoosesResponsePayload said (response_payload.GetAttributeList x) = (said ≡ codes "0x0000000C")
-ChoosesResponsePayload said (response_payload.AddAttribute x) = (said ≡ codes "0x0000000D")
-ChoosesResponsePayload said (response_payload.ModifyAttribute x) = (said ≡ codes "0x0000000E")
-ChoosesResponsePayload said (response_payload.DeleteAttribute x) = (said ≡ codes "0x0000000F")
-ChoosesResponsePayload said (response_payload.Activate x) = (said ≡ codes "0x00000012")
-ChoosesResponsePayload said (response_payload.Revoke x) = (said ≡ codes "0x00000013")
-ChoosesResponsePayload said (response_payload.Destroy x) = (said ≡ codes "0x00000014")
-ChoosesResponsePayload said (response_payload.Query x) = (said ≡ codes "0x00000018")
-ChoosesResponsePayload said (response_payload.DiscoverVersions x) = (said ≡ codes "0x0000001E")
+-- the number that chooses what is in a `ResponsePayload`, of the Enumeration 42005C
+abbrev pub response_payload_chosen_by : {A : Type 0} → ResponsePayload A → ℕ
+response_payload_chosen_by (response_payload.Create x) = 0x00000001
+response_payload_chosen_by (response_payload.CreateKeyPair x) = 0x00000002
+response_payload_chosen_by (response_payload.Register x) = 0x00000003
+response_payload_chosen_by (response_payload.Locate x) = 0x00000008
+response_payload_chosen_by (response_payload.Get x) = 0x0000000A
+response_payload_chosen_by (response_payload.GetAttributes x) = 0x0000000B
+response_payload_chosen_by (response_payload.GetAttributeList x) = 0x0000000C
+response_payload_chosen_by (response_payload.AddAttribute x) = 0x0000000D
+response_payload_chosen_by (response_payload.ModifyAttribute x) = 0x0000000E
+response_payload_chosen_by (response_payload.DeleteAttribute x) = 0x0000000F
+response_payload_chosen_by (response_payload.Activate x) = 0x00000012
+response_payload_chosen_by (response_payload.Revoke x) = 0x00000013
+response_payload_chosen_by (response_payload.Destroy x) = 0x00000014
+response_payload_chosen_by (response_payload.Query x) = 0x00000018
+response_payload_chosen_by (response_payload.DiscoverVersions x) = 0x0000001E
 
--- the same of an Enumeration's number
-abbrev pub ChoosesResponsePayloadNumber : {A : Type 0} → ℕ → ResponsePayload A → Type 0
-ChoosesResponsePayloadNumber n (response_payload.Create x) = (n ≡ 0x00000001)
-ChoosesResponsePayloadNumber n (response_payload.CreateKeyPair x) = (n ≡ 0x00000002)
-ChoosesResponsePayloadNumber n (response_payload.Register x) = (n ≡ 0x00000003)
-ChoosesResponsePayloadNumber n (response_payload.Locate x) = (n ≡ 0x00000008)
-ChoosesResponsePayloadNumber n (response_payload.Get x) = (n ≡ 0x0000000A)
-ChoosesResponsePayloadNumber n (response_payload.GetAttributes x) = (n ≡ 0x0000000B)
-ChoosesResponsePayloadNumber n (response_payload.GetAttributeList x) = (n ≡ 0x0000000C)
-ChoosesResponsePayloadNumber n (response_payload.AddAttribute x) = (n ≡ 0x0000000D)
-ChoosesResponsePayloadNumber n (response_payload.ModifyAttribute x) = (n ≡ 0x0000000E)
-ChoosesResponsePayloadNumber n (response_payload.DeleteAttribute x) = (n ≡ 0x0000000F)
-ChoosesResponsePayloadNumber n (response_payload.Activate x) = (n ≡ 0x00000012)
-ChoosesResponsePayloadNumber n (response_payload.Revoke x) = (n ≡ 0x00000013)
-ChoosesResponsePayloadNumber n (response_payload.Destroy x) = (n ≡ 0x00000014)
-ChoosesResponsePayloadNumber n (response_payload.Query x) = (n ≡ 0x00000018)
-ChoosesResponsePayloadNumber n (response_payload.DiscoverVersions x) = (n ≡ 0x0000001E)
+-- what each thing means that a `ResponsePayload` may hold
+pub record ResponsePayloadCases (A : Type 0) : Type 1 where
+  pub create : CreateResponse A → Meaning
+  pub create_key_pair : CreateKeyPairResponse A → Meaning
+  pub register : RegisterResponse A → Meaning
+  pub locate : LocateResponse A → Meaning
+  pub get : GetResponse A → Meaning
+  pub get_attributes : GetAttributesResponse A → Meaning
+  pub get_attribute_list : GetAttributeListResponse A → Meaning
+  pub add_attribute : AttributeResponse A → Meaning
+  pub modify_attribute : AttributeResponse A → Meaning
+  pub delete_attribute : AttributeResponse A → Meaning
+  pub activate : ObjectResponse A → Meaning
+  pub revoke : ObjectResponse A → Meaning
+  pub destroy : ObjectResponse A → Meaning
+  pub query : QueryResponse A → Meaning
+  pub discover_versions : DiscoverVersionsResponse A → Meaning
 
-pub response_payload_numbered : {A : Type 0} (n : ℕ) (x : ResponsePayload A) → ChoosesResponsePayloadNumber n x → ChoosesResponsePayload (text_of_number n) x
-response_payload_numbered n (response_payload.Create x) chooses = ap text_of_number chooses
-response_payload_numbered n (response_payload.CreateKeyPair x) chooses = ap text_of_number chooses
-response_payload_numbered n (response_payload.Register x) chooses = ap text_of_number chooses
-response_payload_numbered n (response_payload.Locate x) chooses = ap text_of_number chooses
-response_payload_numbered n (response_payload.Get x) chooses = ap text_of_number chooses
-response_payload_numbered n (response_payload.GetAttributes x) chooses = ap text_of_number chooses
-response_payload_numbered n (response_payload.GetAttributeList x) chooses = ap text_of_number chooses
-response_payload_numbered n (response_payload.AddAttribute x) chooses = ap text_of_number chooses
-response_payload_numbered n (response_payload.ModifyAttribute x) chooses = ap text_of_number chooses
-response_payload_numbered n (response_payload.DeleteAttribute x) chooses = ap text_of_number chooses
-response_payload_numbered n (response_payload.Activate x) chooses = ap text_of_number chooses
-response_payload_numbered n (response_payload.Revoke x) chooses = ap text_of_number chooses
-response_payload_numbered n (response_payload.Destroy x) chooses = ap text_of_number chooses
-response_payload_numbered n (response_payload.Query x) chooses = ap text_of_number chooses
-response_payload_numbered n (response_payload.DiscoverVersions x) chooses = ap text_of_number chooses
-
-pub response_payload_numbered_where : {A : Type 0} {t : ℕ} (o : Option (Enumeration t)) (p : Option (ResponsePayload A)) → IfSome p (λ y. IsSomeAnd o (λ z. ChoosesResponsePayloadNumber z.number y))
-    → IfSome p (λ y. IsSomeAnd (option_map (λ z. text_of_number z.number) o) (λ text. ChoosesResponsePayload text y))
-response_payload_numbered_where o None chooses = tt
-response_payload_numbered_where None (Some y) chooses = absurd chooses
-response_payload_numbered_where (Some z) (Some y) chooses = response_payload_numbered z.number y chooses
-
--- the value of each thing that a `ResponsePayload` may hold
-pub record ResponsePayloadValues (A : Type 0) : Type 0 where
-  pub create : CreateResponse A → Value
-  pub create_key_pair : CreateKeyPairResponse A → Value
-  pub register : RegisterResponse A → Value
-  pub locate : LocateResponse A → Value
-  pub get : GetResponse A → Value
-  pub get_attributes : GetAttributesResponse A → Value
-  pub get_attribute_list : GetAttributeListResponse A → Value
-  pub add_attribute : AttributeResponse A → Value
-  pub modify_attribute : AttributeResponse A → Value
-  pub delete_attribute : AttributeResponse A → Value
-  pub activate : ObjectResponse A → Value
-  pub revoke : ObjectResponse A → Value
-  pub destroy : ObjectResponse A → Value
-  pub query : QueryResponse A → Value
-  pub discover_versions : DiscoverVersionsResponse A → Value
-
--- the value of what it holds
-unfoldable pub response_payload_by : {A : Type 0} → ResponsePayloadValues A → ResponsePayload A → Value
+-- what it means
+unfoldable pub response_payload_by : {A : Type 0} → ResponsePayloadCases A → ResponsePayload A → Meaning
 response_payload_by f (response_payload.Create x) = f.create x
 response_payload_by f (response_payload.CreateKeyPair x) = f.create_key_pair x
 response_payload_by f (response_payload.Register x) = f.register x
@@ -140,162 +98,6 @@ response_payload_by f (response_payload.Revoke x) = f.revoke x
 response_payload_by f (response_payload.Destroy x) = f.destroy x
 response_payload_by f (response_payload.Query x) = f.query x
 response_payload_by f (response_payload.DiscoverVersions x) = f.discover_versions x
-
-pub response_payload_value_of_create : {A : Type 0} (f : ResponsePayloadValues A) {x : ResponsePayload A} {y : CreateResponse A} → x ≡ response_payload.Create y → response_payload_by f x ≡ f.create y
-unfolding response_payload_by
-response_payload_value_of_create f is = ap (response_payload_by f) is
-
-pub response_payload_value_of_create_key_pair : {A : Type 0} (f : ResponsePayloadValues A) {x : ResponsePayload A} {y : CreateKeyPairResponse A} → x ≡ response_payload.CreateKeyPair y → response_payload_by f x ≡ f.create_key_pair y
-unfolding response_payload_by
-response_payload_value_of_create_key_pair f is = ap (response_payload_by f) is
-
-pub response_payload_value_of_register : {A : Type 0} (f : ResponsePayloadValues A) {x : ResponsePayload A} {y : RegisterResponse A} → x ≡ response_payload.Register y → response_payload_by f x ≡ f.register y
-unfolding response_payload_by
-response_payload_value_of_register f is = ap (response_payload_by f) is
-
-pub response_payload_value_of_locate : {A : Type 0} (f : ResponsePayloadValues A) {x : ResponsePayload A} {y : LocateResponse A} → x ≡ response_payload.Locate y → response_payload_by f x ≡ f.locate y
-unfolding response_payload_by
-response_payload_value_of_locate f is = ap (response_payload_by f) is
-
-pub response_payload_value_of_get : {A : Type 0} (f : ResponsePayloadValues A) {x : ResponsePayload A} {y : GetResponse A} → x ≡ response_payload.Get y → response_payload_by f x ≡ f.get y
-unfolding response_payload_by
-response_payload_value_of_get f is = ap (response_payload_by f) is
-
-pub response_payload_value_of_get_attributes : {A : Type 0} (f : ResponsePayloadValues A) {x : ResponsePayload A} {y : GetAttributesResponse A} → x ≡ response_payload.GetAttributes y → response_payload_by f x ≡ f.get_attributes y
-unfolding response_payload_by
-response_payload_value_of_get_attributes f is = ap (response_payload_by f) is
-
-pub response_payload_value_of_get_attribute_list : {A : Type 0} (f : ResponsePayloadValues A) {x : ResponsePayload A} {y : GetAttributeListResponse A} → x ≡ response_payload.GetAttributeList y → response_payload_by f x ≡ f.get_attribute_list y
-unfolding response_payload_by
-response_payload_value_of_get_attribute_list f is = ap (response_payload_by f) is
-
-pub response_payload_value_of_add_attribute : {A : Type 0} (f : ResponsePayloadValues A) {x : ResponsePayload A} {y : AttributeResponse A} → x ≡ response_payload.AddAttribute y → response_payload_by f x ≡ f.add_attribute y
-unfolding response_payload_by
-response_payload_value_of_add_attribute f is = ap (response_payload_by f) is
-
-pub response_payload_value_of_modify_attribute : {A : Type 0} (f : ResponsePayloadValues A) {x : ResponsePayload A} {y : AttributeResponse A} → x ≡ response_payload.ModifyAttribute y → response_payload_by f x ≡ f.modify_attribute y
-unfolding response_payload_by
-response_payload_value_of_modify_attribute f is = ap (response_payload_by f) is
-
-pub response_payload_value_of_delete_attribute : {A : Type 0} (f : ResponsePayloadValues A) {x : ResponsePayload A} {y : AttributeResponse A} → x ≡ response_payload.DeleteAttribute y → response_payload_by f x ≡ f.delete_attribute y
-unfolding response_payload_by
-response_payload_value_of_delete_attribute f is = ap (response_payload_by f) is
-
-pub response_payload_value_of_activate : {A : Type 0} (f : ResponsePayloadValues A) {x : ResponsePayload A} {y : ObjectResponse A} → x ≡ response_payload.Activate y → response_payload_by f x ≡ f.activate y
-unfolding response_payload_by
-response_payload_value_of_activate f is = ap (response_payload_by f) is
-
-pub response_payload_value_of_revoke : {A : Type 0} (f : ResponsePayloadValues A) {x : ResponsePayload A} {y : ObjectResponse A} → x ≡ response_payload.Revoke y → response_payload_by f x ≡ f.revoke y
-unfolding response_payload_by
-response_payload_value_of_revoke f is = ap (response_payload_by f) is
-
-pub response_payload_value_of_destroy : {A : Type 0} (f : ResponsePayloadValues A) {x : ResponsePayload A} {y : ObjectResponse A} → x ≡ response_payload.Destroy y → response_payload_by f x ≡ f.destroy y
-unfolding response_payload_by
-response_payload_value_of_destroy f is = ap (response_payload_by f) is
-
-pub response_payload_value_of_query : {A : Type 0} (f : ResponsePayloadValues A) {x : ResponsePayload A} {y : QueryResponse A} → x ≡ response_payload.Query y → response_payload_by f x ≡ f.query y
-unfolding response_payload_by
-response_payload_value_of_query f is = ap (response_payload_by f) is
-
-pub response_payload_value_of_discover_versions : {A : Type 0} (f : ResponsePayloadValues A) {x : ResponsePayload A} {y : DiscoverVersionsResponse A} → x ≡ response_payload.DiscoverVersions y → response_payload_by f x ≡ f.discover_versions y
-unfolding response_payload_by
-response_payload_value_of_discover_versions f is = ap (response_payload_by f) is
-
--- what is said of each thing that a `ResponsePayload` may hold
-pub record ResponsePayloadFacts (A : Type 0) : Type 1 where
-  pub create : CreateResponse A → Type 0
-  pub create_key_pair : CreateKeyPairResponse A → Type 0
-  pub register : RegisterResponse A → Type 0
-  pub locate : LocateResponse A → Type 0
-  pub get : GetResponse A → Type 0
-  pub get_attributes : GetAttributesResponse A → Type 0
-  pub get_attribute_list : GetAttributeListResponse A → Type 0
-  pub add_attribute : AttributeResponse A → Type 0
-  pub modify_attribute : AttributeResponse A → Type 0
-  pub delete_attribute : AttributeResponse A → Type 0
-  pub activate : ObjectResponse A → Type 0
-  pub revoke : ObjectResponse A → Type 0
-  pub destroy : ObjectResponse A → Type 0
-  pub query : QueryResponse A → Type 0
-  pub discover_versions : DiscoverVersionsResponse A → Type 0
-
--- what is said of what it holds
-unfoldable pub IsResponsePayloadBy : {A : Type 0} → ResponsePayloadFacts A → ResponsePayload A → Type 0
-IsResponsePayloadBy f (response_payload.Create x) = f.create x
-IsResponsePayloadBy f (response_payload.CreateKeyPair x) = f.create_key_pair x
-IsResponsePayloadBy f (response_payload.Register x) = f.register x
-IsResponsePayloadBy f (response_payload.Locate x) = f.locate x
-IsResponsePayloadBy f (response_payload.Get x) = f.get x
-IsResponsePayloadBy f (response_payload.GetAttributes x) = f.get_attributes x
-IsResponsePayloadBy f (response_payload.GetAttributeList x) = f.get_attribute_list x
-IsResponsePayloadBy f (response_payload.AddAttribute x) = f.add_attribute x
-IsResponsePayloadBy f (response_payload.ModifyAttribute x) = f.modify_attribute x
-IsResponsePayloadBy f (response_payload.DeleteAttribute x) = f.delete_attribute x
-IsResponsePayloadBy f (response_payload.Activate x) = f.activate x
-IsResponsePayloadBy f (response_payload.Revoke x) = f.revoke x
-IsResponsePayloadBy f (response_payload.Destroy x) = f.destroy x
-IsResponsePayloadBy f (response_payload.Query x) = f.query x
-IsResponsePayloadBy f (response_payload.DiscoverVersions x) = f.discover_versions x
-
-pub response_payload_fact_of_create : {A : Type 0} (f : ResponsePayloadFacts A) {x : ResponsePayload A} {y : CreateResponse A} {b : Boole} → x ≡ response_payload.Create y → IsTrue b ↔ f.create y → IsTrue b ↔ IsResponsePayloadBy f x
-unfolding IsResponsePayloadBy
-response_payload_fact_of_create f {b = b} is of = subst (λ z. IsTrue b ↔ IsResponsePayloadBy f z) (sym is) of
-
-pub response_payload_fact_of_create_key_pair : {A : Type 0} (f : ResponsePayloadFacts A) {x : ResponsePayload A} {y : CreateKeyPairResponse A} {b : Boole} → x ≡ response_payload.CreateKeyPair y → IsTrue b ↔ f.create_key_pair y → IsTrue b ↔ IsResponsePayloadBy f x
-unfolding IsResponsePayloadBy
-response_payload_fact_of_create_key_pair f {b = b} is of = subst (λ z. IsTrue b ↔ IsResponsePayloadBy f z) (sym is) of
-
-pub response_payload_fact_of_register : {A : Type 0} (f : ResponsePayloadFacts A) {x : ResponsePayload A} {y : RegisterResponse A} {b : Boole} → x ≡ response_payload.Register y → IsTrue b ↔ f.register y → IsTrue b ↔ IsResponsePayloadBy f x
-unfolding IsResponsePayloadBy
-response_payload_fact_of_register f {b = b} is of = subst (λ z. IsTrue b ↔ IsResponsePayloadBy f z) (sym is) of
-
-pub response_payload_fact_of_locate : {A : Type 0} (f : ResponsePayloadFacts A) {x : ResponsePayload A} {y : LocateResponse A} {b : Boole} → x ≡ response_payload.Locate y → IsTrue b ↔ f.locate y → IsTrue b ↔ IsResponsePayloadBy f x
-unfolding IsResponsePayloadBy
-response_payload_fact_of_locate f {b = b} is of = subst (λ z. IsTrue b ↔ IsResponsePayloadBy f z) (sym is) of
-
-pub response_payload_fact_of_get : {A : Type 0} (f : ResponsePayloadFacts A) {x : ResponsePayload A} {y : GetResponse A} {b : Boole} → x ≡ response_payload.Get y → IsTrue b ↔ f.get y → IsTrue b ↔ IsResponsePayloadBy f x
-unfolding IsResponsePayloadBy
-response_payload_fact_of_get f {b = b} is of = subst (λ z. IsTrue b ↔ IsResponsePayloadBy f z) (sym is) of
-
-pub response_payload_fact_of_get_attributes : {A : Type 0} (f : ResponsePayloadFacts A) {x : ResponsePayload A} {y : GetAttributesResponse A} {b : Boole} → x ≡ response_payload.GetAttributes y → IsTrue b ↔ f.get_attributes y → IsTrue b ↔ IsResponsePayloadBy f x
-unfolding IsResponsePayloadBy
-response_payload_fact_of_get_attributes f {b = b} is of = subst (λ z. IsTrue b ↔ IsResponsePayloadBy f z) (sym is) of
-
-pub response_payload_fact_of_get_attribute_list : {A : Type 0} (f : ResponsePayloadFacts A) {x : ResponsePayload A} {y : GetAttributeListResponse A} {b : Boole} → x ≡ response_payload.GetAttributeList y → IsTrue b ↔ f.get_attribute_list y → IsTrue b ↔ IsResponsePayloadBy f x
-unfolding IsResponsePayloadBy
-response_payload_fact_of_get_attribute_list f {b = b} is of = subst (λ z. IsTrue b ↔ IsResponsePayloadBy f z) (sym is) of
-
-pub response_payload_fact_of_add_attribute : {A : Type 0} (f : ResponsePayloadFacts A) {x : ResponsePayload A} {y : AttributeResponse A} {b : Boole} → x ≡ response_payload.AddAttribute y → IsTrue b ↔ f.add_attribute y → IsTrue b ↔ IsResponsePayloadBy f x
-unfolding IsResponsePayloadBy
-response_payload_fact_of_add_attribute f {b = b} is of = subst (λ z. IsTrue b ↔ IsResponsePayloadBy f z) (sym is) of
-
-pub response_payload_fact_of_modify_attribute : {A : Type 0} (f : ResponsePayloadFacts A) {x : ResponsePayload A} {y : AttributeResponse A} {b : Boole} → x ≡ response_payload.ModifyAttribute y → IsTrue b ↔ f.modify_attribute y → IsTrue b ↔ IsResponsePayloadBy f x
-unfolding IsResponsePayloadBy
-response_payload_fact_of_modify_attribute f {b = b} is of = subst (λ z. IsTrue b ↔ IsResponsePayloadBy f z) (sym is) of
-
-pub response_payload_fact_of_delete_attribute : {A : Type 0} (f : ResponsePayloadFacts A) {x : ResponsePayload A} {y : AttributeResponse A} {b : Boole} → x ≡ response_payload.DeleteAttribute y → IsTrue b ↔ f.delete_attribute y → IsTrue b ↔ IsResponsePayloadBy f x
-unfolding IsResponsePayloadBy
-response_payload_fact_of_delete_attribute f {b = b} is of = subst (λ z. IsTrue b ↔ IsResponsePayloadBy f z) (sym is) of
-
-pub response_payload_fact_of_activate : {A : Type 0} (f : ResponsePayloadFacts A) {x : ResponsePayload A} {y : ObjectResponse A} {b : Boole} → x ≡ response_payload.Activate y → IsTrue b ↔ f.activate y → IsTrue b ↔ IsResponsePayloadBy f x
-unfolding IsResponsePayloadBy
-response_payload_fact_of_activate f {b = b} is of = subst (λ z. IsTrue b ↔ IsResponsePayloadBy f z) (sym is) of
-
-pub response_payload_fact_of_revoke : {A : Type 0} (f : ResponsePayloadFacts A) {x : ResponsePayload A} {y : ObjectResponse A} {b : Boole} → x ≡ response_payload.Revoke y → IsTrue b ↔ f.revoke y → IsTrue b ↔ IsResponsePayloadBy f x
-unfolding IsResponsePayloadBy
-response_payload_fact_of_revoke f {b = b} is of = subst (λ z. IsTrue b ↔ IsResponsePayloadBy f z) (sym is) of
-
-pub response_payload_fact_of_destroy : {A : Type 0} (f : ResponsePayloadFacts A) {x : ResponsePayload A} {y : ObjectResponse A} {b : Boole} → x ≡ response_payload.Destroy y → IsTrue b ↔ f.destroy y → IsTrue b ↔ IsResponsePayloadBy f x
-unfolding IsResponsePayloadBy
-response_payload_fact_of_destroy f {b = b} is of = subst (λ z. IsTrue b ↔ IsResponsePayloadBy f z) (sym is) of
-
-pub response_payload_fact_of_query : {A : Type 0} (f : ResponsePayloadFacts A) {x : ResponsePayload A} {y : QueryResponse A} {b : Boole} → x ≡ response_payload.Query y → IsTrue b ↔ f.query y → IsTrue b ↔ IsResponsePayloadBy f x
-unfolding IsResponsePayloadBy
-response_payload_fact_of_query f {b = b} is of = subst (λ z. IsTrue b ↔ IsResponsePayloadBy f z) (sym is) of
-
-pub response_payload_fact_of_discover_versions : {A : Type 0} (f : ResponsePayloadFacts A) {x : ResponsePayload A} {y : DiscoverVersionsResponse A} {b : Boole} → x ≡ response_payload.DiscoverVersions y → IsTrue b ↔ f.discover_versions y → IsTrue b ↔ IsResponsePayloadBy f x
-unfolding IsResponsePayloadBy
-response_payload_fact_of_discover_versions f {b = b} is of = subst (λ z. IsTrue b ↔ IsResponsePayloadBy f z) (sym is) of
 
 -- what a `ResponsePayload` may hold
 pub record ResponsePayloadItems (A : Type 0) (eq : ResponsePayload A → ResponsePayload A → Boole) : Type 1 where
@@ -334,12 +136,28 @@ response_payload_variants i =
     variant (codes "if 0x42005C==0x00000018") (wrapped i.query.form) (
     variant (codes "if 0x42005C==0x0000001E") (wrapped i.discover_versions.form) no_variants))))))))))))))
 
+abbrev pub response_payload_cases : {A : Type 0} {eq : ResponsePayload A → ResponsePayload A → Boole} → ResponsePayloadItems A eq → ResponsePayloadCases A
+response_payload_cases i = record {
+  create = as_item (codes "payload") (codes "if 0x42005C==0x00000001") i.create;
+  create_key_pair = as_item (codes "payload") (codes "if 0x42005C==0x00000002") i.create_key_pair;
+  register = as_item (codes "payload") (codes "if 0x42005C==0x00000003") i.register;
+  locate = as_item (codes "payload") (codes "if 0x42005C==0x00000008") i.locate;
+  get = as_item (codes "payload") (codes "if 0x42005C==0x0000000A") i.get;
+  get_attributes = as_item (codes "payload") (codes "if 0x42005C==0x0000000B") i.get_attributes;
+  get_attribute_list = as_item (codes "payload") (codes "if 0x42005C==0x0000000C") i.get_attribute_list;
+  add_attribute = as_item (codes "payload") (codes "if 0x42005C==0x0000000D") i.add_attribute;
+  modify_attribute = as_item (codes "payload") (codes "if 0x42005C==0x0000000E") i.modify_attribute;
+  delete_attribute = as_item (codes "payload") (codes "if 0x42005C==0x0000000F") i.delete_attribute;
+  activate = as_item (codes "payload") (codes "if 0x42005C==0x00000012") i.activate;
+  revoke = as_item (codes "payload") (codes "if 0x42005C==0x00000013") i.revoke;
+  destroy = as_item (codes "payload") (codes "if 0x42005C==0x00000014") i.destroy;
+  query = as_item (codes "payload") (codes "if 0x42005C==0x00000018") i.query;
+  discover_versions = as_item (codes "payload") (codes "if 0x42005C==0x0000001E") i.discover_versions;
+}
+
 pub response_payload_case : {A : Type 0} {eq : ResponsePayload A → ResponsePayload A → Boole} (i : ResponsePayloadItems A eq) (x : ResponsePayload A)
-    → Case 0x42007C 0x42005C types.Structure (enum (codes "payload") (response_payload_variants i)) (λ said. ChoosesResponsePayload said x)
-    (response_payload_by record { create = i.create.rules.written; create_key_pair = i.create_key_pair.rules.written; register = i.register.rules.written; locate = i.locate.rules.written; get = i.get.rules.written; get_attributes = i.get_attributes.rules.written; get_attribute_list = i.get_attribute_list.rules.written; add_attribute = i.add_attribute.rules.written; modify_attribute = i.modify_attribute.rules.written; delete_attribute = i.delete_attribute.rules.written; activate = i.activate.rules.written; revoke = i.revoke.rules.written; destroy = i.destroy.rules.written; query = i.query.rules.written; discover_versions = i.discover_versions.rules.written } x)
-    (response_payload_by record { create = (λ y. newtype_variant_value (codes "payload") (codes "if 0x42005C==0x00000001") (i.create.value y)); create_key_pair = (λ y. newtype_variant_value (codes "payload") (codes "if 0x42005C==0x00000002") (i.create_key_pair.value y)); register = (λ y. newtype_variant_value (codes "payload") (codes "if 0x42005C==0x00000003") (i.register.value y)); locate = (λ y. newtype_variant_value (codes "payload") (codes "if 0x42005C==0x00000008") (i.locate.value y)); get = (λ y. newtype_variant_value (codes "payload") (codes "if 0x42005C==0x0000000A") (i.get.value y)); get_attributes = (λ y. newtype_variant_value (codes "payload") (codes "if 0x42005C==0x0000000B") (i.get_attributes.value y)); get_attribute_list = (λ y. newtype_variant_value (codes "payload") (codes "if 0x42005C==0x0000000C") (i.get_attribute_list.value y)); add_attribute = (λ y. newtype_variant_value (codes "payload") (codes "if 0x42005C==0x0000000D") (i.add_attribute.value y)); modify_attribute = (λ y. newtype_variant_value (codes "payload") (codes "if 0x42005C==0x0000000E") (i.modify_attribute.value y)); delete_attribute = (λ y. newtype_variant_value (codes "payload") (codes "if 0x42005C==0x0000000F") (i.delete_attribute.value y)); activate = (λ y. newtype_variant_value (codes "payload") (codes "if 0x42005C==0x00000012") (i.activate.value y)); revoke = (λ y. newtype_variant_value (codes "payload") (codes "if 0x42005C==0x00000013") (i.revoke.value y)); destroy = (λ y. newtype_variant_value (codes "payload") (codes "if 0x42005C==0x00000014") (i.destroy.value y)); query = (λ y. newtype_variant_value (codes "payload") (codes "if 0x42005C==0x00000018") (i.query.value y)); discover_versions = (λ y. newtype_variant_value (codes "payload") (codes "if 0x42005C==0x0000001E") (i.discover_versions.value y)) } x)
-    (IsResponsePayloadBy record { create = i.create.rules.IsSound; create_key_pair = i.create_key_pair.rules.IsSound; register = i.register.rules.IsSound; locate = i.locate.rules.IsSound; get = i.get.rules.IsSound; get_attributes = i.get_attributes.rules.IsSound; get_attribute_list = i.get_attribute_list.rules.IsSound; add_attribute = i.add_attribute.rules.IsSound; modify_attribute = i.modify_attribute.rules.IsSound; delete_attribute = i.delete_attribute.rules.IsSound; activate = i.activate.rules.IsSound; revoke = i.revoke.rules.IsSound; destroy = i.destroy.rules.IsSound; query = i.query.rules.IsSound; discover_versions = i.discover_versions.rules.IsSound } x)
-unfolding tag_of number rule sides equal at_least member in_brackets trim_end chars trim_start encode response_payload_by IsResponsePayloadBy
+    → Case 0x42007C 0x42005C types.Structure (enum (codes "payload") (response_payload_variants i)) (λ said. said ≡ text_of_number (response_payload_chosen_by x)) (response_payload_by (response_payload_cases i) x)
+unfolding tag_of number rule sides equal at_least member in_brackets trim_end chars trim_start encode response_payload_by
 response_payload_case i (response_payload.Create x) = case_of i.create x first_variant (λ said chooses k found. rw (found ∙ ap Some chooses) refl)
 response_payload_case i (response_payload.CreateKeyPair x) = case_of i.create_key_pair x (later_variant first_variant) (λ said chooses k found. rw (found ∙ ap Some chooses) refl)
 response_payload_case i (response_payload.Register x) = case_of i.register x (later_variant (later_variant first_variant)) (λ said chooses k found. rw (found ∙ ap Some chooses) refl)
@@ -357,7 +175,7 @@ response_payload_case i (response_payload.Query x) = case_of i.query x (later_va
 response_payload_case i (response_payload.DiscoverVersions x) = case_of i.discover_versions x (later_variant (later_variant (later_variant (later_variant (later_variant (later_variant (later_variant (later_variant (later_variant (later_variant (later_variant (later_variant (later_variant (later_variant first_variant)))))))))))))) (λ said chooses k found. rw (found ∙ ap Some chooses) refl)
 
 pub response_payload_same : {A : Type 0} {eq : ResponsePayload A → ResponsePayload A → Boole} (i : ResponsePayloadItems A eq) (x y : ResponsePayload A)
-    → (response_payload_by record { create = (λ y. newtype_variant_value (codes "payload") (codes "if 0x42005C==0x00000001") (i.create.value y)); create_key_pair = (λ y. newtype_variant_value (codes "payload") (codes "if 0x42005C==0x00000002") (i.create_key_pair.value y)); register = (λ y. newtype_variant_value (codes "payload") (codes "if 0x42005C==0x00000003") (i.register.value y)); locate = (λ y. newtype_variant_value (codes "payload") (codes "if 0x42005C==0x00000008") (i.locate.value y)); get = (λ y. newtype_variant_value (codes "payload") (codes "if 0x42005C==0x0000000A") (i.get.value y)); get_attributes = (λ y. newtype_variant_value (codes "payload") (codes "if 0x42005C==0x0000000B") (i.get_attributes.value y)); get_attribute_list = (λ y. newtype_variant_value (codes "payload") (codes "if 0x42005C==0x0000000C") (i.get_attribute_list.value y)); add_attribute = (λ y. newtype_variant_value (codes "payload") (codes "if 0x42005C==0x0000000D") (i.add_attribute.value y)); modify_attribute = (λ y. newtype_variant_value (codes "payload") (codes "if 0x42005C==0x0000000E") (i.modify_attribute.value y)); delete_attribute = (λ y. newtype_variant_value (codes "payload") (codes "if 0x42005C==0x0000000F") (i.delete_attribute.value y)); activate = (λ y. newtype_variant_value (codes "payload") (codes "if 0x42005C==0x00000012") (i.activate.value y)); revoke = (λ y. newtype_variant_value (codes "payload") (codes "if 0x42005C==0x00000013") (i.revoke.value y)); destroy = (λ y. newtype_variant_value (codes "payload") (codes "if 0x42005C==0x00000014") (i.destroy.value y)); query = (λ y. newtype_variant_value (codes "payload") (codes "if 0x42005C==0x00000018") (i.query.value y)); discover_versions = (λ y. newtype_variant_value (codes "payload") (codes "if 0x42005C==0x0000001E") (i.discover_versions.value y)) } x) ≡ (response_payload_by record { create = (λ y. newtype_variant_value (codes "payload") (codes "if 0x42005C==0x00000001") (i.create.value y)); create_key_pair = (λ y. newtype_variant_value (codes "payload") (codes "if 0x42005C==0x00000002") (i.create_key_pair.value y)); register = (λ y. newtype_variant_value (codes "payload") (codes "if 0x42005C==0x00000003") (i.register.value y)); locate = (λ y. newtype_variant_value (codes "payload") (codes "if 0x42005C==0x00000008") (i.locate.value y)); get = (λ y. newtype_variant_value (codes "payload") (codes "if 0x42005C==0x0000000A") (i.get.value y)); get_attributes = (λ y. newtype_variant_value (codes "payload") (codes "if 0x42005C==0x0000000B") (i.get_attributes.value y)); get_attribute_list = (λ y. newtype_variant_value (codes "payload") (codes "if 0x42005C==0x0000000C") (i.get_attribute_list.value y)); add_attribute = (λ y. newtype_variant_value (codes "payload") (codes "if 0x42005C==0x0000000D") (i.add_attribute.value y)); modify_attribute = (λ y. newtype_variant_value (codes "payload") (codes "if 0x42005C==0x0000000E") (i.modify_attribute.value y)); delete_attribute = (λ y. newtype_variant_value (codes "payload") (codes "if 0x42005C==0x0000000F") (i.delete_attribute.value y)); activate = (λ y. newtype_variant_value (codes "payload") (codes "if 0x42005C==0x00000012") (i.activate.value y)); revoke = (λ y. newtype_variant_value (codes "payload") (codes "if 0x42005C==0x00000013") (i.revoke.value y)); destroy = (λ y. newtype_variant_value (codes "payload") (codes "if 0x42005C==0x00000014") (i.destroy.value y)); query = (λ y. newtype_variant_value (codes "payload") (codes "if 0x42005C==0x00000018") (i.query.value y)); discover_versions = (λ y. newtype_variant_value (codes "payload") (codes "if 0x42005C==0x0000001E") (i.discover_versions.value y)) } y)
+    → (response_payload_by (response_payload_cases i) x).value ≡ (response_payload_by (response_payload_cases i) y).value
     → eq x y ≡ true
 unfolding response_payload_by
 response_payload_same i (response_payload.Create x) (response_payload.Create y) e = i.create.same x y (i.create.rules.same x y (in_variant e))
@@ -379,4 +197,4 @@ response_payload_same i x y e = absurd (apart e refl)
 
 -- the choice
 abbrev pub response_payload_choice : {A : Type 0} (eq : ResponsePayload A → ResponsePayload A → Boole) → ResponsePayloadItems A eq → ChoiceOf (ResponsePayload A)
-response_payload_choice eq i = choice_by {typ = (λ x. types.Structure)} {C = ChoosesResponsePayload} {written = response_payload_by record { create = i.create.rules.written; create_key_pair = i.create_key_pair.rules.written; register = i.register.rules.written; locate = i.locate.rules.written; get = i.get.rules.written; get_attributes = i.get_attributes.rules.written; get_attribute_list = i.get_attribute_list.rules.written; add_attribute = i.add_attribute.rules.written; modify_attribute = i.modify_attribute.rules.written; delete_attribute = i.delete_attribute.rules.written; activate = i.activate.rules.written; revoke = i.revoke.rules.written; destroy = i.destroy.rules.written; query = i.query.rules.written; discover_versions = i.discover_versions.rules.written }} {value = response_payload_by record { create = (λ y. newtype_variant_value (codes "payload") (codes "if 0x42005C==0x00000001") (i.create.value y)); create_key_pair = (λ y. newtype_variant_value (codes "payload") (codes "if 0x42005C==0x00000002") (i.create_key_pair.value y)); register = (λ y. newtype_variant_value (codes "payload") (codes "if 0x42005C==0x00000003") (i.register.value y)); locate = (λ y. newtype_variant_value (codes "payload") (codes "if 0x42005C==0x00000008") (i.locate.value y)); get = (λ y. newtype_variant_value (codes "payload") (codes "if 0x42005C==0x0000000A") (i.get.value y)); get_attributes = (λ y. newtype_variant_value (codes "payload") (codes "if 0x42005C==0x0000000B") (i.get_attributes.value y)); get_attribute_list = (λ y. newtype_variant_value (codes "payload") (codes "if 0x42005C==0x0000000C") (i.get_attribute_list.value y)); add_attribute = (λ y. newtype_variant_value (codes "payload") (codes "if 0x42005C==0x0000000D") (i.add_attribute.value y)); modify_attribute = (λ y. newtype_variant_value (codes "payload") (codes "if 0x42005C==0x0000000E") (i.modify_attribute.value y)); delete_attribute = (λ y. newtype_variant_value (codes "payload") (codes "if 0x42005C==0x0000000F") (i.delete_attribute.value y)); activate = (λ y. newtype_variant_value (codes "payload") (codes "if 0x42005C==0x00000012") (i.activate.value y)); revoke = (λ y. newtype_variant_value (codes "payload") (codes "if 0x42005C==0x00000013") (i.revoke.value y)); destroy = (λ y. newtype_variant_value (codes "payload") (codes "if 0x42005C==0x00000014") (i.destroy.value y)); query = (λ y. newtype_variant_value (codes "payload") (codes "if 0x42005C==0x00000018") (i.query.value y)); discover_versions = (λ y. newtype_variant_value (codes "payload") (codes "if 0x42005C==0x0000001E") (i.discover_versions.value y)) }} {IsSound = IsResponsePayloadBy record { create = i.create.rules.IsSound; create_key_pair = i.create_key_pair.rules.IsSound; register = i.register.rules.IsSound; locate = i.locate.rules.IsSound; get = i.get.rules.IsSound; get_attributes = i.get_attributes.rules.IsSound; get_attribute_list = i.get_attribute_list.rules.IsSound; add_attribute = i.add_attribute.rules.IsSound; modify_attribute = i.modify_attribute.rules.IsSound; delete_attribute = i.delete_attribute.rules.IsSound; activate = i.activate.rules.IsSound; revoke = i.revoke.rules.IsSound; destroy = i.destroy.rules.IsSound; query = i.query.rules.IsSound; discover_versions = i.discover_versions.rules.IsSound }} 0x42007C 0x42005C (response_payload_case i) eq (response_payload_same i)
+response_payload_choice eq i = choice_by {typ = (λ x. types.Structure)} {C = (λ said x. said ≡ text_of_number (response_payload_chosen_by x))} {m = response_payload_by (response_payload_cases i)} 0x42007C 0x42005C (response_payload_case i) eq (response_payload_same i)

@@ -1,15 +1,21 @@
 // Written by codegen from types.table: change that, and run codegen/codegen.
 //! What was done (KMIP 1.0, section 4).
 
-ghost use Rattle.std.specs.Prelude.{◌≡◌, ◌↔◌, ◌+◌, None, IsTrue, Some, codes, refl, true};
-ghost use Rattle.kmip_ttlv_kinds.specs.Parts.{of, structure, structure_where};
+ghost use Rattle.std.specs.Prelude.{◌≡◌, ◌+◌, None, Some, codes, refl, true};
+ghost use Rattle.kmip_ttlv_kinds.specs.Parts.{structure, structure_where};
 ghost use Rattle.kmip_ttlv_kinds.specs.Choices.{held};
 ghost use Rattle.kmip_ttlv_parts.specs.MessageParts.{there};
-ghost use Rattle.kmip_responses.specs.Choices.{IsGetResponseObject, response_payload_choice, ChoosesResponsePayload, ChoosesResponsePayloadNumber};
+ghost use Rattle.kmip_responses.specs.Choices.{IsGetResponseObject, response_payload_choice, response_payload_chosen_by};
 
 use kmip_attributes::attribute::Attribute;
-use kmip_attributes::values::ObjectType;
-use kmip_headers::header::{Operation, ProtocolVersion};
+use kmip_attributes::values::{ObjectType, State};
+use kmip_headers::header::{
+    Operation, OperationActivateRule, OperationAddAttributeRule, OperationCreateKeyPairRule,
+    OperationCreateRule, OperationDeleteAttributeRule, OperationDestroyRule,
+    OperationDiscoverVersionsRule, OperationGetAttributeListRule, OperationGetAttributesRule,
+    OperationGetRule, OperationLocateRule, OperationModifyAttributeRule, OperationQueryRule,
+    OperationRegisterRule, OperationRevokeRule, ProtocolVersion,
+};
 use kmip_objects::object::{
     Certificate, ManagedObject, OpaqueObject, PrivateKey, PublicKey, SecretData, SplitKey,
     SymmetricKey, Template,
@@ -18,17 +24,11 @@ use kmip_objects::template::{
     PrivateKeyTemplateAttribute, PublicKeyTemplateAttribute, TemplateAttribute,
 };
 use kmip_ttlv_kinds::{
-    Alone, Any, AsElement, Choice, Element, Four, Leaf, LeafItem, Maybe, MaybeLeaf, Of, One,
-    PartList, Structure, are_whole_four, are_whole_one, are_whole_three, are_whole_two, both,
-    read_parts, visit_four, visit_structure_four, visit_structure_one, visit_structure_three,
-    visit_structure_two, visit_two,
+    Alone, Any, AsElement, Case, Choice, Decided, Element, Four, FromParts, Holds, InBox, Leaf,
+    LeafItem, Maybe, MaybeLeaf, Of, One, PartList, Structure, Walk, read_structure,
 };
-use kmip_ttlv_parts::messages::writing;
-use kmip_ttlv_parts::reader::{
-    ChoiceValue, Cursor, Rule, RuleParts, Scope, Step, Variant, VariantList, VariantOf,
-};
+use kmip_ttlv_parts::reader::{ChoiceValue, Cursor, Scope, Step, VariantList, VariantOf};
 use kmip_ttlv_parts::types::TtlvType;
-use kmip_ttlv_parts::visit::Visitor;
 use kmip_ttlv_parts::{Boxed, reader};
 use std::alloc::{AllocError, Allocator, Global};
 
@@ -47,61 +47,42 @@ pub struct CreateResponse<A: Allocator = Global> {
 type CreateResponseParts<A> = (
     One<ObjectType>,
     Leaf<String<A>, 0x420094>,
-    Maybe<Of<TemplateAttribute<A>>, 0x420091>,
+    Maybe<Of<TemplateAttribute<A>, 0x420091>, 0x420091>,
 );
 
-impl<A: Allocator + Copy> Structure<A> for CreateResponse<A> {
-    ghost item = { structure 0x42007C true (of (λ x. (x.object_type, x.unique_identifier, x.template_attribute)) ⟦<CreateResponseParts<A> as PartList<A>>⟧.rules) refl
-        ⟦<CreateResponse<A> as PartialEq>⟧.eq (λ x y e. e) };
+impl<A: Allocator + Copy> FromParts<A, CreateResponseParts<A>> for CreateResponse<A> {
+    ghost parts = { λ x. (x.object_type, x.unique_identifier, x.template_attribute) };
 
-    fn number() -> u32 {
-        0x42007C
-    }
-
-    fn read_nested<'b>(scope: &Scope<'b, A>, cursor: &mut Cursor<'b, A>) -> Step<Self, A> {
-        match read_parts::<CreateResponseParts<A>, A>(scope, 0x42007C, true, cursor) {
-            Ok(parts) => {
-                let (object_type, unique_identifier, template_attribute) = parts;
-                Ok(CreateResponse {
-                    object_type,
-                    unique_identifier,
-                    template_attribute,
-                })
-            }
-            Err(failure) => Err(failure),
+    fn from_parts(
+        (object_type, unique_identifier, template_attribute): Holds<CreateResponseParts<A>, A>,
+    ) -> Self {
+        CreateResponse {
+            object_type,
+            unique_identifier,
+            template_attribute,
         }
     }
+}
 
-    fn visit_parts<V: Visitor>(&self, visitor: &mut V) -> Result<(), AllocError> {
-        visit_structure_three::<
+impl<A: Allocator + Copy> Structure<A> for CreateResponse<A> {
+    ghost rules = { structure true ⟦<CreateResponseParts<A> as PartList<A>>⟧.rules ⟦<CreateResponse<A> as FromParts<A, CreateResponseParts<A>>>⟧.parts refl ⟦<CreateResponse<A> as PartialEq>⟧.eq (λ x y e. e) };
+
+    fn read<'b>(scope: &Scope<'b, A>, tag: u32, cursor: &mut Cursor<'b, A>) -> Step<Self, A> {
+        read_structure::<CreateResponseParts<A>, Self, A>(scope, tag, true, cursor)
+    }
+
+    fn tell_parts<W: Walk<A>>(&self, state: &mut W::State) -> Result<(), AllocError> {
+        W::three::<
             One<ObjectType>,
             Leaf<String<A>, 0x420094>,
-            Maybe<Of<TemplateAttribute<A>>, 0x420091>,
-            V,
-            A,
+            Maybe<Of<TemplateAttribute<A>, 0x420091>, 0x420091>,
         >(
-            visitor,
-            0x42007C,
+            state,
             &self.object_type,
             &self.unique_identifier,
             &self.template_attribute,
         )
     }
-
-    fn is_whole(&self) -> bool {
-        are_whole_three::<
-            One<ObjectType>,
-            Leaf<String<A>, 0x420094>,
-            Maybe<Of<TemplateAttribute<A>>, 0x420091>,
-            A,
-        >(
-            &self.object_type,
-            &self.unique_identifier,
-            &self.template_attribute,
-        )
-    }
-
-    ghost structured = { (refl, refl) };
 }
 
 /// A public and a private key were made (section 4.2).
@@ -121,72 +102,51 @@ pub struct CreateKeyPairResponse<A: Allocator = Global> {
 type CreateKeyPairResponseParts<A> = (
     Leaf<String<A>, 0x420066>,
     Leaf<String<A>, 0x42006F>,
-    Maybe<Of<PrivateKeyTemplateAttribute<A>>, 0x420065>,
-    Maybe<Of<PublicKeyTemplateAttribute<A>>, 0x42006E>,
+    Maybe<Of<PrivateKeyTemplateAttribute<A>, 0x420065>, 0x420065>,
+    Maybe<Of<PublicKeyTemplateAttribute<A>, 0x42006E>, 0x42006E>,
 );
 
-impl<A: Allocator + Copy> Structure<A> for CreateKeyPairResponse<A> {
-    ghost item = { structure 0x42007C true (of (λ x. (x.private_key_unique_identifier, x.public_key_unique_identifier, x.private_key, x.public_key)) ⟦<CreateKeyPairResponseParts<A> as PartList<A>>⟧.rules) refl
-        ⟦<CreateKeyPairResponse<A> as PartialEq>⟧.eq (λ x y e. e) };
+impl<A: Allocator + Copy> FromParts<A, CreateKeyPairResponseParts<A>> for CreateKeyPairResponse<A> {
+    ghost parts = { λ x. (x.private_key_unique_identifier, x.public_key_unique_identifier, x.private_key, x.public_key) };
 
-    fn number() -> u32 {
-        0x42007C
-    }
-
-    fn read_nested<'b>(scope: &Scope<'b, A>, cursor: &mut Cursor<'b, A>) -> Step<Self, A> {
-        match read_parts::<CreateKeyPairResponseParts<A>, A>(scope, 0x42007C, true, cursor) {
-            Ok(parts) => {
-                let (
-                    private_key_unique_identifier,
-                    public_key_unique_identifier,
-                    private_key,
-                    public_key,
-                ) = parts;
-                Ok(CreateKeyPairResponse {
-                    private_key_unique_identifier,
-                    public_key_unique_identifier,
-                    private_key,
-                    public_key,
-                })
-            }
-            Err(failure) => Err(failure),
+    fn from_parts(
+        (
+            private_key_unique_identifier,
+            public_key_unique_identifier,
+            private_key,
+            public_key,
+        ): Holds<CreateKeyPairResponseParts<A>, A>,
+    ) -> Self {
+        CreateKeyPairResponse {
+            private_key_unique_identifier,
+            public_key_unique_identifier,
+            private_key,
+            public_key,
         }
     }
+}
 
-    fn visit_parts<V: Visitor>(&self, visitor: &mut V) -> Result<(), AllocError> {
-        visit_structure_four::<
+impl<A: Allocator + Copy> Structure<A> for CreateKeyPairResponse<A> {
+    ghost rules = { structure true ⟦<CreateKeyPairResponseParts<A> as PartList<A>>⟧.rules ⟦<CreateKeyPairResponse<A> as FromParts<A, CreateKeyPairResponseParts<A>>>⟧.parts refl ⟦<CreateKeyPairResponse<A> as PartialEq>⟧.eq (λ x y e. e) };
+
+    fn read<'b>(scope: &Scope<'b, A>, tag: u32, cursor: &mut Cursor<'b, A>) -> Step<Self, A> {
+        read_structure::<CreateKeyPairResponseParts<A>, Self, A>(scope, tag, true, cursor)
+    }
+
+    fn tell_parts<W: Walk<A>>(&self, state: &mut W::State) -> Result<(), AllocError> {
+        W::four::<
             Leaf<String<A>, 0x420066>,
             Leaf<String<A>, 0x42006F>,
-            Maybe<Of<PrivateKeyTemplateAttribute<A>>, 0x420065>,
-            Maybe<Of<PublicKeyTemplateAttribute<A>>, 0x42006E>,
-            V,
-            A,
+            Maybe<Of<PrivateKeyTemplateAttribute<A>, 0x420065>, 0x420065>,
+            Maybe<Of<PublicKeyTemplateAttribute<A>, 0x42006E>, 0x42006E>,
         >(
-            visitor,
-            0x42007C,
+            state,
             &self.private_key_unique_identifier,
             &self.public_key_unique_identifier,
             &self.private_key,
             &self.public_key,
         )
     }
-
-    fn is_whole(&self) -> bool {
-        are_whole_four::<
-            Leaf<String<A>, 0x420066>,
-            Leaf<String<A>, 0x42006F>,
-            Maybe<Of<PrivateKeyTemplateAttribute<A>>, 0x420065>,
-            Maybe<Of<PublicKeyTemplateAttribute<A>>, 0x42006E>,
-            A,
-        >(
-            &self.private_key_unique_identifier,
-            &self.public_key_unique_identifier,
-            &self.private_key,
-            &self.public_key,
-        )
-    }
-
-    ghost structured = { (refl, refl) };
 }
 
 /// An object is kept (section 4.3).
@@ -201,52 +161,36 @@ pub struct RegisterResponse<A: Allocator = Global> {
 
 type RegisterResponseParts<A> = (
     Leaf<String<A>, 0x420094>,
-    Maybe<Of<TemplateAttribute<A>>, 0x420091>,
+    Maybe<Of<TemplateAttribute<A>, 0x420091>, 0x420091>,
 );
 
-impl<A: Allocator + Copy> Structure<A> for RegisterResponse<A> {
-    ghost item = { structure 0x42007C true (of (λ x. (x.unique_identifier, x.template_attribute)) ⟦<RegisterResponseParts<A> as PartList<A>>⟧.rules) refl
-        ⟦<RegisterResponse<A> as PartialEq>⟧.eq (λ x y e. e) };
+impl<A: Allocator + Copy> FromParts<A, RegisterResponseParts<A>> for RegisterResponse<A> {
+    ghost parts = { λ x. (x.unique_identifier, x.template_attribute) };
 
-    fn number() -> u32 {
-        0x42007C
-    }
-
-    fn read_nested<'b>(scope: &Scope<'b, A>, cursor: &mut Cursor<'b, A>) -> Step<Self, A> {
-        match read_parts::<RegisterResponseParts<A>, A>(scope, 0x42007C, true, cursor) {
-            Ok(parts) => {
-                let (unique_identifier, template_attribute) = parts;
-                Ok(RegisterResponse {
-                    unique_identifier,
-                    template_attribute,
-                })
-            }
-            Err(failure) => Err(failure),
+    fn from_parts(
+        (unique_identifier, template_attribute): Holds<RegisterResponseParts<A>, A>,
+    ) -> Self {
+        RegisterResponse {
+            unique_identifier,
+            template_attribute,
         }
     }
+}
 
-    fn visit_parts<V: Visitor>(&self, visitor: &mut V) -> Result<(), AllocError> {
-        visit_structure_two::<
-            Leaf<String<A>, 0x420094>,
-            Maybe<Of<TemplateAttribute<A>>, 0x420091>,
-            V,
-            A,
-        >(
-            visitor,
-            0x42007C,
+impl<A: Allocator + Copy> Structure<A> for RegisterResponse<A> {
+    ghost rules = { structure true ⟦<RegisterResponseParts<A> as PartList<A>>⟧.rules ⟦<RegisterResponse<A> as FromParts<A, RegisterResponseParts<A>>>⟧.parts refl ⟦<RegisterResponse<A> as PartialEq>⟧.eq (λ x y e. e) };
+
+    fn read<'b>(scope: &Scope<'b, A>, tag: u32, cursor: &mut Cursor<'b, A>) -> Step<Self, A> {
+        read_structure::<RegisterResponseParts<A>, Self, A>(scope, tag, true, cursor)
+    }
+
+    fn tell_parts<W: Walk<A>>(&self, state: &mut W::State) -> Result<(), AllocError> {
+        W::two::<Leaf<String<A>, 0x420094>, Maybe<Of<TemplateAttribute<A>, 0x420091>, 0x420091>>(
+            state,
             &self.unique_identifier,
             &self.template_attribute,
         )
     }
-
-    fn is_whole(&self) -> bool {
-        are_whole_two::<Leaf<String<A>, 0x420094>, Maybe<Of<TemplateAttribute<A>>, 0x420091>, A>(
-            &self.unique_identifier,
-            &self.template_attribute,
-        )
-    }
-
-    ghost structured = { (refl, refl) };
 }
 
 /// Which objects were found (section 4.8).
@@ -259,37 +203,24 @@ pub struct LocateResponse<A: Allocator = Global> {
 
 type LocateResponseParts<A> = Alone<Any<LeafItem<String<A>, 0x420094>, 0x420094>>;
 
+impl<A: Allocator + Copy> FromParts<A, LocateResponseParts<A>> for LocateResponse<A> {
+    ghost parts = { λ x. x.unique_identifiers };
+
+    fn from_parts(unique_identifiers: Holds<LocateResponseParts<A>, A>) -> Self {
+        LocateResponse { unique_identifiers }
+    }
+}
+
 impl<A: Allocator + Copy> Structure<A> for LocateResponse<A> {
-    ghost item = { structure 0x42007C true (of (λ x. x.unique_identifiers) ⟦<LocateResponseParts<A> as PartList<A>>⟧.rules) refl
-        ⟦<LocateResponse<A> as PartialEq>⟧.eq (λ x y e. e) };
+    ghost rules = { structure true ⟦<LocateResponseParts<A> as PartList<A>>⟧.rules ⟦<LocateResponse<A> as FromParts<A, LocateResponseParts<A>>>⟧.parts refl ⟦<LocateResponse<A> as PartialEq>⟧.eq (λ x y e. e) };
 
-    fn number() -> u32 {
-        0x42007C
+    fn read<'b>(scope: &Scope<'b, A>, tag: u32, cursor: &mut Cursor<'b, A>) -> Step<Self, A> {
+        read_structure::<LocateResponseParts<A>, Self, A>(scope, tag, true, cursor)
     }
 
-    fn read_nested<'b>(scope: &Scope<'b, A>, cursor: &mut Cursor<'b, A>) -> Step<Self, A> {
-        match read_parts::<LocateResponseParts<A>, A>(scope, 0x42007C, true, cursor) {
-            Ok(parts) => {
-                let unique_identifiers = parts;
-                Ok(LocateResponse { unique_identifiers })
-            }
-            Err(failure) => Err(failure),
-        }
+    fn tell_parts<W: Walk<A>>(&self, state: &mut W::State) -> Result<(), AllocError> {
+        W::one::<Any<LeafItem<String<A>, 0x420094>, 0x420094>>(state, &self.unique_identifiers)
     }
-
-    fn visit_parts<V: Visitor>(&self, visitor: &mut V) -> Result<(), AllocError> {
-        visit_structure_one::<Any<LeafItem<String<A>, 0x420094>, 0x420094>, V, A>(
-            visitor,
-            0x42007C,
-            &self.unique_identifiers,
-        )
-    }
-
-    fn is_whole(&self) -> bool {
-        are_whole_one::<Any<LeafItem<String<A>, 0x420094>, 0x420094>, A>(&self.unique_identifiers)
-    }
-
-    ghost structured = { (refl, refl) };
 }
 
 /// An object (section 4.10).
@@ -360,141 +291,107 @@ impl<A: Allocator> GetResponse<A> {
             _ => None,
         }
     }
+}
 
-    // Whether exactly one is there.
-    fn has_object(&self) -> bool
-        ensures { IsTrue result ↔ there self.now.certificate + (there self.now.symmetric_key + (there self.now.public_key + (there self.now.private_key + (there self.now.split_key + (there self.now.template + (there self.now.secret_data + there self.now.opaque_object)))))) ≡ 1 }
-    {
+impl<A: Allocator> Decided for GetResponse<A> {
+    ghost IsDecided = { λ x. (there x.certificate + (there x.symmetric_key + (there x.public_key + (there x.private_key + (there x.split_key + (there x.template + (there x.secret_data + there x.opaque_object)))))) ≡ 1) };
+
+    fn is_decided(&self) -> bool {
         self.object().is_some()
     }
 }
 
-type GetResponseParts<A> = Four<
+type GetResponseFirst<A> = (
     One<ObjectType>,
     Leaf<String<A>, 0x420094>,
-    Maybe<Of<Certificate<A>>, 0x420013>,
-    Maybe<Of<Boxed<SymmetricKey<A>, A>>, 0x42008F>,
-    Four<
-        Maybe<Of<Boxed<PublicKey<A>, A>>, 0x42006D>,
-        Maybe<Of<Boxed<PrivateKey<A>, A>>, 0x420064>,
-        Maybe<Of<Boxed<SplitKey<A>, A>>, 0x420089>,
-        Maybe<Of<Template<A>>, 0x420090>,
-        (
-            Maybe<Of<Boxed<SecretData<A>, A>>, 0x420085>,
-            Maybe<Of<OpaqueObject<A>>, 0x42005B>,
-        ),
-    >,
+    Maybe<Of<Certificate<A>, 0x420013>, 0x420013>,
+    Maybe<InBox<Of<SymmetricKey<A>, 0x42008F>>, 0x42008F>,
+);
+
+type GetResponseSecond<A> = (
+    Maybe<InBox<Of<PublicKey<A>, 0x42006D>>, 0x42006D>,
+    Maybe<InBox<Of<PrivateKey<A>, 0x420064>>, 0x420064>,
+    Maybe<InBox<Of<SplitKey<A>, 0x420089>>, 0x420089>,
+    Maybe<Of<Template<A>, 0x420090>, 0x420090>,
+);
+
+type GetResponseThird<A> = (
+    Maybe<InBox<Of<SecretData<A>, 0x420085>>, 0x420085>,
+    Maybe<Of<OpaqueObject<A>, 0x42005B>, 0x42005B>,
+);
+
+type GetResponseParts<A> = Four<
+    GetResponseFirst<A>,
+    Four<GetResponseSecond<A>, GetResponseThird<A>>,
 >;
 
-impl<A: Allocator + Copy> Structure<A> for GetResponse<A> {
-    ghost item = { structure_where 0x42007C true (of (λ x. (x.object_type, x.unique_identifier, x.certificate, x.symmetric_key, (x.public_key, x.private_key, x.split_key, x.template, (x.secret_data, x.opaque_object)))) ⟦<GetResponseParts<A> as PartList<A>>⟧.rules) refl
-        (λ x. (there x.certificate + (there x.symmetric_key + (there x.public_key + (there x.private_key + (there x.split_key + (there x.template + (there x.secret_data + there x.opaque_object)))))) ≡ 1)) (λ x d. (tt, (tt, (tt, (tt, (tt, (tt, (tt, (tt, (tt, (tt)))))))))))
-        ⟦<GetResponse<A> as PartialEq>⟧.eq (λ x y e. e) };
+impl<A: Allocator + Copy> FromParts<A, GetResponseParts<A>> for GetResponse<A> {
+    ghost parts = { λ x. (x.object_type, x.unique_identifier, x.certificate, x.symmetric_key, (x.public_key, x.private_key, x.split_key, x.template, (x.secret_data, x.opaque_object))) };
 
-    fn number() -> u32 {
-        0x42007C
-    }
-
-    fn read_nested<'b>(scope: &Scope<'b, A>, cursor: &mut Cursor<'b, A>) -> Step<Self, A> {
-        match read_parts::<GetResponseParts<A>, A>(scope, 0x42007C, true, cursor) {
-            Ok(parts) => {
-                let (object_type, unique_identifier, certificate, symmetric_key, others_6) = parts;
-                let (public_key, private_key, split_key, template, others) = others_6;
-                let (secret_data, opaque_object) = others;
-                Ok(GetResponse {
-                    object_type,
-                    unique_identifier,
-                    certificate,
-                    symmetric_key,
-                    public_key,
-                    private_key,
-                    split_key,
-                    template,
-                    secret_data,
-                    opaque_object,
-                })
-            }
-            Err(failure) => Err(failure),
+    fn from_parts(
+        (
+            object_type,
+            unique_identifier,
+            certificate,
+            symmetric_key,
+            (public_key, private_key, split_key, template, (secret_data, opaque_object)),
+        ): Holds<GetResponseParts<A>, A>,
+    ) -> Self {
+        GetResponse {
+            object_type,
+            unique_identifier,
+            certificate,
+            symmetric_key,
+            public_key,
+            private_key,
+            split_key,
+            template,
+            secret_data,
+            opaque_object,
         }
     }
+}
 
-    fn visit_parts<V: Visitor>(&self, visitor: &mut V) -> Result<(), AllocError> {
-        writing::begin_structure(visitor, 0x42007C)?;
-        visit_four::<
+impl<A: Allocator + Copy> Structure<A> for GetResponse<A> {
+    ghost rules = { structure_where true ⟦<GetResponseParts<A> as PartList<A>>⟧.rules ⟦<GetResponse<A> as FromParts<A, GetResponseParts<A>>>⟧.parts refl
+        (λ x. (there x.certificate + (there x.symmetric_key + (there x.public_key + (there x.private_key + (there x.split_key + (there x.template + (there x.secret_data + there x.opaque_object)))))) ≡ 1)) (λ x d. (tt, (tt, (tt, (tt, (tt, (tt, (tt, (tt, (tt, (tt))))))))))) ⟦<GetResponse<A> as PartialEq>⟧.eq (λ x y e. e) };
+
+    fn read<'b>(scope: &Scope<'b, A>, tag: u32, cursor: &mut Cursor<'b, A>) -> Step<Self, A> {
+        read_structure::<GetResponseParts<A>, Self, A>(scope, tag, true, cursor)
+    }
+
+    fn tell_parts<W: Walk<A>>(&self, state: &mut W::State) -> Result<(), AllocError> {
+        W::four::<
             One<ObjectType>,
             Leaf<String<A>, 0x420094>,
-            Maybe<Of<Certificate<A>>, 0x420013>,
-            Maybe<Of<Boxed<SymmetricKey<A>, A>>, 0x42008F>,
-            V,
-            A,
+            Maybe<Of<Certificate<A>, 0x420013>, 0x420013>,
+            Maybe<InBox<Of<SymmetricKey<A>, 0x42008F>>, 0x42008F>,
         >(
-            visitor,
+            state,
             &self.object_type,
             &self.unique_identifier,
             &self.certificate,
             &self.symmetric_key,
         )?;
-        visit_four::<
-            Maybe<Of<Boxed<PublicKey<A>, A>>, 0x42006D>,
-            Maybe<Of<Boxed<PrivateKey<A>, A>>, 0x420064>,
-            Maybe<Of<Boxed<SplitKey<A>, A>>, 0x420089>,
-            Maybe<Of<Template<A>>, 0x420090>,
-            V,
-            A,
+        W::four::<
+            Maybe<InBox<Of<PublicKey<A>, 0x42006D>>, 0x42006D>,
+            Maybe<InBox<Of<PrivateKey<A>, 0x420064>>, 0x420064>,
+            Maybe<InBox<Of<SplitKey<A>, 0x420089>>, 0x420089>,
+            Maybe<Of<Template<A>, 0x420090>, 0x420090>,
         >(
-            visitor,
+            state,
             &self.public_key,
             &self.private_key,
             &self.split_key,
             &self.template,
         )?;
-        visit_two::<
-            Maybe<Of<Boxed<SecretData<A>, A>>, 0x420085>,
-            Maybe<Of<OpaqueObject<A>>, 0x42005B>,
-            V,
-            A,
-        >(visitor, &self.secret_data, &self.opaque_object)?;
-        writing::end_structure(visitor, 0x42007C)?;
+        W::two::<
+            Maybe<InBox<Of<SecretData<A>, 0x420085>>, 0x420085>,
+            Maybe<Of<OpaqueObject<A>, 0x42005B>, 0x42005B>,
+        >(state, &self.secret_data, &self.opaque_object)?;
+        W::check(state, self);
         Ok(())
     }
-
-    fn is_whole(&self) -> bool {
-        let first_four = are_whole_four::<
-            One<ObjectType>,
-            Leaf<String<A>, 0x420094>,
-            Maybe<Of<Certificate<A>>, 0x420013>,
-            Maybe<Of<Boxed<SymmetricKey<A>, A>>, 0x42008F>,
-            A,
-        >(
-            &self.object_type,
-            &self.unique_identifier,
-            &self.certificate,
-            &self.symmetric_key,
-        );
-        let next_four = are_whole_four::<
-            Maybe<Of<Boxed<PublicKey<A>, A>>, 0x42006D>,
-            Maybe<Of<Boxed<PrivateKey<A>, A>>, 0x420064>,
-            Maybe<Of<Boxed<SplitKey<A>, A>>, 0x420089>,
-            Maybe<Of<Template<A>>, 0x420090>,
-            A,
-        >(
-            &self.public_key,
-            &self.private_key,
-            &self.split_key,
-            &self.template,
-        );
-        let others = are_whole_two::<
-            Maybe<Of<Boxed<SecretData<A>, A>>, 0x420085>,
-            Maybe<Of<OpaqueObject<A>>, 0x42005B>,
-            A,
-        >(&self.secret_data, &self.opaque_object);
-        let others_1 = both(next_four, others);
-        let parts = both(first_four, others_1);
-        let chosen = self.has_object();
-        both(parts, chosen)
-    }
-
-    ghost structured = { (refl, refl) };
 }
 
 /// What is known of an object (section 4.11).
@@ -507,46 +404,38 @@ pub struct GetAttributesResponse<A: Allocator = Global> {
     pub attributes: Vec<Attribute<A>, A>,
 }
 
-type GetAttributesResponseParts<A> = (Leaf<String<A>, 0x420094>, Any<Of<Attribute<A>>, 0x420008>);
+type GetAttributesResponseParts<A> = (
+    Leaf<String<A>, 0x420094>,
+    Any<Of<Attribute<A>, 0x420008>, 0x420008>,
+);
 
-impl<A: Allocator + Copy> Structure<A> for GetAttributesResponse<A> {
-    ghost item = { structure 0x42007C true (of (λ x. (x.unique_identifier, x.attributes)) ⟦<GetAttributesResponseParts<A> as PartList<A>>⟧.rules) refl
-        ⟦<GetAttributesResponse<A> as PartialEq>⟧.eq (λ x y e. e) };
+impl<A: Allocator + Copy> FromParts<A, GetAttributesResponseParts<A>> for GetAttributesResponse<A> {
+    ghost parts = { λ x. (x.unique_identifier, x.attributes) };
 
-    fn number() -> u32 {
-        0x42007C
-    }
-
-    fn read_nested<'b>(scope: &Scope<'b, A>, cursor: &mut Cursor<'b, A>) -> Step<Self, A> {
-        match read_parts::<GetAttributesResponseParts<A>, A>(scope, 0x42007C, true, cursor) {
-            Ok(parts) => {
-                let (unique_identifier, attributes) = parts;
-                Ok(GetAttributesResponse {
-                    unique_identifier,
-                    attributes,
-                })
-            }
-            Err(failure) => Err(failure),
+    fn from_parts(
+        (unique_identifier, attributes): Holds<GetAttributesResponseParts<A>, A>,
+    ) -> Self {
+        GetAttributesResponse {
+            unique_identifier,
+            attributes,
         }
     }
+}
 
-    fn visit_parts<V: Visitor>(&self, visitor: &mut V) -> Result<(), AllocError> {
-        visit_structure_two::<Leaf<String<A>, 0x420094>, Any<Of<Attribute<A>>, 0x420008>, V, A>(
-            visitor,
-            0x42007C,
+impl<A: Allocator + Copy> Structure<A> for GetAttributesResponse<A> {
+    ghost rules = { structure true ⟦<GetAttributesResponseParts<A> as PartList<A>>⟧.rules ⟦<GetAttributesResponse<A> as FromParts<A, GetAttributesResponseParts<A>>>⟧.parts refl ⟦<GetAttributesResponse<A> as PartialEq>⟧.eq (λ x y e. e) };
+
+    fn read<'b>(scope: &Scope<'b, A>, tag: u32, cursor: &mut Cursor<'b, A>) -> Step<Self, A> {
+        read_structure::<GetAttributesResponseParts<A>, Self, A>(scope, tag, true, cursor)
+    }
+
+    fn tell_parts<W: Walk<A>>(&self, state: &mut W::State) -> Result<(), AllocError> {
+        W::two::<Leaf<String<A>, 0x420094>, Any<Of<Attribute<A>, 0x420008>, 0x420008>>(
+            state,
             &self.unique_identifier,
             &self.attributes,
         )
     }
-
-    fn is_whole(&self) -> bool {
-        are_whole_two::<Leaf<String<A>, 0x420094>, Any<Of<Attribute<A>>, 0x420008>, A>(
-            &self.unique_identifier,
-            &self.attributes,
-        )
-    }
-
-    ghost structured = { (refl, refl) };
 }
 
 /// The names of what is known of an object (section 4.12).
@@ -564,49 +453,34 @@ type GetAttributeListResponseParts<A> = (
     Any<LeafItem<String<A>, 0x42000A>, 0x42000A>,
 );
 
-impl<A: Allocator + Copy> Structure<A> for GetAttributeListResponse<A> {
-    ghost item = { structure 0x42007C true (of (λ x. (x.unique_identifier, x.attribute_names)) ⟦<GetAttributeListResponseParts<A> as PartList<A>>⟧.rules) refl
-        ⟦<GetAttributeListResponse<A> as PartialEq>⟧.eq (λ x y e. e) };
+impl<A: Allocator + Copy> FromParts<A, GetAttributeListResponseParts<A>>
+    for GetAttributeListResponse<A> {
+    ghost parts = { λ x. (x.unique_identifier, x.attribute_names) };
 
-    fn number() -> u32 {
-        0x42007C
-    }
-
-    fn read_nested<'b>(scope: &Scope<'b, A>, cursor: &mut Cursor<'b, A>) -> Step<Self, A> {
-        match read_parts::<GetAttributeListResponseParts<A>, A>(scope, 0x42007C, true, cursor) {
-            Ok(parts) => {
-                let (unique_identifier, attribute_names) = parts;
-                Ok(GetAttributeListResponse {
-                    unique_identifier,
-                    attribute_names,
-                })
-            }
-            Err(failure) => Err(failure),
+    fn from_parts(
+        (unique_identifier, attribute_names): Holds<GetAttributeListResponseParts<A>, A>,
+    ) -> Self {
+        GetAttributeListResponse {
+            unique_identifier,
+            attribute_names,
         }
     }
+}
 
-    fn visit_parts<V: Visitor>(&self, visitor: &mut V) -> Result<(), AllocError> {
-        visit_structure_two::<
-            Leaf<String<A>, 0x420094>,
-            Any<LeafItem<String<A>, 0x42000A>, 0x42000A>,
-            V,
-            A,
-        >(
-            visitor,
-            0x42007C,
+impl<A: Allocator + Copy> Structure<A> for GetAttributeListResponse<A> {
+    ghost rules = { structure true ⟦<GetAttributeListResponseParts<A> as PartList<A>>⟧.rules ⟦<GetAttributeListResponse<A> as FromParts<A, GetAttributeListResponseParts<A>>>⟧.parts refl ⟦<GetAttributeListResponse<A> as PartialEq>⟧.eq (λ x y e. e) };
+
+    fn read<'b>(scope: &Scope<'b, A>, tag: u32, cursor: &mut Cursor<'b, A>) -> Step<Self, A> {
+        read_structure::<GetAttributeListResponseParts<A>, Self, A>(scope, tag, true, cursor)
+    }
+
+    fn tell_parts<W: Walk<A>>(&self, state: &mut W::State) -> Result<(), AllocError> {
+        W::two::<Leaf<String<A>, 0x420094>, Any<LeafItem<String<A>, 0x42000A>, 0x42000A>>(
+            state,
             &self.unique_identifier,
             &self.attribute_names,
         )
     }
-
-    fn is_whole(&self) -> bool {
-        are_whole_two::<Leaf<String<A>, 0x420094>, Any<LeafItem<String<A>, 0x42000A>, 0x42000A>, A>(
-            &self.unique_identifier,
-            &self.attribute_names,
-        )
-    }
-
-    ghost structured = { (refl, refl) };
 }
 
 /// An attribute that was added, changed or deleted (sections 4.13 to 4.15).
@@ -619,46 +493,33 @@ pub struct AttributeResponse<A: Allocator = Global> {
     pub attribute: Attribute<A>,
 }
 
-type AttributeResponseParts<A> = (Leaf<String<A>, 0x420094>, One<Of<Attribute<A>>>);
+type AttributeResponseParts<A> = (Leaf<String<A>, 0x420094>, One<Of<Attribute<A>, 0x420008>>);
 
-impl<A: Allocator + Copy> Structure<A> for AttributeResponse<A> {
-    ghost item = { structure 0x42007C true (of (λ x. (x.unique_identifier, x.attribute)) ⟦<AttributeResponseParts<A> as PartList<A>>⟧.rules) refl
-        ⟦<AttributeResponse<A> as PartialEq>⟧.eq (λ x y e. e) };
+impl<A: Allocator + Copy> FromParts<A, AttributeResponseParts<A>> for AttributeResponse<A> {
+    ghost parts = { λ x. (x.unique_identifier, x.attribute) };
 
-    fn number() -> u32 {
-        0x42007C
-    }
-
-    fn read_nested<'b>(scope: &Scope<'b, A>, cursor: &mut Cursor<'b, A>) -> Step<Self, A> {
-        match read_parts::<AttributeResponseParts<A>, A>(scope, 0x42007C, true, cursor) {
-            Ok(parts) => {
-                let (unique_identifier, attribute) = parts;
-                Ok(AttributeResponse {
-                    unique_identifier,
-                    attribute,
-                })
-            }
-            Err(failure) => Err(failure),
+    fn from_parts((unique_identifier, attribute): Holds<AttributeResponseParts<A>, A>) -> Self {
+        AttributeResponse {
+            unique_identifier,
+            attribute,
         }
     }
+}
 
-    fn visit_parts<V: Visitor>(&self, visitor: &mut V) -> Result<(), AllocError> {
-        visit_structure_two::<Leaf<String<A>, 0x420094>, One<Of<Attribute<A>>>, V, A>(
-            visitor,
-            0x42007C,
+impl<A: Allocator + Copy> Structure<A> for AttributeResponse<A> {
+    ghost rules = { structure true ⟦<AttributeResponseParts<A> as PartList<A>>⟧.rules ⟦<AttributeResponse<A> as FromParts<A, AttributeResponseParts<A>>>⟧.parts refl ⟦<AttributeResponse<A> as PartialEq>⟧.eq (λ x y e. e) };
+
+    fn read<'b>(scope: &Scope<'b, A>, tag: u32, cursor: &mut Cursor<'b, A>) -> Step<Self, A> {
+        read_structure::<AttributeResponseParts<A>, Self, A>(scope, tag, true, cursor)
+    }
+
+    fn tell_parts<W: Walk<A>>(&self, state: &mut W::State) -> Result<(), AllocError> {
+        W::two::<Leaf<String<A>, 0x420094>, One<Of<Attribute<A>, 0x420008>>>(
+            state,
             &self.unique_identifier,
             &self.attribute,
         )
     }
-
-    fn is_whole(&self) -> bool {
-        are_whole_two::<Leaf<String<A>, 0x420094>, One<Of<Attribute<A>>>, A>(
-            &self.unique_identifier,
-            &self.attribute,
-        )
-    }
-
-    ghost structured = { (refl, refl) };
 }
 
 /// Which object was activated, revoked or destroyed (sections 4.18 to 4.20).
@@ -671,37 +532,24 @@ pub struct ObjectResponse<A: Allocator = Global> {
 
 type ObjectResponseParts<A> = Alone<Leaf<String<A>, 0x420094>>;
 
+impl<A: Allocator + Copy> FromParts<A, ObjectResponseParts<A>> for ObjectResponse<A> {
+    ghost parts = { λ x. x.unique_identifier };
+
+    fn from_parts(unique_identifier: Holds<ObjectResponseParts<A>, A>) -> Self {
+        ObjectResponse { unique_identifier }
+    }
+}
+
 impl<A: Allocator + Copy> Structure<A> for ObjectResponse<A> {
-    ghost item = { structure 0x42007C true (of (λ x. x.unique_identifier) ⟦<ObjectResponseParts<A> as PartList<A>>⟧.rules) refl
-        ⟦<ObjectResponse<A> as PartialEq>⟧.eq (λ x y e. e) };
+    ghost rules = { structure true ⟦<ObjectResponseParts<A> as PartList<A>>⟧.rules ⟦<ObjectResponse<A> as FromParts<A, ObjectResponseParts<A>>>⟧.parts refl ⟦<ObjectResponse<A> as PartialEq>⟧.eq (λ x y e. e) };
 
-    fn number() -> u32 {
-        0x42007C
+    fn read<'b>(scope: &Scope<'b, A>, tag: u32, cursor: &mut Cursor<'b, A>) -> Step<Self, A> {
+        read_structure::<ObjectResponseParts<A>, Self, A>(scope, tag, true, cursor)
     }
 
-    fn read_nested<'b>(scope: &Scope<'b, A>, cursor: &mut Cursor<'b, A>) -> Step<Self, A> {
-        match read_parts::<ObjectResponseParts<A>, A>(scope, 0x42007C, true, cursor) {
-            Ok(parts) => {
-                let unique_identifier = parts;
-                Ok(ObjectResponse { unique_identifier })
-            }
-            Err(failure) => Err(failure),
-        }
+    fn tell_parts<W: Walk<A>>(&self, state: &mut W::State) -> Result<(), AllocError> {
+        W::one::<Leaf<String<A>, 0x420094>>(state, &self.unique_identifier)
     }
-
-    fn visit_parts<V: Visitor>(&self, visitor: &mut V) -> Result<(), AllocError> {
-        visit_structure_one::<Leaf<String<A>, 0x420094>, V, A>(
-            visitor,
-            0x42007C,
-            &self.unique_identifier,
-        )
-    }
-
-    fn is_whole(&self) -> bool {
-        are_whole_one::<Leaf<String<A>, 0x420094>, A>(&self.unique_identifier)
-    }
-
-    ghost structured = { (refl, refl) };
 }
 
 /// What a server can do: of each only what was asked for (section 4.24).
@@ -725,64 +573,45 @@ type QueryResponseParts<A> = (
     Any<LeafItem<String<A>, 0x420003>, 0x420003>,
 );
 
-impl<A: Allocator + Copy> Structure<A> for QueryResponse<A> {
-    ghost item = { structure 0x42007C true (of (λ x. (x.operations, x.object_types, x.vendor_identification, x.application_namespaces)) ⟦<QueryResponseParts<A> as PartList<A>>⟧.rules) refl
-        ⟦<QueryResponse<A> as PartialEq>⟧.eq (λ x y e. e) };
+impl<A: Allocator + Copy> FromParts<A, QueryResponseParts<A>> for QueryResponse<A> {
+    ghost parts = { λ x. (x.operations, x.object_types, x.vendor_identification, x.application_namespaces) };
 
-    fn number() -> u32 {
-        0x42007C
-    }
-
-    fn read_nested<'b>(scope: &Scope<'b, A>, cursor: &mut Cursor<'b, A>) -> Step<Self, A> {
-        match read_parts::<QueryResponseParts<A>, A>(scope, 0x42007C, true, cursor) {
-            Ok(parts) => {
-                let (operations, object_types, vendor_identification, application_namespaces) =
-                    parts;
-                Ok(QueryResponse {
-                    operations,
-                    object_types,
-                    vendor_identification,
-                    application_namespaces,
-                })
-            }
-            Err(failure) => Err(failure),
+    fn from_parts(
+        (operations, object_types, vendor_identification, application_namespaces): Holds<
+            QueryResponseParts<A>,
+            A,
+        >,
+    ) -> Self {
+        QueryResponse {
+            operations,
+            object_types,
+            vendor_identification,
+            application_namespaces,
         }
     }
+}
 
-    fn visit_parts<V: Visitor>(&self, visitor: &mut V) -> Result<(), AllocError> {
-        visit_structure_four::<
+impl<A: Allocator + Copy> Structure<A> for QueryResponse<A> {
+    ghost rules = { structure true ⟦<QueryResponseParts<A> as PartList<A>>⟧.rules ⟦<QueryResponse<A> as FromParts<A, QueryResponseParts<A>>>⟧.parts refl ⟦<QueryResponse<A> as PartialEq>⟧.eq (λ x y e. e) };
+
+    fn read<'b>(scope: &Scope<'b, A>, tag: u32, cursor: &mut Cursor<'b, A>) -> Step<Self, A> {
+        read_structure::<QueryResponseParts<A>, Self, A>(scope, tag, true, cursor)
+    }
+
+    fn tell_parts<W: Walk<A>>(&self, state: &mut W::State) -> Result<(), AllocError> {
+        W::four::<
             Any<Operation, 0x42005C>,
             Any<ObjectType, 0x420057>,
             MaybeLeaf<String<A>, 0x42009D>,
             Any<LeafItem<String<A>, 0x420003>, 0x420003>,
-            V,
-            A,
         >(
-            visitor,
-            0x42007C,
+            state,
             &self.operations,
             &self.object_types,
             &self.vendor_identification,
             &self.application_namespaces,
         )
     }
-
-    fn is_whole(&self) -> bool {
-        are_whole_four::<
-            Any<Operation, 0x42005C>,
-            Any<ObjectType, 0x420057>,
-            MaybeLeaf<String<A>, 0x42009D>,
-            Any<LeafItem<String<A>, 0x420003>, 0x420003>,
-            A,
-        >(
-            &self.operations,
-            &self.object_types,
-            &self.vendor_identification,
-            &self.application_namespaces,
-        )
-    }
-
-    ghost structured = { (refl, refl) };
 }
 
 /// Which versions a server has (KMIP 1.1, section 4.26).
@@ -793,39 +622,27 @@ pub struct DiscoverVersionsResponse<A: Allocator = Global> {
     pub versions: Vec<ProtocolVersion, A>,
 }
 
-type DiscoverVersionsResponseParts = Alone<Any<Of<ProtocolVersion>, 0x420069>>;
+type DiscoverVersionsResponseParts = Alone<Any<Of<ProtocolVersion, 0x420069>, 0x420069>>;
+
+impl<A: Allocator + Copy> FromParts<A, DiscoverVersionsResponseParts>
+    for DiscoverVersionsResponse<A> {
+    ghost parts = { λ x. x.versions };
+
+    fn from_parts(versions: Holds<DiscoverVersionsResponseParts, A>) -> Self {
+        DiscoverVersionsResponse { versions }
+    }
+}
 
 impl<A: Allocator + Copy> Structure<A> for DiscoverVersionsResponse<A> {
-    ghost item = { structure 0x42007C true (of (λ x. x.versions) ⟦<DiscoverVersionsResponseParts as PartList<A>>⟧.rules) refl
-        ⟦<DiscoverVersionsResponse<A> as PartialEq>⟧.eq (λ x y e. e) };
+    ghost rules = { structure true ⟦<DiscoverVersionsResponseParts as PartList<A>>⟧.rules ⟦<DiscoverVersionsResponse<A> as FromParts<A, DiscoverVersionsResponseParts>>⟧.parts refl ⟦<DiscoverVersionsResponse<A> as PartialEq>⟧.eq (λ x y e. e) };
 
-    fn number() -> u32 {
-        0x42007C
+    fn read<'b>(scope: &Scope<'b, A>, tag: u32, cursor: &mut Cursor<'b, A>) -> Step<Self, A> {
+        read_structure::<DiscoverVersionsResponseParts, Self, A>(scope, tag, true, cursor)
     }
 
-    fn read_nested<'b>(scope: &Scope<'b, A>, cursor: &mut Cursor<'b, A>) -> Step<Self, A> {
-        match read_parts::<DiscoverVersionsResponseParts, A>(scope, 0x42007C, true, cursor) {
-            Ok(parts) => {
-                let versions = parts;
-                Ok(DiscoverVersionsResponse { versions })
-            }
-            Err(failure) => Err(failure),
-        }
+    fn tell_parts<W: Walk<A>>(&self, state: &mut W::State) -> Result<(), AllocError> {
+        W::one::<Any<Of<ProtocolVersion, 0x420069>, 0x420069>>(state, &self.versions)
     }
-
-    fn visit_parts<V: Visitor>(&self, visitor: &mut V) -> Result<(), AllocError> {
-        visit_structure_one::<Any<Of<ProtocolVersion>, 0x420069>, V, A>(
-            visitor,
-            0x42007C,
-            &self.versions,
-        )
-    }
-
-    fn is_whole(&self) -> bool {
-        are_whole_one::<Any<Of<ProtocolVersion>, 0x420069>, A>(&self.versions)
-    }
-
-    ghost structured = { (refl, refl) };
 }
 
 /// What was done.
@@ -865,580 +682,260 @@ pub enum ResponsePayload<A: Allocator = Global> {
 }
 
 impl<A: Allocator> ResponsePayload<A> {
-    /// Whether this text, if it is that of 0x42005C, chooses it.
-    pub fn is_chosen_by(&self, text: &str) -> bool
-        ensures { IsTrue result ↔ ChoosesResponsePayload text.now self.now }
+    /// The number that chooses it, of the Enumeration 0x42005C.
+    pub fn chosen_by(&self) -> u32
+        ensures { result ≡ response_payload_chosen_by self.now }
     {
         match self {
-            ResponsePayload::Create(_) => text == "0x00000001",
-            ResponsePayload::CreateKeyPair(_) => text == "0x00000002",
-            ResponsePayload::Register(_) => text == "0x00000003",
-            ResponsePayload::Locate(_) => text == "0x00000008",
-            ResponsePayload::Get(_) => text == "0x0000000A",
-            ResponsePayload::GetAttributes(_) => text == "0x0000000B",
-            ResponsePayload::GetAttributeList(_) => text == "0x0000000C",
-            ResponsePayload::AddAttribute(_) => text == "0x0000000D",
-            ResponsePayload::ModifyAttribute(_) => text == "0x0000000E",
-            ResponsePayload::DeleteAttribute(_) => text == "0x0000000F",
-            ResponsePayload::Activate(_) => text == "0x00000012",
-            ResponsePayload::Revoke(_) => text == "0x00000013",
-            ResponsePayload::Destroy(_) => text == "0x00000014",
-            ResponsePayload::Query(_) => text == "0x00000018",
-            ResponsePayload::DiscoverVersions(_) => text == "0x0000001E",
-        }
-    }
-
-    /// The same of an Enumeration's number.
-    pub fn is_chosen_by_number(&self, number: u32) -> bool
-        ensures { IsTrue result ↔ ChoosesResponsePayloadNumber number self.now }
-    {
-        match self {
-            ResponsePayload::Create(_) => number == 0x00000001,
-            ResponsePayload::CreateKeyPair(_) => number == 0x00000002,
-            ResponsePayload::Register(_) => number == 0x00000003,
-            ResponsePayload::Locate(_) => number == 0x00000008,
-            ResponsePayload::Get(_) => number == 0x0000000A,
-            ResponsePayload::GetAttributes(_) => number == 0x0000000B,
-            ResponsePayload::GetAttributeList(_) => number == 0x0000000C,
-            ResponsePayload::AddAttribute(_) => number == 0x0000000D,
-            ResponsePayload::ModifyAttribute(_) => number == 0x0000000E,
-            ResponsePayload::DeleteAttribute(_) => number == 0x0000000F,
-            ResponsePayload::Activate(_) => number == 0x00000012,
-            ResponsePayload::Revoke(_) => number == 0x00000013,
-            ResponsePayload::Destroy(_) => number == 0x00000014,
-            ResponsePayload::Query(_) => number == 0x00000018,
-            ResponsePayload::DiscoverVersions(_) => number == 0x0000001E,
+            ResponsePayload::Create(_) => 0x00000001,
+            ResponsePayload::CreateKeyPair(_) => 0x00000002,
+            ResponsePayload::Register(_) => 0x00000003,
+            ResponsePayload::Locate(_) => 0x00000008,
+            ResponsePayload::Get(_) => 0x0000000A,
+            ResponsePayload::GetAttributes(_) => 0x0000000B,
+            ResponsePayload::GetAttributeList(_) => 0x0000000C,
+            ResponsePayload::AddAttribute(_) => 0x0000000D,
+            ResponsePayload::ModifyAttribute(_) => 0x0000000E,
+            ResponsePayload::DeleteAttribute(_) => 0x0000000F,
+            ResponsePayload::Activate(_) => 0x00000012,
+            ResponsePayload::Revoke(_) => 0x00000013,
+            ResponsePayload::Destroy(_) => 0x00000014,
+            ResponsePayload::Query(_) => 0x00000018,
+            ResponsePayload::DiscoverVersions(_) => 0x0000001E,
         }
     }
 }
 
 impl<A: Allocator + Copy> Choice<A> for ResponsePayload<A> {
     ghost chosen = { response_payload_choice ⟦<ResponsePayload<A> as PartialEq>⟧.eq record {
-      create = held ⟦<Of<CreateResponse<A>> as Element<A>>⟧.rules refl refl (λ x y e. e);
-      create_key_pair = held ⟦<Of<CreateKeyPairResponse<A>> as Element<A>>⟧.rules refl refl (λ x y e. e);
-      register = held ⟦<Of<RegisterResponse<A>> as Element<A>>⟧.rules refl refl (λ x y e. e);
-      locate = held ⟦<Of<LocateResponse<A>> as Element<A>>⟧.rules refl refl (λ x y e. e);
-      get = held ⟦<Of<GetResponse<A>> as Element<A>>⟧.rules refl refl (λ x y e. e);
-      get_attributes = held ⟦<Of<GetAttributesResponse<A>> as Element<A>>⟧.rules refl refl (λ x y e. e);
-      get_attribute_list = held ⟦<Of<GetAttributeListResponse<A>> as Element<A>>⟧.rules refl refl (λ x y e. e);
-      add_attribute = held ⟦<Of<AttributeResponse<A>> as Element<A>>⟧.rules refl refl (λ x y e. e);
-      modify_attribute = held ⟦<Of<AttributeResponse<A>> as Element<A>>⟧.rules refl refl (λ x y e. e);
-      delete_attribute = held ⟦<Of<AttributeResponse<A>> as Element<A>>⟧.rules refl refl (λ x y e. e);
-      activate = held ⟦<Of<ObjectResponse<A>> as Element<A>>⟧.rules refl refl (λ x y e. e);
-      revoke = held ⟦<Of<ObjectResponse<A>> as Element<A>>⟧.rules refl refl (λ x y e. e);
-      destroy = held ⟦<Of<ObjectResponse<A>> as Element<A>>⟧.rules refl refl (λ x y e. e);
-      query = held ⟦<Of<QueryResponse<A>> as Element<A>>⟧.rules refl refl (λ x y e. e);
-      discover_versions = held ⟦<Of<DiscoverVersionsResponse<A>> as Element<A>>⟧.rules refl refl (λ x y e. e);
+      create = held ⟦<Of<CreateResponse<A>, 0x42007C> as Element<A>>⟧.rules refl refl (λ x y e. e);
+      create_key_pair = held ⟦<Of<CreateKeyPairResponse<A>, 0x42007C> as Element<A>>⟧.rules refl refl (λ x y e. e);
+      register = held ⟦<Of<RegisterResponse<A>, 0x42007C> as Element<A>>⟧.rules refl refl (λ x y e. e);
+      locate = held ⟦<Of<LocateResponse<A>, 0x42007C> as Element<A>>⟧.rules refl refl (λ x y e. e);
+      get = held ⟦<Of<GetResponse<A>, 0x42007C> as Element<A>>⟧.rules refl refl (λ x y e. e);
+      get_attributes = held ⟦<Of<GetAttributesResponse<A>, 0x42007C> as Element<A>>⟧.rules refl refl (λ x y e. e);
+      get_attribute_list = held ⟦<Of<GetAttributeListResponse<A>, 0x42007C> as Element<A>>⟧.rules refl refl (λ x y e. e);
+      add_attribute = held ⟦<Of<AttributeResponse<A>, 0x42007C> as Element<A>>⟧.rules refl refl (λ x y e. e);
+      modify_attribute = held ⟦<Of<AttributeResponse<A>, 0x42007C> as Element<A>>⟧.rules refl refl (λ x y e. e);
+      delete_attribute = held ⟦<Of<AttributeResponse<A>, 0x42007C> as Element<A>>⟧.rules refl refl (λ x y e. e);
+      activate = held ⟦<Of<ObjectResponse<A>, 0x42007C> as Element<A>>⟧.rules refl refl (λ x y e. e);
+      revoke = held ⟦<Of<ObjectResponse<A>, 0x42007C> as Element<A>>⟧.rules refl refl (λ x y e. e);
+      destroy = held ⟦<Of<ObjectResponse<A>, 0x42007C> as Element<A>>⟧.rules refl refl (λ x y e. e);
+      query = held ⟦<Of<QueryResponse<A>, 0x42007C> as Element<A>>⟧.rules refl refl (λ x y e. e);
+      discover_versions = held ⟦<Of<DiscoverVersionsResponse<A>, 0x42007C> as Element<A>>⟧.rules refl refl (λ x y e. e);
     } };
 
     fn read_chosen<'b>(scope: &Scope<'b, A>, cursor: &mut Cursor<'b, A>) -> Step<Self, A> {
         reader::read_choice(scope, cursor)
     }
 
-    fn visit_chosen<V: Visitor>(&self, visitor: &mut V) -> Result<(), AllocError> {
+    fn tell_held<W: Walk<A>>(&self, state: &mut W::State) -> Result<(), AllocError> {
         match self {
-            ResponsePayload::Create(inner) => <Of<CreateResponse<A>> as Element<A>>::visit_one(
-                inner, visitor,
+            ResponsePayload::Create(inner) => W::item::<Of<CreateResponse<A>, 0x42007C>>(
+                state, inner,
             ),
-            ResponsePayload::CreateKeyPair(inner) => <Of<CreateKeyPairResponse<A>> as Element<
-                A,
-            >>::visit_one(inner, visitor),
-            ResponsePayload::Register(inner) => <Of<RegisterResponse<A>> as Element<A>>::visit_one(
-                inner, visitor,
+            ResponsePayload::CreateKeyPair(inner) => W::item::<
+                Of<CreateKeyPairResponse<A>, 0x42007C>,
+            >(state, inner),
+            ResponsePayload::Register(inner) => W::item::<Of<RegisterResponse<A>, 0x42007C>>(
+                state, inner,
             ),
-            ResponsePayload::Locate(inner) => <Of<LocateResponse<A>> as Element<A>>::visit_one(
-                inner, visitor,
+            ResponsePayload::Locate(inner) => W::item::<Of<LocateResponse<A>, 0x42007C>>(
+                state, inner,
             ),
-            ResponsePayload::Get(inner) => <Of<GetResponse<A>> as Element<A>>::visit_one(
-                inner, visitor,
+            ResponsePayload::Get(inner) => W::item::<Of<GetResponse<A>, 0x42007C>>(state, inner),
+            ResponsePayload::GetAttributes(inner) => W::item::<
+                Of<GetAttributesResponse<A>, 0x42007C>,
+            >(state, inner),
+            ResponsePayload::GetAttributeList(inner) => W::item::<
+                Of<GetAttributeListResponse<A>, 0x42007C>,
+            >(state, inner),
+            ResponsePayload::AddAttribute(inner) => W::item::<Of<AttributeResponse<A>, 0x42007C>>(
+                state, inner,
             ),
-            ResponsePayload::GetAttributes(inner) => <Of<GetAttributesResponse<A>> as Element<
-                A,
-            >>::visit_one(inner, visitor),
-            ResponsePayload::GetAttributeList(inner) => <Of<GetAttributeListResponse<A>> as Element<
-                A,
-            >>::visit_one(inner, visitor),
-            ResponsePayload::AddAttribute(inner) => <Of<AttributeResponse<A>> as Element<
-                A,
-            >>::visit_one(inner, visitor),
-            ResponsePayload::ModifyAttribute(inner) => <Of<AttributeResponse<A>> as Element<
-                A,
-            >>::visit_one(inner, visitor),
-            ResponsePayload::DeleteAttribute(inner) => <Of<AttributeResponse<A>> as Element<
-                A,
-            >>::visit_one(inner, visitor),
-            ResponsePayload::Activate(inner) => <Of<ObjectResponse<A>> as Element<A>>::visit_one(
-                inner, visitor,
+            ResponsePayload::ModifyAttribute(inner) => W::item::<
+                Of<AttributeResponse<A>, 0x42007C>,
+            >(state, inner),
+            ResponsePayload::DeleteAttribute(inner) => W::item::<
+                Of<AttributeResponse<A>, 0x42007C>,
+            >(state, inner),
+            ResponsePayload::Activate(inner) => W::item::<Of<ObjectResponse<A>, 0x42007C>>(
+                state, inner,
             ),
-            ResponsePayload::Revoke(inner) => <Of<ObjectResponse<A>> as Element<A>>::visit_one(
-                inner, visitor,
+            ResponsePayload::Revoke(inner) => W::item::<Of<ObjectResponse<A>, 0x42007C>>(
+                state, inner,
             ),
-            ResponsePayload::Destroy(inner) => <Of<ObjectResponse<A>> as Element<A>>::visit_one(
-                inner, visitor,
+            ResponsePayload::Destroy(inner) => W::item::<Of<ObjectResponse<A>, 0x42007C>>(
+                state, inner,
             ),
-            ResponsePayload::Query(inner) => <Of<QueryResponse<A>> as Element<A>>::visit_one(
-                inner, visitor,
+            ResponsePayload::Query(inner) => W::item::<Of<QueryResponse<A>, 0x42007C>>(
+                state, inner,
             ),
-            ResponsePayload::DiscoverVersions(inner) => <Of<DiscoverVersionsResponse<A>> as Element<
-                A,
-            >>::visit_one(inner, visitor),
-        }
-    }
-
-    fn is_whole(&self) -> bool {
-        match self {
-            ResponsePayload::Create(inner) => <Of<CreateResponse<A>> as Element<A>>::is_whole(
-                inner,
-            ),
-            ResponsePayload::CreateKeyPair(inner) => <Of<CreateKeyPairResponse<A>> as Element<
-                A,
-            >>::is_whole(inner),
-            ResponsePayload::Register(inner) => <Of<RegisterResponse<A>> as Element<A>>::is_whole(
-                inner,
-            ),
-            ResponsePayload::Locate(inner) => <Of<LocateResponse<A>> as Element<A>>::is_whole(
-                inner,
-            ),
-            ResponsePayload::Get(inner) => <Of<GetResponse<A>> as Element<A>>::is_whole(inner),
-            ResponsePayload::GetAttributes(inner) => <Of<GetAttributesResponse<A>> as Element<
-                A,
-            >>::is_whole(inner),
-            ResponsePayload::GetAttributeList(inner) => <Of<GetAttributeListResponse<A>> as Element<
-                A,
-            >>::is_whole(inner),
-            ResponsePayload::AddAttribute(inner) => <Of<AttributeResponse<A>> as Element<
-                A,
-            >>::is_whole(inner),
-            ResponsePayload::ModifyAttribute(inner) => <Of<AttributeResponse<A>> as Element<
-                A,
-            >>::is_whole(inner),
-            ResponsePayload::DeleteAttribute(inner) => <Of<AttributeResponse<A>> as Element<
-                A,
-            >>::is_whole(inner),
-            ResponsePayload::Activate(inner) => <Of<ObjectResponse<A>> as Element<A>>::is_whole(
-                inner,
-            ),
-            ResponsePayload::Revoke(inner) => <Of<ObjectResponse<A>> as Element<A>>::is_whole(
-                inner,
-            ),
-            ResponsePayload::Destroy(inner) => <Of<ObjectResponse<A>> as Element<A>>::is_whole(
-                inner,
-            ),
-            ResponsePayload::Query(inner) => <Of<QueryResponse<A>> as Element<A>>::is_whole(inner),
-            ResponsePayload::DiscoverVersions(inner) => <Of<DiscoverVersionsResponse<A>> as Element<
-                A,
-            >>::is_whole(inner),
+            ResponsePayload::DiscoverVersions(inner) => W::item::<
+                Of<DiscoverVersionsResponse<A>, 0x42007C>,
+            >(state, inner),
         }
     }
 
     ghost plain = { (refl, refl) };
 }
 
-/// The rule that chooses `ResponsePayload::Create`.
-pub struct ResponsePayloadCreateRule;
-
-impl Rule for ResponsePayloadCreateRule {
-    ghost condition = { codes "0x42005C==0x00000001" };
-
-    fn name() -> &'static str {
-        "if 0x42005C==0x00000001"
-    }
-
-    #[tactic(auto, unfolding(kmip_ttlv_reader::specs::RuleParts::parts_of))]
-    fn parts() -> Option<RuleParts> {
-        Some(RuleParts::Texts {
-            tag: 0x42005C,
-            texts: &["0x00000001"],
-        })
-    }
-}
-
-impl<A: Allocator + Copy> VariantOf<AsElement<Of<CreateResponse<A>>>, ResponsePayload<A>, A>
-    for ResponsePayloadCreateRule {
+impl<A: Allocator + Copy> VariantOf<
+    AsElement<Of<CreateResponse<A>, 0x42007C>>,
+    ResponsePayload<A>,
+    A,
+> for OperationCreateRule {
     #[tactic(auto, unfolding(crate::specs::Choices::response_payload_by))]
     fn from_content(inner: CreateResponse<A>) -> ResponsePayload<A> {
         ResponsePayload::Create(inner)
     }
 }
 
-/// The rule that chooses `ResponsePayload::CreateKeyPair`.
-pub struct ResponsePayloadCreateKeyPairRule;
-
-impl Rule for ResponsePayloadCreateKeyPairRule {
-    ghost condition = { codes "0x42005C==0x00000002" };
-
-    fn name() -> &'static str {
-        "if 0x42005C==0x00000002"
-    }
-
-    #[tactic(auto, unfolding(kmip_ttlv_reader::specs::RuleParts::parts_of))]
-    fn parts() -> Option<RuleParts> {
-        Some(RuleParts::Texts {
-            tag: 0x42005C,
-            texts: &["0x00000002"],
-        })
-    }
-}
-
-impl<A: Allocator + Copy> VariantOf<AsElement<Of<CreateKeyPairResponse<A>>>, ResponsePayload<A>, A>
-    for ResponsePayloadCreateKeyPairRule {
+impl<A: Allocator + Copy> VariantOf<
+    AsElement<Of<CreateKeyPairResponse<A>, 0x42007C>>,
+    ResponsePayload<A>,
+    A,
+> for OperationCreateKeyPairRule {
     #[tactic(auto, unfolding(crate::specs::Choices::response_payload_by))]
     fn from_content(inner: CreateKeyPairResponse<A>) -> ResponsePayload<A> {
         ResponsePayload::CreateKeyPair(inner)
     }
 }
 
-/// The rule that chooses `ResponsePayload::Register`.
-pub struct ResponsePayloadRegisterRule;
-
-impl Rule for ResponsePayloadRegisterRule {
-    ghost condition = { codes "0x42005C==0x00000003" };
-
-    fn name() -> &'static str {
-        "if 0x42005C==0x00000003"
-    }
-
-    #[tactic(auto, unfolding(kmip_ttlv_reader::specs::RuleParts::parts_of))]
-    fn parts() -> Option<RuleParts> {
-        Some(RuleParts::Texts {
-            tag: 0x42005C,
-            texts: &["0x00000003"],
-        })
-    }
-}
-
-impl<A: Allocator + Copy> VariantOf<AsElement<Of<RegisterResponse<A>>>, ResponsePayload<A>, A>
-    for ResponsePayloadRegisterRule {
+impl<A: Allocator + Copy> VariantOf<
+    AsElement<Of<RegisterResponse<A>, 0x42007C>>,
+    ResponsePayload<A>,
+    A,
+> for OperationRegisterRule {
     #[tactic(auto, unfolding(crate::specs::Choices::response_payload_by))]
     fn from_content(inner: RegisterResponse<A>) -> ResponsePayload<A> {
         ResponsePayload::Register(inner)
     }
 }
 
-/// The rule that chooses `ResponsePayload::Locate`.
-pub struct ResponsePayloadLocateRule;
-
-impl Rule for ResponsePayloadLocateRule {
-    ghost condition = { codes "0x42005C==0x00000008" };
-
-    fn name() -> &'static str {
-        "if 0x42005C==0x00000008"
-    }
-
-    #[tactic(auto, unfolding(kmip_ttlv_reader::specs::RuleParts::parts_of))]
-    fn parts() -> Option<RuleParts> {
-        Some(RuleParts::Texts {
-            tag: 0x42005C,
-            texts: &["0x00000008"],
-        })
-    }
-}
-
-impl<A: Allocator + Copy> VariantOf<AsElement<Of<LocateResponse<A>>>, ResponsePayload<A>, A>
-    for ResponsePayloadLocateRule {
+impl<A: Allocator + Copy> VariantOf<
+    AsElement<Of<LocateResponse<A>, 0x42007C>>,
+    ResponsePayload<A>,
+    A,
+> for OperationLocateRule {
     #[tactic(auto, unfolding(crate::specs::Choices::response_payload_by))]
     fn from_content(inner: LocateResponse<A>) -> ResponsePayload<A> {
         ResponsePayload::Locate(inner)
     }
 }
 
-/// The rule that chooses `ResponsePayload::Get`.
-pub struct ResponsePayloadGetRule;
-
-impl Rule for ResponsePayloadGetRule {
-    ghost condition = { codes "0x42005C==0x0000000A" };
-
-    fn name() -> &'static str {
-        "if 0x42005C==0x0000000A"
-    }
-
-    #[tactic(auto, unfolding(kmip_ttlv_reader::specs::RuleParts::parts_of))]
-    fn parts() -> Option<RuleParts> {
-        Some(RuleParts::Texts {
-            tag: 0x42005C,
-            texts: &["0x0000000A"],
-        })
-    }
-}
-
-impl<A: Allocator + Copy> VariantOf<AsElement<Of<GetResponse<A>>>, ResponsePayload<A>, A>
-    for ResponsePayloadGetRule {
+impl<A: Allocator + Copy> VariantOf<AsElement<Of<GetResponse<A>, 0x42007C>>, ResponsePayload<A>, A>
+    for OperationGetRule {
     #[tactic(auto, unfolding(crate::specs::Choices::response_payload_by))]
     fn from_content(inner: GetResponse<A>) -> ResponsePayload<A> {
         ResponsePayload::Get(inner)
     }
 }
 
-/// The rule that chooses `ResponsePayload::GetAttributes`.
-pub struct ResponsePayloadGetAttributesRule;
-
-impl Rule for ResponsePayloadGetAttributesRule {
-    ghost condition = { codes "0x42005C==0x0000000B" };
-
-    fn name() -> &'static str {
-        "if 0x42005C==0x0000000B"
-    }
-
-    #[tactic(auto, unfolding(kmip_ttlv_reader::specs::RuleParts::parts_of))]
-    fn parts() -> Option<RuleParts> {
-        Some(RuleParts::Texts {
-            tag: 0x42005C,
-            texts: &["0x0000000B"],
-        })
-    }
-}
-
-impl<A: Allocator + Copy> VariantOf<AsElement<Of<GetAttributesResponse<A>>>, ResponsePayload<A>, A>
-    for ResponsePayloadGetAttributesRule {
+impl<A: Allocator + Copy> VariantOf<
+    AsElement<Of<GetAttributesResponse<A>, 0x42007C>>,
+    ResponsePayload<A>,
+    A,
+> for OperationGetAttributesRule {
     #[tactic(auto, unfolding(crate::specs::Choices::response_payload_by))]
     fn from_content(inner: GetAttributesResponse<A>) -> ResponsePayload<A> {
         ResponsePayload::GetAttributes(inner)
     }
 }
 
-/// The rule that chooses `ResponsePayload::GetAttributeList`.
-pub struct ResponsePayloadGetAttributeListRule;
-
-impl Rule for ResponsePayloadGetAttributeListRule {
-    ghost condition = { codes "0x42005C==0x0000000C" };
-
-    fn name() -> &'static str {
-        "if 0x42005C==0x0000000C"
-    }
-
-    #[tactic(auto, unfolding(kmip_ttlv_reader::specs::RuleParts::parts_of))]
-    fn parts() -> Option<RuleParts> {
-        Some(RuleParts::Texts {
-            tag: 0x42005C,
-            texts: &["0x0000000C"],
-        })
-    }
-}
-
 impl<A: Allocator + Copy> VariantOf<
-    AsElement<Of<GetAttributeListResponse<A>>>,
+    AsElement<Of<GetAttributeListResponse<A>, 0x42007C>>,
     ResponsePayload<A>,
     A,
-> for ResponsePayloadGetAttributeListRule {
+> for OperationGetAttributeListRule {
     #[tactic(auto, unfolding(crate::specs::Choices::response_payload_by))]
     fn from_content(inner: GetAttributeListResponse<A>) -> ResponsePayload<A> {
         ResponsePayload::GetAttributeList(inner)
     }
 }
 
-/// The rule that chooses `ResponsePayload::AddAttribute`.
-pub struct ResponsePayloadAddAttributeRule;
-
-impl Rule for ResponsePayloadAddAttributeRule {
-    ghost condition = { codes "0x42005C==0x0000000D" };
-
-    fn name() -> &'static str {
-        "if 0x42005C==0x0000000D"
-    }
-
-    #[tactic(auto, unfolding(kmip_ttlv_reader::specs::RuleParts::parts_of))]
-    fn parts() -> Option<RuleParts> {
-        Some(RuleParts::Texts {
-            tag: 0x42005C,
-            texts: &["0x0000000D"],
-        })
-    }
-}
-
-impl<A: Allocator + Copy> VariantOf<AsElement<Of<AttributeResponse<A>>>, ResponsePayload<A>, A>
-    for ResponsePayloadAddAttributeRule {
+impl<A: Allocator + Copy> VariantOf<
+    AsElement<Of<AttributeResponse<A>, 0x42007C>>,
+    ResponsePayload<A>,
+    A,
+> for OperationAddAttributeRule {
     #[tactic(auto, unfolding(crate::specs::Choices::response_payload_by))]
     fn from_content(inner: AttributeResponse<A>) -> ResponsePayload<A> {
         ResponsePayload::AddAttribute(inner)
     }
 }
 
-/// The rule that chooses `ResponsePayload::ModifyAttribute`.
-pub struct ResponsePayloadModifyAttributeRule;
-
-impl Rule for ResponsePayloadModifyAttributeRule {
-    ghost condition = { codes "0x42005C==0x0000000E" };
-
-    fn name() -> &'static str {
-        "if 0x42005C==0x0000000E"
-    }
-
-    #[tactic(auto, unfolding(kmip_ttlv_reader::specs::RuleParts::parts_of))]
-    fn parts() -> Option<RuleParts> {
-        Some(RuleParts::Texts {
-            tag: 0x42005C,
-            texts: &["0x0000000E"],
-        })
-    }
-}
-
-impl<A: Allocator + Copy> VariantOf<AsElement<Of<AttributeResponse<A>>>, ResponsePayload<A>, A>
-    for ResponsePayloadModifyAttributeRule {
+impl<A: Allocator + Copy> VariantOf<
+    AsElement<Of<AttributeResponse<A>, 0x42007C>>,
+    ResponsePayload<A>,
+    A,
+> for OperationModifyAttributeRule {
     #[tactic(auto, unfolding(crate::specs::Choices::response_payload_by))]
     fn from_content(inner: AttributeResponse<A>) -> ResponsePayload<A> {
         ResponsePayload::ModifyAttribute(inner)
     }
 }
 
-/// The rule that chooses `ResponsePayload::DeleteAttribute`.
-pub struct ResponsePayloadDeleteAttributeRule;
-
-impl Rule for ResponsePayloadDeleteAttributeRule {
-    ghost condition = { codes "0x42005C==0x0000000F" };
-
-    fn name() -> &'static str {
-        "if 0x42005C==0x0000000F"
-    }
-
-    #[tactic(auto, unfolding(kmip_ttlv_reader::specs::RuleParts::parts_of))]
-    fn parts() -> Option<RuleParts> {
-        Some(RuleParts::Texts {
-            tag: 0x42005C,
-            texts: &["0x0000000F"],
-        })
-    }
-}
-
-impl<A: Allocator + Copy> VariantOf<AsElement<Of<AttributeResponse<A>>>, ResponsePayload<A>, A>
-    for ResponsePayloadDeleteAttributeRule {
+impl<A: Allocator + Copy> VariantOf<
+    AsElement<Of<AttributeResponse<A>, 0x42007C>>,
+    ResponsePayload<A>,
+    A,
+> for OperationDeleteAttributeRule {
     #[tactic(auto, unfolding(crate::specs::Choices::response_payload_by))]
     fn from_content(inner: AttributeResponse<A>) -> ResponsePayload<A> {
         ResponsePayload::DeleteAttribute(inner)
     }
 }
 
-/// The rule that chooses `ResponsePayload::Activate`.
-pub struct ResponsePayloadActivateRule;
-
-impl Rule for ResponsePayloadActivateRule {
-    ghost condition = { codes "0x42005C==0x00000012" };
-
-    fn name() -> &'static str {
-        "if 0x42005C==0x00000012"
-    }
-
-    #[tactic(auto, unfolding(kmip_ttlv_reader::specs::RuleParts::parts_of))]
-    fn parts() -> Option<RuleParts> {
-        Some(RuleParts::Texts {
-            tag: 0x42005C,
-            texts: &["0x00000012"],
-        })
-    }
-}
-
-impl<A: Allocator + Copy> VariantOf<AsElement<Of<ObjectResponse<A>>>, ResponsePayload<A>, A>
-    for ResponsePayloadActivateRule {
+impl<A: Allocator + Copy> VariantOf<
+    AsElement<Of<ObjectResponse<A>, 0x42007C>>,
+    ResponsePayload<A>,
+    A,
+> for OperationActivateRule {
     #[tactic(auto, unfolding(crate::specs::Choices::response_payload_by))]
     fn from_content(inner: ObjectResponse<A>) -> ResponsePayload<A> {
         ResponsePayload::Activate(inner)
     }
 }
 
-/// The rule that chooses `ResponsePayload::Revoke`.
-pub struct ResponsePayloadRevokeRule;
-
-impl Rule for ResponsePayloadRevokeRule {
-    ghost condition = { codes "0x42005C==0x00000013" };
-
-    fn name() -> &'static str {
-        "if 0x42005C==0x00000013"
-    }
-
-    #[tactic(auto, unfolding(kmip_ttlv_reader::specs::RuleParts::parts_of))]
-    fn parts() -> Option<RuleParts> {
-        Some(RuleParts::Texts {
-            tag: 0x42005C,
-            texts: &["0x00000013"],
-        })
-    }
-}
-
-impl<A: Allocator + Copy> VariantOf<AsElement<Of<ObjectResponse<A>>>, ResponsePayload<A>, A>
-    for ResponsePayloadRevokeRule {
+impl<A: Allocator + Copy> VariantOf<
+    AsElement<Of<ObjectResponse<A>, 0x42007C>>,
+    ResponsePayload<A>,
+    A,
+> for OperationRevokeRule {
     #[tactic(auto, unfolding(crate::specs::Choices::response_payload_by))]
     fn from_content(inner: ObjectResponse<A>) -> ResponsePayload<A> {
         ResponsePayload::Revoke(inner)
     }
 }
 
-/// The rule that chooses `ResponsePayload::Destroy`.
-pub struct ResponsePayloadDestroyRule;
-
-impl Rule for ResponsePayloadDestroyRule {
-    ghost condition = { codes "0x42005C==0x00000014" };
-
-    fn name() -> &'static str {
-        "if 0x42005C==0x00000014"
-    }
-
-    #[tactic(auto, unfolding(kmip_ttlv_reader::specs::RuleParts::parts_of))]
-    fn parts() -> Option<RuleParts> {
-        Some(RuleParts::Texts {
-            tag: 0x42005C,
-            texts: &["0x00000014"],
-        })
-    }
-}
-
-impl<A: Allocator + Copy> VariantOf<AsElement<Of<ObjectResponse<A>>>, ResponsePayload<A>, A>
-    for ResponsePayloadDestroyRule {
+impl<A: Allocator + Copy> VariantOf<
+    AsElement<Of<ObjectResponse<A>, 0x42007C>>,
+    ResponsePayload<A>,
+    A,
+> for OperationDestroyRule {
     #[tactic(auto, unfolding(crate::specs::Choices::response_payload_by))]
     fn from_content(inner: ObjectResponse<A>) -> ResponsePayload<A> {
         ResponsePayload::Destroy(inner)
     }
 }
 
-/// The rule that chooses `ResponsePayload::Query`.
-pub struct ResponsePayloadQueryRule;
-
-impl Rule for ResponsePayloadQueryRule {
-    ghost condition = { codes "0x42005C==0x00000018" };
-
-    fn name() -> &'static str {
-        "if 0x42005C==0x00000018"
-    }
-
-    #[tactic(auto, unfolding(kmip_ttlv_reader::specs::RuleParts::parts_of))]
-    fn parts() -> Option<RuleParts> {
-        Some(RuleParts::Texts {
-            tag: 0x42005C,
-            texts: &["0x00000018"],
-        })
-    }
-}
-
-impl<A: Allocator + Copy> VariantOf<AsElement<Of<QueryResponse<A>>>, ResponsePayload<A>, A>
-    for ResponsePayloadQueryRule {
+impl<A: Allocator + Copy> VariantOf<
+    AsElement<Of<QueryResponse<A>, 0x42007C>>,
+    ResponsePayload<A>,
+    A,
+> for OperationQueryRule {
     #[tactic(auto, unfolding(crate::specs::Choices::response_payload_by))]
     fn from_content(inner: QueryResponse<A>) -> ResponsePayload<A> {
         ResponsePayload::Query(inner)
     }
 }
 
-/// The rule that chooses `ResponsePayload::DiscoverVersions`.
-pub struct ResponsePayloadDiscoverVersionsRule;
-
-impl Rule for ResponsePayloadDiscoverVersionsRule {
-    ghost condition = { codes "0x42005C==0x0000001E" };
-
-    fn name() -> &'static str {
-        "if 0x42005C==0x0000001E"
-    }
-
-    #[tactic(auto, unfolding(kmip_ttlv_reader::specs::RuleParts::parts_of))]
-    fn parts() -> Option<RuleParts> {
-        Some(RuleParts::Texts {
-            tag: 0x42005C,
-            texts: &["0x0000001E"],
-        })
-    }
-}
-
 impl<A: Allocator + Copy> VariantOf<
-    AsElement<Of<DiscoverVersionsResponse<A>>>,
+    AsElement<Of<DiscoverVersionsResponse<A>, 0x42007C>>,
     ResponsePayload<A>,
     A,
-> for ResponsePayloadDiscoverVersionsRule {
+> for OperationDiscoverVersionsRule {
     #[tactic(auto, unfolding(crate::specs::Choices::response_payload_by))]
     fn from_content(inner: DiscoverVersionsResponse<A>) -> ResponsePayload<A> {
         ResponsePayload::DiscoverVersions(inner)
@@ -1449,7 +946,7 @@ impl<A: Allocator + Copy> VariantOf<
 pub struct ResponsePayloadLater4;
 
 impl<A: Allocator + Copy> VariantList<ResponsePayload<A>, A> for ResponsePayloadLater4 {
-    ghost variants = { ⟦<(Variant<ResponsePayloadGetRule, AsElement<Of<GetResponse<A>>>>, (Variant<ResponsePayloadGetAttributesRule, AsElement<Of<GetAttributesResponse<A>>>>, (Variant<ResponsePayloadGetAttributeListRule, AsElement<Of<GetAttributeListResponse<A>>>>, (Variant<ResponsePayloadAddAttributeRule, AsElement<Of<AttributeResponse<A>>>>, ResponsePayloadLater8)))) as VariantList<ResponsePayload<A>, A>>⟧.variants };
+    ghost variants = { ⟦<(Case<OperationGetRule, Of<GetResponse<A>, 0x42007C>>, (Case<OperationGetAttributesRule, Of<GetAttributesResponse<A>, 0x42007C>>, (Case<OperationGetAttributeListRule, Of<GetAttributeListResponse<A>, 0x42007C>>, (Case<OperationAddAttributeRule, Of<AttributeResponse<A>, 0x42007C>>, ResponsePayloadLater8)))) as VariantList<ResponsePayload<A>, A>>⟧.variants };
 
     fn read_chosen<'b>(
         scope: &Scope<'b, A>,
@@ -1457,19 +954,13 @@ impl<A: Allocator + Copy> VariantList<ResponsePayload<A>, A> for ResponsePayload
         typ: TtlvType,
     ) -> Step<Option<ResponsePayload<A>>, A> {
         <(
-            Variant<ResponsePayloadGetRule, AsElement<Of<GetResponse<A>>>>,
+            Case<OperationGetRule, Of<GetResponse<A>, 0x42007C>>,
             (
-                Variant<ResponsePayloadGetAttributesRule, AsElement<Of<GetAttributesResponse<A>>>>,
+                Case<OperationGetAttributesRule, Of<GetAttributesResponse<A>, 0x42007C>>,
                 (
-                    Variant<
-                        ResponsePayloadGetAttributeListRule,
-                        AsElement<Of<GetAttributeListResponse<A>>>,
-                    >,
+                    Case<OperationGetAttributeListRule, Of<GetAttributeListResponse<A>, 0x42007C>>,
                     (
-                        Variant<
-                            ResponsePayloadAddAttributeRule,
-                            AsElement<Of<AttributeResponse<A>>>,
-                        >,
+                        Case<OperationAddAttributeRule, Of<AttributeResponse<A>, 0x42007C>>,
                         ResponsePayloadLater8,
                     ),
                 ),
@@ -1484,7 +975,7 @@ impl<A: Allocator + Copy> VariantList<ResponsePayload<A>, A> for ResponsePayload
 pub struct ResponsePayloadLater8;
 
 impl<A: Allocator + Copy> VariantList<ResponsePayload<A>, A> for ResponsePayloadLater8 {
-    ghost variants = { ⟦<(Variant<ResponsePayloadModifyAttributeRule, AsElement<Of<AttributeResponse<A>>>>, (Variant<ResponsePayloadDeleteAttributeRule, AsElement<Of<AttributeResponse<A>>>>, (Variant<ResponsePayloadActivateRule, AsElement<Of<ObjectResponse<A>>>>, (Variant<ResponsePayloadRevokeRule, AsElement<Of<ObjectResponse<A>>>>, ResponsePayloadLater12)))) as VariantList<ResponsePayload<A>, A>>⟧.variants };
+    ghost variants = { ⟦<(Case<OperationModifyAttributeRule, Of<AttributeResponse<A>, 0x42007C>>, (Case<OperationDeleteAttributeRule, Of<AttributeResponse<A>, 0x42007C>>, (Case<OperationActivateRule, Of<ObjectResponse<A>, 0x42007C>>, (Case<OperationRevokeRule, Of<ObjectResponse<A>, 0x42007C>>, ResponsePayloadLater12)))) as VariantList<ResponsePayload<A>, A>>⟧.variants };
 
     fn read_chosen<'b>(
         scope: &Scope<'b, A>,
@@ -1492,13 +983,13 @@ impl<A: Allocator + Copy> VariantList<ResponsePayload<A>, A> for ResponsePayload
         typ: TtlvType,
     ) -> Step<Option<ResponsePayload<A>>, A> {
         <(
-            Variant<ResponsePayloadModifyAttributeRule, AsElement<Of<AttributeResponse<A>>>>,
+            Case<OperationModifyAttributeRule, Of<AttributeResponse<A>, 0x42007C>>,
             (
-                Variant<ResponsePayloadDeleteAttributeRule, AsElement<Of<AttributeResponse<A>>>>,
+                Case<OperationDeleteAttributeRule, Of<AttributeResponse<A>, 0x42007C>>,
                 (
-                    Variant<ResponsePayloadActivateRule, AsElement<Of<ObjectResponse<A>>>>,
+                    Case<OperationActivateRule, Of<ObjectResponse<A>, 0x42007C>>,
                     (
-                        Variant<ResponsePayloadRevokeRule, AsElement<Of<ObjectResponse<A>>>>,
+                        Case<OperationRevokeRule, Of<ObjectResponse<A>, 0x42007C>>,
                         ResponsePayloadLater12,
                     ),
                 ),
@@ -1513,7 +1004,7 @@ impl<A: Allocator + Copy> VariantList<ResponsePayload<A>, A> for ResponsePayload
 pub struct ResponsePayloadLater12;
 
 impl<A: Allocator + Copy> VariantList<ResponsePayload<A>, A> for ResponsePayloadLater12 {
-    ghost variants = { ⟦<(Variant<ResponsePayloadDestroyRule, AsElement<Of<ObjectResponse<A>>>>, (Variant<ResponsePayloadQueryRule, AsElement<Of<QueryResponse<A>>>>, (Variant<ResponsePayloadDiscoverVersionsRule, AsElement<Of<DiscoverVersionsResponse<A>>>>, ()))) as VariantList<ResponsePayload<A>, A>>⟧.variants };
+    ghost variants = { ⟦<(Case<OperationDestroyRule, Of<ObjectResponse<A>, 0x42007C>>, (Case<OperationQueryRule, Of<QueryResponse<A>, 0x42007C>>, (Case<OperationDiscoverVersionsRule, Of<DiscoverVersionsResponse<A>, 0x42007C>>, ()))) as VariantList<ResponsePayload<A>, A>>⟧.variants };
 
     fn read_chosen<'b>(
         scope: &Scope<'b, A>,
@@ -1521,14 +1012,11 @@ impl<A: Allocator + Copy> VariantList<ResponsePayload<A>, A> for ResponsePayload
         typ: TtlvType,
     ) -> Step<Option<ResponsePayload<A>>, A> {
         <(
-            Variant<ResponsePayloadDestroyRule, AsElement<Of<ObjectResponse<A>>>>,
+            Case<OperationDestroyRule, Of<ObjectResponse<A>, 0x42007C>>,
             (
-                Variant<ResponsePayloadQueryRule, AsElement<Of<QueryResponse<A>>>>,
+                Case<OperationQueryRule, Of<QueryResponse<A>, 0x42007C>>,
                 (
-                    Variant<
-                        ResponsePayloadDiscoverVersionsRule,
-                        AsElement<Of<DiscoverVersionsResponse<A>>>,
-                    >,
+                    Case<OperationDiscoverVersionsRule, Of<DiscoverVersionsResponse<A>, 0x42007C>>,
                     (),
                 ),
             ),
@@ -1548,13 +1036,13 @@ impl<A: Allocator + Copy> reader::Choice<A> for ResponsePayload<A> {
     ghost form = { ⟦<ResponsePayload<A> as Choice<A>>⟧.chosen.form };
 
     type Variants = (
-        Variant<ResponsePayloadCreateRule, AsElement<Of<CreateResponse<A>>>>,
+        Case<OperationCreateRule, Of<CreateResponse<A>, 0x42007C>>,
         (
-            Variant<ResponsePayloadCreateKeyPairRule, AsElement<Of<CreateKeyPairResponse<A>>>>,
+            Case<OperationCreateKeyPairRule, Of<CreateKeyPairResponse<A>, 0x42007C>>,
             (
-                Variant<ResponsePayloadRegisterRule, AsElement<Of<RegisterResponse<A>>>>,
+                Case<OperationRegisterRule, Of<RegisterResponse<A>, 0x42007C>>,
                 (
-                    Variant<ResponsePayloadLocateRule, AsElement<Of<LocateResponse<A>>>>,
+                    Case<OperationLocateRule, Of<LocateResponse<A>, 0x42007C>>,
                     ResponsePayloadLater4,
                 ),
             ),

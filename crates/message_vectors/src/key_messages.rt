@@ -2,8 +2,7 @@
 
 use crate::tally::Tally;
 use create_destroy::calls::{read_request, read_response, write_request, write_response};
-use create_destroy::request::Request;
-use create_destroy::response::Response;
+use create_destroy::messages::{Request, Response};
 use kmip_ttlv::PrettyPrinter;
 use kmip_ttlv::laws::Sound;
 use kmip_ttlv_memory::BoundedAllocator;

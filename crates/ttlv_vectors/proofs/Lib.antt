@@ -1,3 +1,2 @@
-pub mod Agreeing
 mod SingleData
 mod SingleBack

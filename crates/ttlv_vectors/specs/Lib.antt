@@ -1,12 +1,6 @@
 pub mod Samples
 pub mod Requests
 pub mod AttributeRequests
+pub mod Selections
 pub mod Choices
-pub mod Chosens
-pub mod Leaves
-pub mod Messages
-pub mod Numbers
-pub mod Queries
-pub mod Parcels
-pub mod Soundness
-pub mod Laws
+pub mod Listed

@@ -3,7 +3,7 @@
 ghost use Rattle.std.specs.Prelude.{◌≡◌, IfOk, false};
 ghost use Rattle.kmip_ttlv.specs.Forms.{enum, struct, tuple, wrapped, content_of, fields_of, form_of, forms_of, variants_of};
 ghost use Rattle.kmip_ttlv.specs.Values.{view};
-ghost use Rattle.ttlv_vectors.specs.Choices.{IsField, IsVariant, choice_form, selection_form};
+ghost use Rattle.ttlv_vectors.specs.Selections.{IsField, IsVariant, choice_form, selection_form};
 
 use kmip_ttlv::shape::{
     ByShape, Data, Deserialize, FieldShape, Shape, VariantContent, VariantShape,

@@ -1,152 +1,59 @@
 // Written by codegen from types.table: change that, and run codegen/codegen.
 //! Choices, by the type of an item or by a word before them.
 
-ghost use Rattle.std.specs.Prelude.{◌≡◌, ◌↔◌, refl, IsTrue, OnErr, OnOk, codes, false};
-ghost use Rattle.kmip_ttlv.specs.Visits.{Receives};
-ghost use Rattle.ttlv_vectors.specs.Chosens.{word_form, word_value, line_form, line_value, count_form, count_value, said_form, written_said, read_said, said_content, named_form, written_named, read_named, named_content, ChoosesNamed, label_form, label_value, address_form, address_value, place_form, written_place, read_place, ChoosesPlace, chosen_form, written_chosen, read_chosen};
+ghost use Rattle.std.specs.Prelude.{◌≡◌, ◌↔◌, ◌+◌, None, IfSome, IsTrue, Some, codes, false, refl, string_bytes, true};
+ghost use Rattle.kmip_ttlv_kinds.specs.Parts.{all_enough, structure_where};
+ghost use Rattle.kmip_ttlv_kinds.specs.Choices.{held};
+ghost use Rattle.ttlv_vectors.specs.Choices.{said_choice, more_choice, named_choice, ChoosesNamed};
 
-use kmip_ttlv::messages::writing;
+use kmip_ttlv::error::Error;
+use kmip_ttlv::laws::{Message, Sound};
 use kmip_ttlv::shape::{Decode, Serialize};
-use kmip_ttlv::types::TtlvType;
-use kmip_ttlv::visit::{Leaf, Visitor};
-use kmip_ttlv::{error, reader};
+use kmip_ttlv_kinds::{
+    AsElement, Case, Choice, Decided, Element, FromParts, Holds, Leaf, LeafItem, MaybeOneOf, Of,
+    OneOf, PartList, Structure, Walk, decode_structure, is_structure_whole, read_structure,
+    structures_come_back, texts_in, visit_structure,
+};
+use kmip_ttlv_parts::reader;
+use kmip_ttlv_parts::reader::{ChoiceValue, Cursor, Rule, RuleParts, Scope, Step, VariantOf};
+use kmip_ttlv_parts::types::TtlvType;
+use kmip_ttlv_parts::visit::Visitor;
 use std::alloc::{AllocError, Allocator, Global};
-
-/// What chooses.
-#[derive(Drop)]
-#[derive_where(PartialEq)]
-pub struct Word<A: Allocator = Global> {
-    /// What it holds.
-    pub text: String<A>,
-}
-
-impl<B: Allocator> Serialize for Word<B> {
-    ghost stated = { word_value };
-
-    fn visit<V: Visitor>(&self, visitor: &mut V) -> Result<(), AllocError> {
-        writing::string(visitor, 0x540070, &self.text)
-    }
-}
-
-impl<A: Allocator + Copy> reader::ReadItem<A> for Word<A> {
-    ghost form = { word_form };
-
-    ghost value = { word_value };
-
-    ghost plain = { (refl, refl) };
-
-    fn read_item<'b>(
-        scope: &reader::Scope<'b, A>,
-        cursor: &mut reader::Cursor<'b, A>,
-    ) -> reader::Step<Self, A> {
-        let text = cursor.wrapped_leaf(scope, 0x540070)?;
-        Ok(Word { text })
-    }
-}
-
-/// A text.
-#[derive(Drop)]
-#[derive_where(PartialEq)]
-pub struct Line<A: Allocator = Global> {
-    /// What it holds.
-    pub text: String<A>,
-}
-
-impl<B: Allocator> Serialize for Line<B> {
-    ghost stated = { line_value };
-
-    fn visit<V: Visitor>(&self, visitor: &mut V) -> Result<(), AllocError> {
-        writing::string(visitor, 0x540071, &self.text)
-    }
-}
-
-impl<A: Allocator + Copy> reader::ReadItem<A> for Line<A> {
-    ghost form = { line_form };
-
-    ghost value = { line_value };
-
-    ghost plain = { (refl, refl) };
-
-    fn read_item<'b>(
-        scope: &reader::Scope<'b, A>,
-        cursor: &mut reader::Cursor<'b, A>,
-    ) -> reader::Step<Self, A> {
-        let text = cursor.wrapped_leaf(scope, 0x540071)?;
-        Ok(Line { text })
-    }
-}
-
-/// A number.
-#[derive(Clone, Copy, PartialEq, Eq)]
-pub struct Count {
-    /// What it holds.
-    pub number: i32,
-}
-
-impl Serialize for Count {
-    ghost stated = { count_value };
-
-    fn visit<V: Visitor>(&self, visitor: &mut V) -> Result<(), AllocError> {
-        writing::tagged(visitor, 0x540071, Leaf::I32(self.number))?;
-        Ok(())
-    }
-}
-
-impl<A: Allocator + Copy> reader::ReadItem<A> for Count {
-    ghost form = { count_form };
-
-    ghost value = { count_value };
-
-    ghost plain = { (refl, refl) };
-
-    fn read_item<'b>(
-        scope: &reader::Scope<'b, A>,
-        cursor: &mut reader::Cursor<'b, A>,
-    ) -> reader::Step<Self, A> {
-        let number = cursor.wrapped_leaf(scope, 0x540071)?;
-        Ok(Count { number })
-    }
-}
 
 /// A text or a number, by its type.
 #[derive(Drop)]
 #[derive_where(PartialEq)]
 pub enum Said<A: Allocator = Global> {
     /// A text.
-    Line(Line<A>),
+    Line(String<A>),
     /// A number.
-    Count(Count),
+    Count(i32),
 }
 
-impl<A: Allocator> Said<A> {
-    // Sends what it holds.
-    #[tactic(auto, unfolding(crate::specs::Chosens::said_content))]
-    pub(crate) fn send<V: Visitor>(&self, visitor: &mut V) -> Result<(), AllocError>
-        ensures received { OnOk result (Receives V.knows V.step (said_content self.now) visitor.old visitor.new) }
-        ensures stopped { OnErr result (V.stopped visitor.new) }
-    {
+impl<A: Allocator + Copy> Choice<A> for Said<A> {
+    ghost chosen = { said_choice ⟦<Said<A> as PartialEq>⟧.eq record {
+      line = held ⟦<LeafItem<String<A>, 0x540071> as Element<A>>⟧.rules refl refl (λ x y e. e);
+      count = held ⟦<LeafItem<i32, 0x540071> as Element<A>>⟧.rules refl refl (λ x y e. e);
+    } };
+
+    fn read_chosen<'b>(scope: &Scope<'b, A>, cursor: &mut Cursor<'b, A>) -> Step<Self, A> {
+        reader::read_choice(scope, cursor)
+    }
+
+    fn tell_held<W: Walk<A>>(&self, state: &mut W::State) -> Result<(), AllocError> {
         match self {
-            Said::Line(inner) => inner.visit(visitor),
-            Said::Count(inner) => inner.visit(visitor),
+            Said::Line(inner) => W::item::<LeafItem<String<A>, 0x540071>>(state, inner),
+            Said::Count(inner) => W::item::<LeafItem<i32, 0x540071>>(state, inner),
         }
     }
-}
 
-impl<B: Allocator> Serialize for Said<B> {
-    ghost stated = { written_said };
-
-    #[tactic(auto, unfolding(crate::specs::Chosens::written_said))]
-    fn visit<V: Visitor>(&self, visitor: &mut V) -> Result<(), AllocError> {
-        writing::begin_newtype_variant(visitor, "Override:0x540071", "Transparent")?;
-        self.send(visitor)?;
-        writing::end_newtype_variant(visitor, "Override:0x540071", "Transparent")
-    }
+    ghost plain = { (refl, refl) };
 }
 
 /// The rule that chooses `Said::Line`.
 pub struct SaidLineRule;
 
-impl reader::Rule for SaidLineRule {
+impl Rule for SaidLineRule {
     ghost condition = { codes "type==TextString" };
 
     fn name() -> &'static str {
@@ -154,15 +61,15 @@ impl reader::Rule for SaidLineRule {
     }
 
     #[tactic(auto, unfolding(kmip_ttlv_reader::specs::RuleParts::equal_sides))]
-    fn parts() -> Option<reader::RuleParts> {
-        Some(reader::RuleParts::Type(TtlvType::TextString))
+    fn parts() -> Option<RuleParts> {
+        Some(RuleParts::Type(TtlvType::TextString))
     }
 }
 
-impl<A: Allocator + Copy> reader::VariantOf<reader::ItemElement<Line<A>>, Said<A>, A>
+impl<A: Allocator + Copy> VariantOf<AsElement<LeafItem<String<A>, 0x540071>>, Said<A>, A>
     for SaidLineRule {
-    #[tactic(auto, unfolding(crate::specs::Chosens::read_said))]
-    fn from_content(inner: Line<A>) -> Said<A> {
+    #[tactic(auto, unfolding(crate::specs::Choices::said_by))]
+    fn from_content(inner: String<A>) -> Said<A> {
         Said::Line(inner)
     }
 }
@@ -170,7 +77,7 @@ impl<A: Allocator + Copy> reader::VariantOf<reader::ItemElement<Line<A>>, Said<A
 /// The rule that chooses `Said::Count`.
 pub struct SaidCountRule;
 
-impl reader::Rule for SaidCountRule {
+impl Rule for SaidCountRule {
     ghost condition = { codes "type==Integer" };
 
     fn name() -> &'static str {
@@ -178,52 +85,129 @@ impl reader::Rule for SaidCountRule {
     }
 
     #[tactic(auto, unfolding(kmip_ttlv_reader::specs::RuleParts::equal_sides))]
-    fn parts() -> Option<reader::RuleParts> {
-        Some(reader::RuleParts::Type(TtlvType::Integer))
+    fn parts() -> Option<RuleParts> {
+        Some(RuleParts::Type(TtlvType::Integer))
     }
 }
 
-impl<A: Allocator + Copy> reader::VariantOf<reader::ItemElement<Count>, Said<A>, A>
+impl<A: Allocator + Copy> VariantOf<AsElement<LeafItem<i32, 0x540071>>, Said<A>, A>
     for SaidCountRule {
-    #[tactic(auto, unfolding(crate::specs::Chosens::read_said))]
-    fn from_content(inner: Count) -> Said<A> {
+    #[tactic(auto, unfolding(crate::specs::Choices::said_by))]
+    fn from_content(inner: i32) -> Said<A> {
         Said::Count(inner)
     }
 }
 
-impl<A: Allocator> reader::ChoiceValue for Said<A> {
+impl<A: Allocator + Copy> ChoiceValue for Said<A> {
     ghost own = { codes "said" };
 
-    ghost value = { read_said };
+    ghost value = { ⟦<Said<A> as Choice<A>>⟧.chosen.value };
 }
 
 impl<A: Allocator + Copy> reader::Choice<A> for Said<A> {
-    ghost form = { said_form };
+    ghost form = { ⟦<Said<A> as Choice<A>>⟧.chosen.form };
 
     type Variants = (
-        reader::Variant<SaidLineRule, reader::ItemElement<Line<A>>>,
-        (
-            reader::Variant<SaidCountRule, reader::ItemElement<Count>>,
-            (),
-        ),
+        Case<SaidLineRule, LeafItem<String<A>, 0x540071>>,
+        (Case<SaidCountRule, LeafItem<i32, 0x540071>>, ()),
     );
 
     fn has_form() {}
 }
 
-impl<A: Allocator + Copy> reader::ReadItem<A> for Said<A> {
-    ghost form = { said_form };
+/// The same of what is more.
+#[derive(Drop)]
+#[derive_where(PartialEq)]
+pub enum More<A: Allocator = Global> {
+    /// A text.
+    Line(String<A>),
+    /// A number.
+    Count(i32),
+}
 
-    ghost value = { read_said };
+impl<A: Allocator + Copy> Choice<A> for More<A> {
+    ghost chosen = { more_choice ⟦<More<A> as PartialEq>⟧.eq record {
+      line = held ⟦<LeafItem<String<A>, 0x540073> as Element<A>>⟧.rules refl refl (λ x y e. e);
+      count = held ⟦<LeafItem<i32, 0x540073> as Element<A>>⟧.rules refl refl (λ x y e. e);
+    } };
 
-    ghost plain = { (refl, refl) };
-
-    fn read_item<'b>(
-        scope: &reader::Scope<'b, A>,
-        cursor: &mut reader::Cursor<'b, A>,
-    ) -> reader::Step<Self, A> {
+    fn read_chosen<'b>(scope: &Scope<'b, A>, cursor: &mut Cursor<'b, A>) -> Step<Self, A> {
         reader::read_choice(scope, cursor)
     }
+
+    fn tell_held<W: Walk<A>>(&self, state: &mut W::State) -> Result<(), AllocError> {
+        match self {
+            More::Line(inner) => W::item::<LeafItem<String<A>, 0x540073>>(state, inner),
+            More::Count(inner) => W::item::<LeafItem<i32, 0x540073>>(state, inner),
+        }
+    }
+
+    ghost plain = { (refl, refl) };
+}
+
+/// The rule that chooses `More::Line`.
+pub struct MoreLineRule;
+
+impl Rule for MoreLineRule {
+    ghost condition = { codes "type==TextString" };
+
+    fn name() -> &'static str {
+        "if type==TextString"
+    }
+
+    #[tactic(auto, unfolding(kmip_ttlv_reader::specs::RuleParts::equal_sides))]
+    fn parts() -> Option<RuleParts> {
+        Some(RuleParts::Type(TtlvType::TextString))
+    }
+}
+
+impl<A: Allocator + Copy> VariantOf<AsElement<LeafItem<String<A>, 0x540073>>, More<A>, A>
+    for MoreLineRule {
+    #[tactic(auto, unfolding(crate::specs::Choices::more_by))]
+    fn from_content(inner: String<A>) -> More<A> {
+        More::Line(inner)
+    }
+}
+
+/// The rule that chooses `More::Count`.
+pub struct MoreCountRule;
+
+impl Rule for MoreCountRule {
+    ghost condition = { codes "type==Integer" };
+
+    fn name() -> &'static str {
+        "if type==Integer"
+    }
+
+    #[tactic(auto, unfolding(kmip_ttlv_reader::specs::RuleParts::equal_sides))]
+    fn parts() -> Option<RuleParts> {
+        Some(RuleParts::Type(TtlvType::Integer))
+    }
+}
+
+impl<A: Allocator + Copy> VariantOf<AsElement<LeafItem<i32, 0x540073>>, More<A>, A>
+    for MoreCountRule {
+    #[tactic(auto, unfolding(crate::specs::Choices::more_by))]
+    fn from_content(inner: i32) -> More<A> {
+        More::Count(inner)
+    }
+}
+
+impl<A: Allocator + Copy> ChoiceValue for More<A> {
+    ghost own = { codes "more" };
+
+    ghost value = { ⟦<More<A> as Choice<A>>⟧.chosen.value };
+}
+
+impl<A: Allocator + Copy> reader::Choice<A> for More<A> {
+    ghost form = { ⟦<More<A> as Choice<A>>⟧.chosen.form };
+
+    type Variants = (
+        Case<MoreLineRule, LeafItem<String<A>, 0x540073>>,
+        (Case<MoreCountRule, LeafItem<i32, 0x540073>>, ()),
+    );
+
+    fn has_form() {}
 }
 
 /// A text or a number, by a word.
@@ -231,23 +215,9 @@ impl<A: Allocator + Copy> reader::ReadItem<A> for Said<A> {
 #[derive_where(PartialEq)]
 pub enum Named<A: Allocator = Global> {
     /// A text.
-    Line(Line<A>),
+    Line(String<A>),
     /// A number.
-    Count(Count),
-}
-
-impl<A: Allocator> Named<A> {
-    // Sends what it holds.
-    #[tactic(auto, unfolding(crate::specs::Chosens::named_content))]
-    pub(crate) fn send<V: Visitor>(&self, visitor: &mut V) -> Result<(), AllocError>
-        ensures received { OnOk result (Receives V.knows V.step (named_content self.now) visitor.old visitor.new) }
-        ensures stopped { OnErr result (V.stopped visitor.new) }
-    {
-        match self {
-            Named::Line(inner) => inner.visit(visitor),
-            Named::Count(inner) => inner.visit(visitor),
-        }
-    }
+    Count(i32),
 }
 
 impl<A: Allocator> Named<A> {
@@ -262,21 +232,30 @@ impl<A: Allocator> Named<A> {
     }
 }
 
-impl<B: Allocator> Serialize for Named<B> {
-    ghost stated = { written_named };
+impl<A: Allocator + Copy> Choice<A> for Named<A> {
+    ghost chosen = { named_choice ⟦<Named<A> as PartialEq>⟧.eq record {
+      line = held ⟦<LeafItem<String<A>, 0x540072> as Element<A>>⟧.rules refl refl (λ x y e. e);
+      count = held ⟦<LeafItem<i32, 0x540072> as Element<A>>⟧.rules refl refl (λ x y e. e);
+    } };
 
-    #[tactic(auto, unfolding(crate::specs::Chosens::written_named))]
-    fn visit<V: Visitor>(&self, visitor: &mut V) -> Result<(), AllocError> {
-        writing::begin_newtype_variant(visitor, "Override:0x540072", "Transparent")?;
-        self.send(visitor)?;
-        writing::end_newtype_variant(visitor, "Override:0x540072", "Transparent")
+    fn read_chosen<'b>(scope: &Scope<'b, A>, cursor: &mut Cursor<'b, A>) -> Step<Self, A> {
+        reader::read_choice(scope, cursor)
     }
+
+    fn tell_held<W: Walk<A>>(&self, state: &mut W::State) -> Result<(), AllocError> {
+        match self {
+            Named::Line(inner) => W::item::<LeafItem<String<A>, 0x540072>>(state, inner),
+            Named::Count(inner) => W::item::<LeafItem<i32, 0x540072>>(state, inner),
+        }
+    }
+
+    ghost plain = { (refl, refl) };
 }
 
 /// The rule that chooses `Named::Line`.
 pub struct NamedLineRule;
 
-impl reader::Rule for NamedLineRule {
+impl Rule for NamedLineRule {
     ghost condition = { codes "0x540070 in [Label, Address]" };
 
     fn name() -> &'static str {
@@ -284,18 +263,15 @@ impl reader::Rule for NamedLineRule {
     }
 
     #[tactic(auto, unfolding(kmip_ttlv_reader::specs::RuleParts::parts_of))]
-    fn parts() -> Option<reader::RuleParts> {
-        Some(reader::RuleParts::Texts {
-            tag: 0x540070,
-            texts: &["Label", "Address"],
-        })
+    fn parts() -> Option<RuleParts> {
+        texts_in(0x540070, &["Label", "Address"])
     }
 }
 
-impl<A: Allocator + Copy> reader::VariantOf<reader::ItemElement<Line<A>>, Named<A>, A>
+impl<A: Allocator + Copy> VariantOf<AsElement<LeafItem<String<A>, 0x540072>>, Named<A>, A>
     for NamedLineRule {
-    #[tactic(auto, unfolding(crate::specs::Chosens::read_named))]
-    fn from_content(inner: Line<A>) -> Named<A> {
+    #[tactic(auto, unfolding(crate::specs::Choices::named_by))]
+    fn from_content(inner: String<A>) -> Named<A> {
         Named::Line(inner)
     }
 }
@@ -303,7 +279,7 @@ impl<A: Allocator + Copy> reader::VariantOf<reader::ItemElement<Line<A>>, Named<
 /// The rule that chooses `Named::Count`.
 pub struct NamedCountRule;
 
-impl reader::Rule for NamedCountRule {
+impl Rule for NamedCountRule {
     ghost condition = { codes "0x540070==Number" };
 
     fn name() -> &'static str {
@@ -311,242 +287,34 @@ impl reader::Rule for NamedCountRule {
     }
 
     #[tactic(auto, unfolding(kmip_ttlv_reader::specs::RuleParts::parts_of))]
-    fn parts() -> Option<reader::RuleParts> {
-        Some(reader::RuleParts::Texts {
-            tag: 0x540070,
-            texts: &["Number"],
-        })
+    fn parts() -> Option<RuleParts> {
+        texts_in(0x540070, &["Number"])
     }
 }
 
-impl<A: Allocator + Copy> reader::VariantOf<reader::ItemElement<Count>, Named<A>, A>
+impl<A: Allocator + Copy> VariantOf<AsElement<LeafItem<i32, 0x540072>>, Named<A>, A>
     for NamedCountRule {
-    #[tactic(auto, unfolding(crate::specs::Chosens::read_named))]
-    fn from_content(inner: Count) -> Named<A> {
+    #[tactic(auto, unfolding(crate::specs::Choices::named_by))]
+    fn from_content(inner: i32) -> Named<A> {
         Named::Count(inner)
     }
 }
 
-impl<A: Allocator> reader::ChoiceValue for Named<A> {
+impl<A: Allocator + Copy> ChoiceValue for Named<A> {
     ghost own = { codes "named" };
 
-    ghost value = { read_named };
+    ghost value = { ⟦<Named<A> as Choice<A>>⟧.chosen.value };
 }
 
 impl<A: Allocator + Copy> reader::Choice<A> for Named<A> {
-    ghost form = { named_form };
+    ghost form = { ⟦<Named<A> as Choice<A>>⟧.chosen.form };
 
     type Variants = (
-        reader::Variant<NamedLineRule, reader::ItemElement<Line<A>>>,
-        (
-            reader::Variant<NamedCountRule, reader::ItemElement<Count>>,
-            (),
-        ),
+        Case<NamedLineRule, LeafItem<String<A>, 0x540072>>,
+        (Case<NamedCountRule, LeafItem<i32, 0x540072>>, ()),
     );
 
     fn has_form() {}
-}
-
-impl<A: Allocator + Copy> reader::ReadItem<A> for Named<A> {
-    ghost form = { named_form };
-
-    ghost value = { read_named };
-
-    ghost plain = { (refl, refl) };
-
-    fn read_item<'b>(
-        scope: &reader::Scope<'b, A>,
-        cursor: &mut reader::Cursor<'b, A>,
-    ) -> reader::Step<Self, A> {
-        reader::read_choice(scope, cursor)
-    }
-}
-
-/// A label.
-#[derive(Drop)]
-#[derive_where(PartialEq)]
-pub struct Label<A: Allocator = Global> {
-    /// What it holds.
-    pub text: String<A>,
-}
-
-impl<B: Allocator> Serialize for Label<B> {
-    ghost stated = { label_value };
-
-    fn visit<V: Visitor>(&self, visitor: &mut V) -> Result<(), AllocError> {
-        writing::string(visitor, 0x540073, &self.text)
-    }
-}
-
-impl<A: Allocator + Copy> reader::ReadItem<A> for Label<A> {
-    ghost form = { label_form };
-
-    ghost value = { label_value };
-
-    ghost plain = { (refl, refl) };
-
-    fn read_item<'b>(
-        scope: &reader::Scope<'b, A>,
-        cursor: &mut reader::Cursor<'b, A>,
-    ) -> reader::Step<Self, A> {
-        let text = cursor.wrapped_leaf(scope, 0x540073)?;
-        Ok(Label { text })
-    }
-}
-
-/// An address.
-#[derive(Drop)]
-#[derive_where(PartialEq)]
-pub struct Address<A: Allocator = Global> {
-    /// What it holds.
-    pub text: String<A>,
-}
-
-impl<B: Allocator> Serialize for Address<B> {
-    ghost stated = { address_value };
-
-    fn visit<V: Visitor>(&self, visitor: &mut V) -> Result<(), AllocError> {
-        writing::string(visitor, 0x540073, &self.text)
-    }
-}
-
-impl<A: Allocator + Copy> reader::ReadItem<A> for Address<A> {
-    ghost form = { address_form };
-
-    ghost value = { address_value };
-
-    ghost plain = { (refl, refl) };
-
-    fn read_item<'b>(
-        scope: &reader::Scope<'b, A>,
-        cursor: &mut reader::Cursor<'b, A>,
-    ) -> reader::Step<Self, A> {
-        let text = cursor.wrapped_leaf(scope, 0x540073)?;
-        Ok(Address { text })
-    }
-}
-
-/// A label or an address, by a word.
-#[derive(Drop)]
-#[derive_where(PartialEq)]
-pub enum Place<A: Allocator = Global> {
-    /// A label.
-    Label(Label<A>),
-    /// An address.
-    Address(Address<A>),
-}
-
-impl<A: Allocator> Place<A> {
-    /// Whether this text, if it is that of 0x540070, chooses it.
-    pub fn is_chosen_by(&self, text: &str) -> bool
-        ensures { IsTrue result ↔ ChoosesPlace text.now self.now }
-    {
-        match self {
-            Place::Label(_) => text == "Label",
-            Place::Address(_) => text == "Address",
-        }
-    }
-}
-
-impl<B: Allocator> Serialize for Place<B> {
-    ghost stated = { written_place };
-
-    #[tactic(auto, unfolding(crate::specs::Chosens::written_place))]
-    fn visit<V: Visitor>(&self, visitor: &mut V) -> Result<(), AllocError> {
-        match self {
-            Place::Label(inner) => inner.visit(visitor),
-            Place::Address(inner) => inner.visit(visitor),
-        }
-    }
-}
-
-/// The rule that chooses `Place::Label`.
-pub struct PlaceLabelRule;
-
-impl reader::Rule for PlaceLabelRule {
-    ghost condition = { codes "0x540070==Label" };
-
-    fn name() -> &'static str {
-        "if 0x540070==Label"
-    }
-
-    #[tactic(auto, unfolding(kmip_ttlv_reader::specs::RuleParts::parts_of))]
-    fn parts() -> Option<reader::RuleParts> {
-        Some(reader::RuleParts::Texts {
-            tag: 0x540070,
-            texts: &["Label"],
-        })
-    }
-}
-
-impl<A: Allocator + Copy> reader::VariantOf<reader::ItemElement<Label<A>>, Place<A>, A>
-    for PlaceLabelRule {
-    #[tactic(auto, unfolding(crate::specs::Chosens::read_place))]
-    fn from_content(inner: Label<A>) -> Place<A> {
-        Place::Label(inner)
-    }
-}
-
-/// The rule that chooses `Place::Address`.
-pub struct PlaceAddressRule;
-
-impl reader::Rule for PlaceAddressRule {
-    ghost condition = { codes "0x540070==Address" };
-
-    fn name() -> &'static str {
-        "if 0x540070==Address"
-    }
-
-    #[tactic(auto, unfolding(kmip_ttlv_reader::specs::RuleParts::parts_of))]
-    fn parts() -> Option<reader::RuleParts> {
-        Some(reader::RuleParts::Texts {
-            tag: 0x540070,
-            texts: &["Address"],
-        })
-    }
-}
-
-impl<A: Allocator + Copy> reader::VariantOf<reader::ItemElement<Address<A>>, Place<A>, A>
-    for PlaceAddressRule {
-    #[tactic(auto, unfolding(crate::specs::Chosens::read_place))]
-    fn from_content(inner: Address<A>) -> Place<A> {
-        Place::Address(inner)
-    }
-}
-
-impl<A: Allocator> reader::ChoiceValue for Place<A> {
-    ghost own = { codes "place" };
-
-    ghost value = { read_place };
-}
-
-impl<A: Allocator + Copy> reader::Choice<A> for Place<A> {
-    ghost form = { place_form };
-
-    type Variants = (
-        reader::Variant<PlaceLabelRule, reader::ItemElement<Label<A>>>,
-        (
-            reader::Variant<PlaceAddressRule, reader::ItemElement<Address<A>>>,
-            (),
-        ),
-    );
-
-    fn has_form() {}
-}
-
-impl<A: Allocator + Copy> reader::ReadItem<A> for Place<A> {
-    ghost form = { place_form };
-
-    ghost value = { read_place };
-
-    ghost plain = { (refl, refl) };
-
-    fn read_item<'b>(
-        scope: &reader::Scope<'b, A>,
-        cursor: &mut reader::Cursor<'b, A>,
-    ) -> reader::Step<Self, A> {
-        reader::read_choice(scope, cursor)
-    }
 }
 
 /// A word, and what it chooses, behind another choice.
@@ -554,82 +322,94 @@ impl<A: Allocator + Copy> reader::ReadItem<A> for Place<A> {
 #[derive_where(PartialEq)]
 pub struct Chosen<A: Allocator = Global> {
     /// What chooses.
-    pub word: Word<A>,
+    pub word: String<A>,
     /// A text or a number.
     pub said: Said<A>,
     /// What the word chooses.
     pub named: Option<Named<A>>,
     /// A text or a number more.
-    pub more: Option<Said<A>>,
-    /// What the word chooses too.
-    pub places: Vec<Place<A>, A>,
+    pub more: Option<More<A>>,
 }
 
-impl<B: Allocator> Serialize for Chosen<B> {
-    ghost stated = { written_chosen };
+impl<A: Allocator> Decided for Chosen<A> {
+    ghost IsDecided = { λ x. IfSome x.named (λ y. ChoosesNamed (string_bytes x.word) y) };
 
-    fn visit<V: Visitor>(&self, visitor: &mut V) -> Result<(), AllocError> {
-        writing::begin_structure(visitor, 0x540074)?;
-        self.word.visit(visitor)?;
-        self.said.visit(visitor)?;
-        writing::option(visitor, &self.named)?;
-        writing::option(visitor, &self.more)?;
-        writing::several(visitor, &self.places)?;
-        writing::end_structure(visitor, 0x540074)?;
-        Ok(())
+    fn is_decided(&self) -> bool {
+        match &self.named {
+            Some(inner) => inner.is_chosen_by(self.word.as_str()),
+            None => true,
+        }
     }
 }
 
-impl<A: Allocator + Copy> reader::ReadStructure<A> for Chosen<A> {
-    ghost form = { chosen_form };
+type ChosenParts<A> = (
+    Leaf<String<A>, 0x540070>,
+    OneOf<Said<A>, 0x540071>,
+    MaybeOneOf<Named<A>, 0x540072>,
+    MaybeOneOf<More<A>, 0x540073>,
+);
 
-    ghost value = { read_chosen };
+impl<A: Allocator + Copy> FromParts<A, ChosenParts<A>> for Chosen<A> {
+    ghost parts = { λ x. (x.word, x.said, x.named, x.more) };
 
-    ghost TAG = { 0x540074 };
-
-    ghost DENIES_UNKNOWN = { false };
-
-    type Fields = reader::Four<
-        reader::Item<Word<A>, 0x540070>,
-        reader::Item<Said<A>, 0x540071>,
-        reader::OptionalItem<Named<A>, 0x540072>,
-        reader::OptionalItem<Said<A>, 0x540071>,
-        (reader::OptionalSeveralItems<Place<A>, 0x540073>,),
-    >;
-
-    const TAG: u32 = 0x540074;
-
-    const DENIES_UNKNOWN: bool = false;
-
-    fn has_form() {}
-
-    #[tactic(auto, unfolding(crate::specs::Chosens::read_chosen))]
-    fn from_fields(
-        fields: (
-            Word<A>,
-            Said<A>,
-            Option<Named<A>>,
-            Option<Said<A>>,
-            (Vec<Place<A>, A>,),
-        ),
-    ) -> Self {
-        let (word, said, named, more, (places,)) = fields;
+    fn from_parts((word, said, named, more): Holds<ChosenParts<A>, A>) -> Self {
         Chosen {
             word,
             said,
             named,
             more,
-            places,
         }
     }
 }
 
+impl<A: Allocator + Copy> Structure<A> for Chosen<A> {
+    ghost rules = { structure_where false ⟦<ChosenParts<A> as PartList<A>>⟧.rules ⟦<Chosen<A> as FromParts<A, ChosenParts<A>>>⟧.parts refl
+        (λ x. IfSome x.named (λ y. ChoosesNamed (string_bytes x.word) y)) (λ x d. (tt, (tt, (d, (all_enough x.more (λ y. tt)))))) ⟦<Chosen<A> as PartialEq>⟧.eq (λ x y e. e) };
+
+    fn read<'b>(scope: &Scope<'b, A>, tag: u32, cursor: &mut Cursor<'b, A>) -> Step<Self, A> {
+        read_structure::<ChosenParts<A>, Self, A>(scope, tag, false, cursor)
+    }
+
+    fn tell_parts<W: Walk<A>>(&self, state: &mut W::State) -> Result<(), AllocError> {
+        W::four::<
+            Leaf<String<A>, 0x540070>,
+            OneOf<Said<A>, 0x540071>,
+            MaybeOneOf<Named<A>, 0x540072>,
+            MaybeOneOf<More<A>, 0x540073>,
+        >(state, &self.word, &self.said, &self.named, &self.more)?;
+        W::check(state, self);
+        Ok(())
+    }
+}
+
+impl<A: Allocator + Copy> Serialize for Chosen<A> {
+    ghost stated = { ⟦<Of<Chosen<A>, 0x540074> as Element<A>>⟧.rules.written };
+
+    fn visit<V: Visitor>(&self, visitor: &mut V) -> Result<(), AllocError> {
+        visit_structure(self, 0x540074, visitor)
+    }
+}
+
 impl<A: Allocator + Copy> Decode<A> for Chosen<A> {
-    ghost form = { chosen_form };
+    ghost form = { ⟦<Of<Chosen<A>, 0x540074> as Element<A>>⟧.form };
 
-    ghost is_value = { λ v x. v ≡ read_chosen x };
+    ghost is_value = { λ v x. v ≡ ⟦<Of<Chosen<A>, 0x540074> as Element<A>>⟧.value x };
 
-    fn decode(alloc: A, bytes: &[u8]) -> Result<Self, error::Error<A>> {
-        reader::read_message(alloc, bytes)
+    fn decode(alloc: A, bytes: &[u8]) -> Result<Self, Error<A>> {
+        decode_structure::<ChosenParts<A>, Self, A>(alloc, 0x540074, false, bytes)
+    }
+}
+
+impl<A: Allocator + Copy> Sound for Chosen<A> {
+    ghost IsSound = { ⟦<Of<Chosen<A>, 0x540074> as Element<A>>⟧.rules.IsSound };
+
+    fn is_sound(&self) -> bool {
+        is_structure_whole(self)
+    }
+}
+
+impl<A: Allocator + Copy> Message<A> for Chosen<A> {
+    fn comes_back() {
+        structures_come_back::<Chosen<A>, 0x540074, A>();
     }
 }

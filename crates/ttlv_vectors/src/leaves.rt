@@ -1,13 +1,20 @@
 // Written by codegen from types.table: change that, and run codegen/codegen.
 //! Leaves of every kind.
 
-ghost use Rattle.std.specs.Prelude.{◌≡◌, refl, codes, false};
-ghost use Rattle.ttlv_vectors.specs.Leaves.{numbers_form, numbers_value, moments_form, moments_value, contents_form, contents_value, optional_contents_form, written_optional_contents, read_optional_contents, kind_form, kind_value, kind_number, kind_variants};
+ghost use Rattle.std.specs.Prelude.{false, refl};
+ghost use denote.Enum.Bare.{true_same};
+ghost use Rattle.kmip_ttlv_parts.specs.Digits.{tag_text};
+ghost use Rattle.kmip_ttlv_parts.specs.Values.{unit_variant_value};
+ghost use Rattle.kmip_ttlv_kinds.specs.Parts.{structure};
+ghost use Rattle.ttlv_vectors.specs.Listed.{kind_is_unit, kind_number, kind_same, kind_variants};
+ghost use Rattle.ttlv_vectors.specs.contracts.leaves.Kind as kind_contract;
 
-use kmip_ttlv::messages::writing;
-use kmip_ttlv::reader;
-use kmip_ttlv::shape::Serialize;
-use kmip_ttlv::visit::{Leaf, Visitor};
+use kmip_ttlv_kinds::{
+    Alone, BigNumber, Four, FromParts, Holds, Leaf, Listed, MaybeLeaf, PartList, Structure, Walk,
+    read_structure,
+};
+use kmip_ttlv_parts::reader;
+use kmip_ttlv_parts::reader::{Cursor, DateTime, Interval, Scope, Step};
 use std::alloc::{AllocError, Allocator, Global};
 
 /// Numbers with a sign.
@@ -19,58 +26,25 @@ pub struct Numbers {
     pub long: i64,
 }
 
-impl Serialize for Numbers {
-    ghost stated = { numbers_value };
+type NumbersParts = (Leaf<i32, 0x540002>, Leaf<i64, 0x540003>);
 
-    fn visit<V: Visitor>(&self, visitor: &mut V) -> Result<(), AllocError> {
-        writing::begin_structure(visitor, 0x540001)?;
-        writing::tagged(visitor, 0x540002, Leaf::I32(self.count))?;
-        writing::tagged(visitor, 0x540003, Leaf::I64(self.long))?;
-        writing::end_structure(visitor, 0x540001)?;
-        Ok(())
-    }
-}
+impl<A: Allocator + Copy> FromParts<A, NumbersParts> for Numbers {
+    ghost parts = { λ x. (x.count, x.long) };
 
-impl<A: Allocator + Copy> reader::ReadStructure<A> for Numbers {
-    ghost form = { numbers_form };
-
-    ghost value = { numbers_value };
-
-    ghost TAG = { 0x540001 };
-
-    ghost DENIES_UNKNOWN = { false };
-
-    type Fields = (reader::Leaf<i32, 0x540002>, reader::Leaf<i64, 0x540003>);
-
-    const TAG: u32 = 0x540001;
-
-    const DENIES_UNKNOWN: bool = false;
-
-    fn has_form() {}
-
-    #[tactic(auto, unfolding(crate::specs::Leaves::numbers_value))]
-    fn from_fields(fields: (i32, i64)) -> Self {
-        let (count, long) = fields;
+    fn from_parts((count, long): Holds<NumbersParts, A>) -> Self {
         Numbers { count, long }
     }
 }
 
-impl<A: Allocator + Copy> reader::ReadNested<A> for Numbers {
-    ghost form = { numbers_form };
+impl<A: Allocator + Copy> Structure<A> for Numbers {
+    ghost rules = { structure false ⟦<NumbersParts as PartList<A>>⟧.rules ⟦<Numbers as FromParts<A, NumbersParts>>⟧.parts refl ⟦<Numbers as PartialEq>⟧.eq (λ x y e. e) };
 
-    ghost value = { numbers_value };
+    fn read<'b>(scope: &Scope<'b, A>, tag: u32, cursor: &mut Cursor<'b, A>) -> Step<Self, A> {
+        read_structure::<NumbersParts, Self, A>(scope, tag, false, cursor)
+    }
 
-    ghost TAG = { 0x540001 };
-
-    ghost structured = { (refl, refl) };
-
-    const TAG: u32 = 0x540001;
-
-    fn read_nested<'b>(
-        scope: &reader::Scope<'b, A>,
-        cursor: &mut reader::Cursor<'b, A>,
-    ) -> reader::Step<Self, A> {
-        reader::read_structure(scope, cursor)
+    fn tell_parts<W: Walk<A>>(&self, state: &mut W::State) -> Result<(), AllocError> {
+        W::two::<Leaf<i32, 0x540002>, Leaf<i64, 0x540003>>(state, &self.count, &self.long)
     }
 }
 
@@ -78,74 +52,45 @@ impl<A: Allocator + Copy> reader::ReadNested<A> for Numbers {
 #[derive(Clone, Copy, PartialEq, Eq)]
 pub struct Moments {
     /// A date, in seconds since 1970.
-    pub date: i64,
+    pub date: DateTime,
     /// Truth.
     pub truth: bool,
     /// A time, in seconds.
-    pub seconds: u32,
+    pub seconds: Interval,
 }
 
-impl Serialize for Moments {
-    ghost stated = { moments_value };
+type MomentsParts = (
+    Leaf<DateTime, 0x540004>,
+    Leaf<bool, 0x540005>,
+    Leaf<Interval, 0x540006>,
+);
 
-    fn visit<V: Visitor>(&self, visitor: &mut V) -> Result<(), AllocError> {
-        writing::begin_structure(visitor, 0x540009)?;
-        writing::tagged(visitor, 0x540004, Leaf::DateTime(self.date))?;
-        writing::tagged(visitor, 0x540005, Leaf::Bool(self.truth))?;
-        writing::tagged(visitor, 0x540006, Leaf::Interval(self.seconds))?;
-        writing::end_structure(visitor, 0x540009)?;
-        Ok(())
-    }
-}
+impl<A: Allocator + Copy> FromParts<A, MomentsParts> for Moments {
+    ghost parts = { λ x. (x.date, x.truth, x.seconds) };
 
-impl<A: Allocator + Copy> reader::ReadStructure<A> for Moments {
-    ghost form = { moments_form };
-
-    ghost value = { moments_value };
-
-    ghost TAG = { 0x540009 };
-
-    ghost DENIES_UNKNOWN = { false };
-
-    type Fields = (
-        reader::Leaf<reader::DateTime, 0x540004>,
-        reader::Leaf<bool, 0x540005>,
-        reader::Leaf<reader::Interval, 0x540006>,
-    );
-
-    const TAG: u32 = 0x540009;
-
-    const DENIES_UNKNOWN: bool = false;
-
-    fn has_form() {}
-
-    #[tactic(auto, unfolding(crate::specs::Leaves::moments_value))]
-    fn from_fields(fields: (reader::DateTime, bool, reader::Interval)) -> Self {
-        let (date, truth, seconds) = fields;
+    fn from_parts((date, truth, seconds): Holds<MomentsParts, A>) -> Self {
         Moments {
-            date: date.0,
+            date,
             truth,
-            seconds: seconds.0,
+            seconds,
         }
     }
 }
 
-impl<A: Allocator + Copy> reader::ReadNested<A> for Moments {
-    ghost form = { moments_form };
+impl<A: Allocator + Copy> Structure<A> for Moments {
+    ghost rules = { structure false ⟦<MomentsParts as PartList<A>>⟧.rules ⟦<Moments as FromParts<A, MomentsParts>>⟧.parts refl ⟦<Moments as PartialEq>⟧.eq (λ x y e. e) };
 
-    ghost value = { moments_value };
+    fn read<'b>(scope: &Scope<'b, A>, tag: u32, cursor: &mut Cursor<'b, A>) -> Step<Self, A> {
+        read_structure::<MomentsParts, Self, A>(scope, tag, false, cursor)
+    }
 
-    ghost TAG = { 0x540009 };
-
-    ghost structured = { (refl, refl) };
-
-    const TAG: u32 = 0x540009;
-
-    fn read_nested<'b>(
-        scope: &reader::Scope<'b, A>,
-        cursor: &mut reader::Cursor<'b, A>,
-    ) -> reader::Step<Self, A> {
-        reader::read_structure(scope, cursor)
+    fn tell_parts<W: Walk<A>>(&self, state: &mut W::State) -> Result<(), AllocError> {
+        W::three::<Leaf<DateTime, 0x540004>, Leaf<bool, 0x540005>, Leaf<Interval, 0x540006>>(
+            state,
+            &self.date,
+            &self.truth,
+            &self.seconds,
+        )
     }
 }
 
@@ -158,70 +103,36 @@ pub struct Contents<A: Allocator = Global> {
     /// Bytes.
     pub bytes: Vec<u8, A>,
     /// A large number, its highest byte first.
-    pub big: Vec<u8, A>,
+    pub big: BigNumber<A>,
 }
 
-impl<B: Allocator> Serialize for Contents<B> {
-    ghost stated = { contents_value };
+type ContentsParts<A> = (
+    Leaf<String<A>, 0x540021>,
+    Leaf<Vec<u8, A>, 0x540022>,
+    Leaf<BigNumber<A>, 0x540023>,
+);
 
-    fn visit<V: Visitor>(&self, visitor: &mut V) -> Result<(), AllocError> {
-        writing::begin_structure(visitor, 0x540020)?;
-        writing::string(visitor, 0x540021, &self.text)?;
-        writing::bytes(visitor, 0x540022, &self.bytes)?;
-        writing::big_integer_bytes(visitor, 0x540023, &self.big)?;
-        writing::end_structure(visitor, 0x540020)?;
-        Ok(())
+impl<A: Allocator + Copy> FromParts<A, ContentsParts<A>> for Contents<A> {
+    ghost parts = { λ x. (x.text, x.bytes, x.big) };
+
+    fn from_parts((text, bytes, big): Holds<ContentsParts<A>, A>) -> Self {
+        Contents { text, bytes, big }
     }
 }
 
-impl<A: Allocator + Copy> reader::ReadStructure<A> for Contents<A> {
-    ghost form = { contents_form };
+impl<A: Allocator + Copy> Structure<A> for Contents<A> {
+    ghost rules = { structure false ⟦<ContentsParts<A> as PartList<A>>⟧.rules ⟦<Contents<A> as FromParts<A, ContentsParts<A>>>⟧.parts refl ⟦<Contents<A> as PartialEq>⟧.eq (λ x y e. e) };
 
-    ghost value = { contents_value };
-
-    ghost TAG = { 0x540020 };
-
-    ghost DENIES_UNKNOWN = { false };
-
-    type Fields = (
-        reader::Leaf<String<A>, 0x540021>,
-        reader::Leaf<Vec<u8, A>, 0x540022>,
-        reader::Leaf<reader::BigInteger<A>, 0x540023>,
-    );
-
-    const TAG: u32 = 0x540020;
-
-    const DENIES_UNKNOWN: bool = false;
-
-    fn has_form() {}
-
-    #[tactic(auto, unfolding(crate::specs::Leaves::contents_value))]
-    fn from_fields(fields: (String<A>, Vec<u8, A>, reader::BigInteger<A>)) -> Self {
-        let (text, bytes, big) = fields;
-        Contents {
-            text,
-            bytes,
-            big: big.0,
-        }
+    fn read<'b>(scope: &Scope<'b, A>, tag: u32, cursor: &mut Cursor<'b, A>) -> Step<Self, A> {
+        read_structure::<ContentsParts<A>, Self, A>(scope, tag, false, cursor)
     }
-}
 
-impl<A: Allocator + Copy> reader::ReadNested<A> for Contents<A> {
-    ghost form = { contents_form };
-
-    ghost value = { contents_value };
-
-    ghost TAG = { 0x540020 };
-
-    ghost structured = { (refl, refl) };
-
-    const TAG: u32 = 0x540020;
-
-    fn read_nested<'b>(
-        scope: &reader::Scope<'b, A>,
-        cursor: &mut reader::Cursor<'b, A>,
-    ) -> reader::Step<Self, A> {
-        reader::read_structure(scope, cursor)
+    fn tell_parts<W: Walk<A>>(&self, state: &mut W::State) -> Result<(), AllocError> {
+        W::three::<
+            Leaf<String<A>, 0x540021>,
+            Leaf<Vec<u8, A>, 0x540022>,
+            Leaf<BigNumber<A>, 0x540023>,
+        >(state, &self.text, &self.bytes, &self.big)
     }
 }
 
@@ -232,96 +143,56 @@ pub struct OptionalContents<A: Allocator = Global> {
     /// Truth.
     pub truth: Option<bool>,
     /// A time, in seconds.
-    pub seconds: Option<u32>,
+    pub seconds: Option<Interval>,
     /// A text.
     pub text: Option<String<A>>,
     /// Bytes.
     pub bytes: Option<Vec<u8, A>>,
     /// A large number, its highest byte first.
-    pub big: Option<Vec<u8, A>>,
+    pub big: Option<BigNumber<A>>,
 }
 
-impl<B: Allocator> Serialize for OptionalContents<B> {
-    ghost stated = { written_optional_contents };
+type OptionalContentsFirst<A> = (
+    MaybeLeaf<bool, 0x540005>,
+    MaybeLeaf<Interval, 0x540006>,
+    MaybeLeaf<String<A>, 0x540021>,
+    MaybeLeaf<Vec<u8, A>, 0x540022>,
+);
 
-    fn visit<V: Visitor>(&self, visitor: &mut V) -> Result<(), AllocError> {
-        writing::begin_structure(visitor, 0x540030)?;
-        writing::optional_boolean(visitor, 0x540005, &self.truth)?;
-        writing::optional_interval(visitor, 0x540006, &self.seconds)?;
-        writing::optional_text_string(visitor, 0x540021, &self.text)?;
-        writing::optional_byte_string(visitor, 0x540022, &self.bytes)?;
-        writing::optional_big_integer(visitor, 0x540023, &self.big)?;
-        writing::end_structure(visitor, 0x540030)?;
-        Ok(())
-    }
-}
+type OptionalContentsSecond<A> = Alone<MaybeLeaf<BigNumber<A>, 0x540023>>;
 
-impl<A: Allocator + Copy> reader::ReadStructure<A> for OptionalContents<A> {
-    ghost form = { optional_contents_form };
+type OptionalContentsParts<A> = Four<OptionalContentsFirst<A>, OptionalContentsSecond<A>>;
 
-    ghost value = { read_optional_contents };
+impl<A: Allocator + Copy> FromParts<A, OptionalContentsParts<A>> for OptionalContents<A> {
+    ghost parts = { λ x. (x.truth, x.seconds, x.text, x.bytes, x.big) };
 
-    ghost TAG = { 0x540030 };
-
-    ghost DENIES_UNKNOWN = { false };
-
-    type Fields = reader::Four<
-        reader::OptionalLeaf<bool, 0x540005>,
-        reader::OptionalLeaf<reader::Interval, 0x540006>,
-        reader::OptionalLeaf<String<A>, 0x540021>,
-        reader::OptionalLeaf<Vec<u8, A>, 0x540022>,
-        (reader::OptionalLeaf<reader::BigInteger<A>, 0x540023>,),
-    >;
-
-    const TAG: u32 = 0x540030;
-
-    const DENIES_UNKNOWN: bool = false;
-
-    fn has_form() {}
-
-    #[tactic(auto, unfolding(crate::specs::Leaves::read_optional_contents))]
-    fn from_fields(
-        fields: (
-            Option<bool>,
-            Option<reader::Interval>,
-            Option<String<A>>,
-            Option<Vec<u8, A>>,
-            (Option<reader::BigInteger<A>>,),
-        ),
-    ) -> Self {
-        let (truth, seconds, text, bytes, (big,)) = fields;
+    fn from_parts((truth, seconds, text, bytes, big): Holds<OptionalContentsParts<A>, A>) -> Self {
         OptionalContents {
             truth,
-            seconds: match seconds {
-                Some(inner) => Some(inner.0),
-                None => None
-            },
+            seconds,
             text,
             bytes,
-            big: match big {
-                Some(inner) => Some(inner.0),
-                None => None
-            },
+            big,
         }
     }
 }
 
-impl<A: Allocator + Copy> reader::ReadNested<A> for OptionalContents<A> {
-    ghost form = { optional_contents_form };
+impl<A: Allocator + Copy> Structure<A> for OptionalContents<A> {
+    ghost rules = { structure false ⟦<OptionalContentsParts<A> as PartList<A>>⟧.rules ⟦<OptionalContents<A> as FromParts<A, OptionalContentsParts<A>>>⟧.parts refl ⟦<OptionalContents<A> as PartialEq>⟧.eq (λ x y e. e) };
 
-    ghost value = { read_optional_contents };
+    fn read<'b>(scope: &Scope<'b, A>, tag: u32, cursor: &mut Cursor<'b, A>) -> Step<Self, A> {
+        read_structure::<OptionalContentsParts<A>, Self, A>(scope, tag, false, cursor)
+    }
 
-    ghost TAG = { 0x540030 };
-
-    ghost structured = { (refl, refl) };
-
-    const TAG: u32 = 0x540030;
-
-    fn read_nested<'b>(
-        scope: &reader::Scope<'b, A>,
-        cursor: &mut reader::Cursor<'b, A>,
-    ) -> reader::Step<Self, A> {
-        reader::read_structure(scope, cursor)
+    fn tell_parts<W: Walk<A>>(&self, state: &mut W::State) -> Result<(), AllocError> {
+        W::four::<
+            MaybeLeaf<bool, 0x540005>,
+            MaybeLeaf<Interval, 0x540006>,
+            MaybeLeaf<String<A>, 0x540021>,
+            MaybeLeaf<Vec<u8, A>, 0x540022>,
+        >(state, &self.truth, &self.seconds, &self.text, &self.bytes)?;
+        W::one::<MaybeLeaf<BigNumber<A>, 0x540023>>(state, &self.big)?;
+        Ok(())
     }
 }
 
@@ -337,11 +208,43 @@ pub enum Kind {
 // Each number, and what it stands for.
 const KIND: [(&str, Kind); 2] = [("0x00000001", Kind::First), ("0x00000002", Kind::Second)];
 
-impl Kind {
-    /// Its number, as rules see it: `0x` and eight digits.
-    pub fn number(self) -> &'static str
-        ensures { result.now ≡ kind_number self }
-    {
+impl reader::Listed for Kind {
+    ghost own = { tag_text 0x540040 };
+
+    ghost variants = { kind_variants };
+
+    ghost value = { λ x. unit_variant_value (tag_text 0x540040) (kind_number x) };
+}
+
+impl Listed for Kind {
+    ghost tag = { 0x540040 };
+
+    ghost variants = { kind_variants };
+
+    ghost rules = { record {
+      number = kind_number;
+      units = kind_is_unit;
+      eq = ⟦<Kind as PartialEq>⟧.eq;
+      same = λ x y e. true_same kind_contract.the_type x y (kind_same x y e);
+    } };
+
+    fn read_listed<'b, A: Allocator + Copy>(
+        scope: &Scope<'b, A>,
+        cursor: &mut Cursor<'b, A>,
+    ) -> Step<Self, A> {
+        cursor.listed(scope, &KIND)
+    }
+
+    fn tag() -> u32 {
+        0x540040
+    }
+
+    #[tactic(auto, unfolding(kmip_ttlv_types::specs::Digits::six_digits))]
+    fn name() -> &'static str {
+        "0x540040"
+    }
+
+    fn number_text(self) -> &'static str {
         match self {
             Kind::First => "0x00000001",
             Kind::Second => "0x00000002",
@@ -349,35 +252,74 @@ impl Kind {
     }
 }
 
-impl Serialize for Kind {
-    ghost stated = { kind_value };
+/// Numbers, each of which may be absent.
+#[derive(Clone, Copy, PartialEq, Eq)]
+pub struct OptionalNumbers {
+    /// A number with a sign, in 32 bits.
+    pub count: Option<i32>,
+    /// A number with a sign, in 64 bits.
+    pub long: Option<i64>,
+    /// A date, in seconds since 1970.
+    pub date: Option<DateTime>,
+}
 
-    #[tactic(auto, unfolding(crate::specs::Leaves::kind_value))]
-    fn visit<V: Visitor>(&self, visitor: &mut V) -> Result<(), AllocError> {
-        writing::unit_variant(visitor, "0x540040", self.number())
+type OptionalNumbersParts = (
+    MaybeLeaf<i32, 0x540002>,
+    MaybeLeaf<i64, 0x540003>,
+    MaybeLeaf<DateTime, 0x540004>,
+);
+
+impl<A: Allocator + Copy> FromParts<A, OptionalNumbersParts> for OptionalNumbers {
+    ghost parts = { λ x. (x.count, x.long, x.date) };
+
+    fn from_parts((count, long, date): Holds<OptionalNumbersParts, A>) -> Self {
+        OptionalNumbers { count, long, date }
     }
 }
 
-impl reader::Listed for Kind {
-    ghost own = { codes "0x540040" };
+impl<A: Allocator + Copy> Structure<A> for OptionalNumbers {
+    ghost rules = { structure false ⟦<OptionalNumbersParts as PartList<A>>⟧.rules ⟦<OptionalNumbers as FromParts<A, OptionalNumbersParts>>⟧.parts refl ⟦<OptionalNumbers as PartialEq>⟧.eq (λ x y e. e) };
 
-    ghost variants = { kind_variants };
+    fn read<'b>(scope: &Scope<'b, A>, tag: u32, cursor: &mut Cursor<'b, A>) -> Step<Self, A> {
+        read_structure::<OptionalNumbersParts, Self, A>(scope, tag, false, cursor)
+    }
 
-    ghost value = { kind_value };
+    fn tell_parts<W: Walk<A>>(&self, state: &mut W::State) -> Result<(), AllocError> {
+        W::three::<
+            MaybeLeaf<i32, 0x540002>,
+            MaybeLeaf<i64, 0x540003>,
+            MaybeLeaf<DateTime, 0x540004>,
+        >(state, &self.count, &self.long, &self.date)
+    }
 }
 
-impl<A: Allocator + Copy> reader::ReadItem<A> for Kind {
-    ghost form = { kind_form };
+/// Enumerations of any number, a vendor's among them.
+#[derive(Clone, Copy, PartialEq, Eq)]
+pub struct Reasons {
+    /// A reason's number, which has to be there.
+    pub first: u32,
+    /// A second reason's number, which may be absent.
+    pub second: Option<u32>,
+}
 
-    ghost value = { kind_value };
+type ReasonsParts = (Leaf<u32, 0x540007>, MaybeLeaf<u32, 0x540008>);
 
-    ghost plain = { (refl, refl) };
+impl<A: Allocator + Copy> FromParts<A, ReasonsParts> for Reasons {
+    ghost parts = { λ x. (x.first, x.second) };
 
-    #[tactic(auto, unfolding(crate::specs::Leaves::kind_value))]
-    fn read_item<'b>(
-        scope: &reader::Scope<'b, A>,
-        cursor: &mut reader::Cursor<'b, A>,
-    ) -> reader::Step<Self, A> {
-        cursor.listed(scope, &KIND)
+    fn from_parts((first, second): Holds<ReasonsParts, A>) -> Self {
+        Reasons { first, second }
+    }
+}
+
+impl<A: Allocator + Copy> Structure<A> for Reasons {
+    ghost rules = { structure false ⟦<ReasonsParts as PartList<A>>⟧.rules ⟦<Reasons as FromParts<A, ReasonsParts>>⟧.parts refl ⟦<Reasons as PartialEq>⟧.eq (λ x y e. e) };
+
+    fn read<'b>(scope: &Scope<'b, A>, tag: u32, cursor: &mut Cursor<'b, A>) -> Step<Self, A> {
+        read_structure::<ReasonsParts, Self, A>(scope, tag, false, cursor)
+    }
+
+    fn tell_parts<W: Walk<A>>(&self, state: &mut W::State) -> Result<(), AllocError> {
+        W::two::<Leaf<u32, 0x540007>, MaybeLeaf<u32, 0x540008>>(state, &self.first, &self.second)
     }
 }

@@ -1,21 +1,19 @@
 //! Types that are lists of parts, by hand: a structure of three leaves, one of more parts than a tuple has, and a message with parts of
 //! every count and element.
 
-ghost use Rattle.std.specs.Prelude.{◌≡◌, false, true, refl};
-ghost use Rattle.kmip_ttlv_kinds.specs.Parts.{of, structure};
+ghost use Rattle.std.specs.Prelude.{◌≡◌, false, refl, true};
+ghost use Rattle.kmip_ttlv_kinds.specs.Parts.{structure};
 
 use kmip_ttlv::error::Error;
 use kmip_ttlv::laws::{Message, Sound};
-use kmip_ttlv::messages::writing;
 use kmip_ttlv::reader::{Cursor, DateTime, Interval, Scope, Step};
 use kmip_ttlv::shape::{Decode, Serialize};
 use kmip_ttlv::visit::Visitor;
 use kmip_ttlv::{Boxed, Enumeration};
 use kmip_ttlv_kinds::{
-    Any, BigNumber, Four, Leaf, LeafItem, Maybe, MaybeLeaf, Of, One, PartList, Several, Structure,
-    are_whole_four, are_whole_three, are_whole_two, both, read_message_parts, read_parts,
-    structures_come_back, visit_four, visit_structure_three, visit_structure_two, visit_three,
-    visit_two,
+    Any, BigNumber, Element, Four, FromParts, Holds, InBox, Leaf, LeafItem, Maybe, MaybeLeaf, Of,
+    One, PartList, Several, Structure, Walk, decode_structure, is_structure_whole, read_structure,
+    structures_come_back, visit_structure,
 };
 use std::alloc::{AllocError, Allocator, Global};
 
@@ -31,84 +29,66 @@ pub struct Named<A: Allocator = Global> {
     pub date: DateTime,
 }
 
-type Name<A> = Leaf<String<A>, 0x540042>;
+type NamedParts<A> = (
+    Leaf<String<A>, 0x540042>,
+    Leaf<i32, 0x540002>,
+    Leaf<DateTime, 0x540004>,
+);
 
-type Count = Leaf<i32, 0x540002>;
+impl<A: Allocator + Copy> FromParts<A, NamedParts<A>> for Named<A> {
+    ghost parts = { λ x. (x.name, x.count, x.date) };
 
-type Date = Leaf<DateTime, 0x540004>;
-
-type NamedParts<A> = (Name<A>, Count, Date);
+    fn from_parts((name, count, date): Holds<NamedParts<A>, A>) -> Self {
+        Named { name, count, date }
+    }
+}
 
 impl<A: Allocator + Copy> Structure<A> for Named<A> {
-    ghost item = { structure 0x540070 false (of (λ x. (x.name, x.count, x.date)) ⟦<NamedParts<A> as PartList<A>>⟧.rules) refl
-        ⟦<Named<A> as PartialEq>⟧.eq (λ x y e. e) };
+    ghost rules = { structure false ⟦<NamedParts<A> as PartList<A>>⟧.rules ⟦<Named<A> as FromParts<A, NamedParts<A>>>⟧.parts refl ⟦<Named<A> as PartialEq>⟧.eq (λ x y e. e) };
 
-    fn number() -> u32 {
-        0x540070
+    fn read<'b>(scope: &Scope<'b, A>, tag: u32, cursor: &mut Cursor<'b, A>) -> Step<Self, A> {
+        read_structure::<NamedParts<A>, Self, A>(scope, tag, false, cursor)
     }
 
-    fn read_nested<'b>(scope: &Scope<'b, A>, cursor: &mut Cursor<'b, A>) -> Step<Self, A> {
-        match read_parts::<NamedParts<A>, A>(scope, 0x540070, false, cursor) {
-            Ok(parts) => {
-                let (name, count, date) = parts;
-                Ok(Named { name, count, date })
-            }
-            Err(failure) => Err(failure),
-        }
-    }
-
-    fn visit_parts<V: Visitor>(&self, visitor: &mut V) -> Result<(), AllocError> {
-        visit_structure_three::<Name<A>, Count, Date, V, A>(
-            visitor,
-            0x540070,
+    fn tell_parts<W: Walk<A>>(&self, state: &mut W::State) -> Result<(), AllocError> {
+        W::three::<Leaf<String<A>, 0x540042>, Leaf<i32, 0x540002>, Leaf<DateTime, 0x540004>>(
+            state,
             &self.name,
             &self.count,
             &self.date,
         )
     }
-
-    fn is_whole(&self) -> bool {
-        are_whole_three::<Name<A>, Count, Date, A>(&self.name, &self.count, &self.date)
-    }
-
-    ghost structured = { (refl, refl) };
 }
 
 impl<A: Allocator + Copy> Serialize for Named<A> {
-    ghost stated = { ⟦<Named<A> as Structure<A>>⟧.item.rules.written };
+    ghost stated = { ⟦<Of<Named<A>, 0x540070> as Element<A>>⟧.rules.written };
 
     fn visit<V: Visitor>(&self, visitor: &mut V) -> Result<(), AllocError> {
-        <Named<A> as Structure<A>>::visit_parts(self, visitor)
+        visit_structure::<Named<A>, V, A>(self, 0x540070, visitor)
     }
 }
 
 impl<A: Allocator + Copy> Decode<A> for Named<A> {
-    ghost form = { ⟦<Named<A> as Structure<A>>⟧.item.form };
+    ghost form = { ⟦<Of<Named<A>, 0x540070> as Element<A>>⟧.form };
 
-    ghost is_value = { λ v x. v ≡ ⟦<Named<A> as Structure<A>>⟧.item.value x };
+    ghost is_value = { λ v x. v ≡ ⟦<Of<Named<A>, 0x540070> as Element<A>>⟧.value x };
 
     fn decode(alloc: A, bytes: &[u8]) -> Result<Self, Error<A>> {
-        match read_message_parts::<NamedParts<A>, A>(alloc, 0x540070, false, bytes) {
-            Ok(parts) => {
-                let (name, count, date) = parts;
-                Ok(Named { name, count, date })
-            }
-            Err(error) => Err(error),
-        }
+        decode_structure::<NamedParts<A>, Self, A>(alloc, 0x540070, false, bytes)
     }
 }
 
 impl<A: Allocator + Copy> Sound for Named<A> {
-    ghost IsSound = { ⟦<Named<A> as Structure<A>>⟧.item.rules.IsSound };
+    ghost IsSound = { ⟦<Of<Named<A>, 0x540070> as Element<A>>⟧.rules.IsSound };
 
     fn is_sound(&self) -> bool {
-        <Named<A> as Structure<A>>::is_whole(self)
+        is_structure_whole(self)
     }
 }
 
 impl<A: Allocator + Copy> Message<A> for Named<A> {
     fn comes_back() {
-        structures_come_back::<Named<A>, A>();
+        structures_come_back::<Named<A>, 0x540070, A>();
     }
 }
 
@@ -129,100 +109,70 @@ pub struct Many {
     pub seconds: Interval,
 }
 
-type Other = Leaf<i32, 0x540081>;
+type ManyFirst = (
+    Leaf<i32, 0x540002>,
+    Leaf<i32, 0x540081>,
+    Leaf<i64, 0x540003>,
+    Leaf<DateTime, 0x540004>,
+);
 
-type Long = Leaf<i64, 0x540003>;
+type ManySecond = (Leaf<bool, 0x540005>, Leaf<Interval, 0x540006>);
 
-type Truth = Leaf<bool, 0x540005>;
+type ManyParts = Four<ManyFirst, ManySecond>;
 
-type Seconds = Leaf<Interval, 0x540006>;
+impl<A: Allocator + Copy> FromParts<A, ManyParts> for Many {
+    ghost parts = { λ x. (x.count, x.other, x.long, x.date, (x.truth, x.seconds)) };
 
-type ManyParts = Four<Count, Other, Long, Date, (Truth, Seconds)>;
-
-impl<A: Allocator + Copy> Structure<A> for Many {
-    ghost item = { structure 0x540080 false
-        (of (λ x. (x.count, x.other, x.long, x.date, (x.truth, x.seconds))) ⟦<ManyParts as PartList<A>>⟧.rules) refl
-        ⟦<Many as PartialEq>⟧.eq (λ x y e. e) };
-
-    fn number() -> u32 {
-        0x540080
-    }
-
-    fn read_nested<'b>(scope: &Scope<'b, A>, cursor: &mut Cursor<'b, A>) -> Step<Self, A> {
-        match read_parts::<ManyParts, A>(scope, 0x540080, false, cursor) {
-            Ok(parts) => {
-                let (count, other, long, date, others) = parts;
-                let (truth, seconds) = others;
-                Ok(Many {
-                    count,
-                    other,
-                    long,
-                    date,
-                    truth,
-                    seconds,
-                })
-            }
-            Err(failure) => Err(failure),
+    fn from_parts((count, other, long, date, (truth, seconds)): Holds<ManyParts, A>) -> Self {
+        Many {
+            count,
+            other,
+            long,
+            date,
+            truth,
+            seconds,
         }
     }
+}
 
-    #[tactic(auto, using(kmip_ttlv_kinds::proofs::Whole::visited_blocks))]
-    fn visit_parts<V: Visitor>(&self, visitor: &mut V) -> Result<(), AllocError> {
-        writing::begin_structure(visitor, 0x540080)?;
-        visit_four::<Count, Other, Long, Date, V, A>(
-            visitor,
-            &self.count,
-            &self.other,
-            &self.long,
-            &self.date,
+impl<A: Allocator + Copy> Structure<A> for Many {
+    ghost rules = { structure false ⟦<ManyParts as PartList<A>>⟧.rules ⟦<Many as FromParts<A, ManyParts>>⟧.parts refl ⟦<Many as PartialEq>⟧.eq (λ x y e. e) };
+
+    fn read<'b>(scope: &Scope<'b, A>, tag: u32, cursor: &mut Cursor<'b, A>) -> Step<Self, A> {
+        read_structure::<ManyParts, Self, A>(scope, tag, false, cursor)
+    }
+
+    fn tell_parts<W: Walk<A>>(&self, state: &mut W::State) -> Result<(), AllocError> {
+        W::four::<
+            Leaf<i32, 0x540002>,
+            Leaf<i32, 0x540081>,
+            Leaf<i64, 0x540003>,
+            Leaf<DateTime, 0x540004>,
+        >(state, &self.count, &self.other, &self.long, &self.date)?;
+        W::two::<Leaf<bool, 0x540005>, Leaf<Interval, 0x540006>>(
+            state,
+            &self.truth,
+            &self.seconds,
         )?;
-        visit_two::<Truth, Seconds, V, A>(visitor, &self.truth, &self.seconds)?;
-        writing::end_structure(visitor, 0x540080)
+        Ok(())
     }
-
-    fn is_whole(&self) -> bool {
-        let first_four = are_whole_four::<Count, Other, Long, Date, A>(
-            &self.count,
-            &self.other,
-            &self.long,
-            &self.date,
-        );
-        let others = are_whole_two::<Truth, Seconds, A>(&self.truth, &self.seconds);
-        both(first_four, others)
-    }
-
-    ghost structured = { (refl, refl) };
 }
 
 impl Serialize for Many {
-    ghost stated = { ⟦<Many as Structure<Global>>⟧.item.rules.written };
+    ghost stated = { ⟦<Of<Many, 0x540080> as Element<Global>>⟧.rules.written };
 
     fn visit<V: Visitor>(&self, visitor: &mut V) -> Result<(), AllocError> {
-        <Many as Structure<Global>>::visit_parts(self, visitor)
+        visit_structure::<Many, V, Global>(self, 0x540080, visitor)
     }
 }
 
 impl<A: Allocator + Copy> Decode<A> for Many {
-    ghost form = { ⟦<Many as Structure<A>>⟧.item.form };
+    ghost form = { ⟦<Of<Many, 0x540080> as Element<A>>⟧.form };
 
-    ghost is_value = { λ v x. v ≡ ⟦<Many as Structure<A>>⟧.item.value x };
+    ghost is_value = { λ v x. v ≡ ⟦<Of<Many, 0x540080> as Element<A>>⟧.value x };
 
     fn decode(alloc: A, bytes: &[u8]) -> Result<Self, Error<A>> {
-        match read_message_parts::<ManyParts, A>(alloc, 0x540080, false, bytes) {
-            Ok(parts) => {
-                let (count, other, long, date, others) = parts;
-                let (truth, seconds) = others;
-                Ok(Many {
-                    count,
-                    other,
-                    long,
-                    date,
-                    truth,
-                    seconds,
-                })
-            }
-            Err(error) => Err(error),
-        }
+        decode_structure::<ManyParts, Self, A>(alloc, 0x540080, false, bytes)
     }
 }
 
@@ -239,42 +189,26 @@ pub struct Remark<A: Allocator = Global> {
     pub reason: Reason,
 }
 
-type Text<A> = Leaf<String<A>, 0x540082>;
+type RemarkParts<A> = (Leaf<String<A>, 0x540082>, One<Reason>);
 
-type RemarkParts<A> = (Text<A>, One<Reason>);
+impl<A: Allocator + Copy> FromParts<A, RemarkParts<A>> for Remark<A> {
+    ghost parts = { λ x. (x.text, x.reason) };
+
+    fn from_parts((text, reason): Holds<RemarkParts<A>, A>) -> Self {
+        Remark { text, reason }
+    }
+}
 
 impl<A: Allocator + Copy> Structure<A> for Remark<A> {
-    ghost item = { structure 0x540081 true (of (λ x. (x.text, x.reason)) ⟦<RemarkParts<A> as PartList<A>>⟧.rules) refl
-        ⟦<Remark<A> as PartialEq>⟧.eq (λ x y e. e) };
+    ghost rules = { structure true ⟦<RemarkParts<A> as PartList<A>>⟧.rules ⟦<Remark<A> as FromParts<A, RemarkParts<A>>>⟧.parts refl ⟦<Remark<A> as PartialEq>⟧.eq (λ x y e. e) };
 
-    fn number() -> u32 {
-        0x540081
+    fn read<'b>(scope: &Scope<'b, A>, tag: u32, cursor: &mut Cursor<'b, A>) -> Step<Self, A> {
+        read_structure::<RemarkParts<A>, Self, A>(scope, tag, true, cursor)
     }
 
-    fn read_nested<'b>(scope: &Scope<'b, A>, cursor: &mut Cursor<'b, A>) -> Step<Self, A> {
-        match read_parts::<RemarkParts<A>, A>(scope, 0x540081, true, cursor) {
-            Ok(parts) => {
-                let (text, reason) = parts;
-                Ok(Remark { text, reason })
-            }
-            Err(failure) => Err(failure),
-        }
+    fn tell_parts<W: Walk<A>>(&self, state: &mut W::State) -> Result<(), AllocError> {
+        W::two::<Leaf<String<A>, 0x540082>, One<Reason>>(state, &self.text, &self.reason)
     }
-
-    fn visit_parts<V: Visitor>(&self, visitor: &mut V) -> Result<(), AllocError> {
-        visit_structure_two::<Text<A>, One<Reason>, V, A>(
-            visitor,
-            0x540081,
-            &self.text,
-            &self.reason,
-        )
-    }
-
-    fn is_whole(&self) -> bool {
-        are_whole_two::<Text<A>, One<Reason>, A>(&self.text, &self.reason)
-    }
-
-    ghost structured = { (refl, refl) };
 }
 
 /// A message with parts of every count, and of every element.
@@ -297,136 +231,90 @@ pub struct Binder<A: Allocator = Global> {
     pub many: Vec<Many, A>,
 }
 
-type Label<A> = MaybeLeaf<String<A>, 0x540091>;
+type BinderFirst<A> = (
+    MaybeLeaf<String<A>, 0x540091>,
+    One<Of<Remark<A>, 0x540081>>,
+    Maybe<InBox<Of<Named<A>, 0x540070>>, 0x540070>,
+    Several<LeafItem<i64, 0x540003>, 0x540003>,
+);
 
-type First<A> = One<Of<Remark<A>>>;
+type BinderSecond<A> = (
+    Any<LeafItem<Vec<u8, A>, 0x540022>, 0x540022>,
+    Leaf<BigNumber<A>, 0x540023>,
+    Any<Of<Many, 0x540080>, 0x540080>,
+);
 
-type NamedPart<A> = Maybe<Of<Boxed<Named<A>, A>>, 0x540070>;
+type BinderParts<A> = Four<BinderFirst<A>, BinderSecond<A>>;
 
-type Numbers = Several<LeafItem<i64, 0x540003>, 0x540003>;
+impl<A: Allocator + Copy> FromParts<A, BinderParts<A>> for Binder<A> {
+    ghost parts = { λ x. (x.label, x.first, x.named, x.numbers, (x.contents, x.big, x.many)) };
 
-type Contents<A> = Any<LeafItem<Vec<u8, A>, 0x540022>, 0x540022>;
-
-type Big<A> = Leaf<BigNumber<A>, 0x540023>;
-
-type ManyPart = Any<Of<Many>, 0x540080>;
-
-type BinderParts<A> = Four<
-    Label<A>,
-    First<A>,
-    NamedPart<A>,
-    Numbers,
-    (Contents<A>, Big<A>, ManyPart),
->;
-
-impl<A: Allocator + Copy> Structure<A> for Binder<A> {
-    ghost item = { structure 0x540090 false
-        (of (λ x. (x.label, x.first, x.named, x.numbers, (x.contents, x.big, x.many))) ⟦<BinderParts<A> as PartList<A>>⟧.rules) refl
-        ⟦<Binder<A> as PartialEq>⟧.eq (λ x y e. e) };
-
-    fn number() -> u32 {
-        0x540090
-    }
-
-    fn read_nested<'b>(scope: &Scope<'b, A>, cursor: &mut Cursor<'b, A>) -> Step<Self, A> {
-        match read_parts::<BinderParts<A>, A>(scope, 0x540090, false, cursor) {
-            Ok(parts) => {
-                let (label, first, named, numbers, others) = parts;
-                let (contents, big, many) = others;
-                Ok(Binder {
-                    label,
-                    first,
-                    named,
-                    numbers,
-                    contents,
-                    big,
-                    many,
-                })
-            }
-            Err(failure) => Err(failure),
+    fn from_parts(
+        (label, first, named, numbers, (contents, big, many)): Holds<BinderParts<A>, A>,
+    ) -> Self {
+        Binder {
+            label,
+            first,
+            named,
+            numbers,
+            contents,
+            big,
+            many,
         }
     }
+}
 
-    #[tactic(auto, using(kmip_ttlv_kinds::proofs::Whole::visited_blocks))]
-    fn visit_parts<V: Visitor>(&self, visitor: &mut V) -> Result<(), AllocError> {
-        writing::begin_structure(visitor, 0x540090)?;
-        visit_four::<Label<A>, First<A>, NamedPart<A>, Numbers, V, A>(
-            visitor,
-            &self.label,
-            &self.first,
-            &self.named,
-            &self.numbers,
-        )?;
-        visit_three::<Contents<A>, Big<A>, ManyPart, V, A>(
-            visitor,
-            &self.contents,
-            &self.big,
-            &self.many,
-        )?;
-        writing::end_structure(visitor, 0x540090)
+impl<A: Allocator + Copy> Structure<A> for Binder<A> {
+    ghost rules = { structure false ⟦<BinderParts<A> as PartList<A>>⟧.rules ⟦<Binder<A> as FromParts<A, BinderParts<A>>>⟧.parts refl ⟦<Binder<A> as PartialEq>⟧.eq (λ x y e. e) };
+
+    fn read<'b>(scope: &Scope<'b, A>, tag: u32, cursor: &mut Cursor<'b, A>) -> Step<Self, A> {
+        read_structure::<BinderParts<A>, Self, A>(scope, tag, false, cursor)
     }
 
-    fn is_whole(&self) -> bool {
-        let first_four = are_whole_four::<Label<A>, First<A>, NamedPart<A>, Numbers, A>(
-            &self.label,
-            &self.first,
-            &self.named,
-            &self.numbers,
-        );
-        let others = are_whole_three::<Contents<A>, Big<A>, ManyPart, A>(
-            &self.contents,
-            &self.big,
-            &self.many,
-        );
-        both(first_four, others)
+    fn tell_parts<W: Walk<A>>(&self, state: &mut W::State) -> Result<(), AllocError> {
+        W::four::<
+            MaybeLeaf<String<A>, 0x540091>,
+            One<Of<Remark<A>, 0x540081>>,
+            Maybe<InBox<Of<Named<A>, 0x540070>>, 0x540070>,
+            Several<LeafItem<i64, 0x540003>, 0x540003>,
+        >(state, &self.label, &self.first, &self.named, &self.numbers)?;
+        W::three::<
+            Any<LeafItem<Vec<u8, A>, 0x540022>, 0x540022>,
+            Leaf<BigNumber<A>, 0x540023>,
+            Any<Of<Many, 0x540080>, 0x540080>,
+        >(state, &self.contents, &self.big, &self.many)?;
+        Ok(())
     }
-
-    ghost structured = { (refl, refl) };
 }
 
 impl<A: Allocator + Copy> Serialize for Binder<A> {
-    ghost stated = { ⟦<Binder<A> as Structure<A>>⟧.item.rules.written };
+    ghost stated = { ⟦<Of<Binder<A>, 0x540090> as Element<A>>⟧.rules.written };
 
     fn visit<V: Visitor>(&self, visitor: &mut V) -> Result<(), AllocError> {
-        <Binder<A> as Structure<A>>::visit_parts(self, visitor)
+        visit_structure::<Binder<A>, V, A>(self, 0x540090, visitor)
     }
 }
 
 impl<A: Allocator + Copy> Decode<A> for Binder<A> {
-    ghost form = { ⟦<Binder<A> as Structure<A>>⟧.item.form };
+    ghost form = { ⟦<Of<Binder<A>, 0x540090> as Element<A>>⟧.form };
 
-    ghost is_value = { λ v x. v ≡ ⟦<Binder<A> as Structure<A>>⟧.item.value x };
+    ghost is_value = { λ v x. v ≡ ⟦<Of<Binder<A>, 0x540090> as Element<A>>⟧.value x };
 
     fn decode(alloc: A, bytes: &[u8]) -> Result<Self, Error<A>> {
-        match read_message_parts::<BinderParts<A>, A>(alloc, 0x540090, false, bytes) {
-            Ok(parts) => {
-                let (label, first, named, numbers, others) = parts;
-                let (contents, big, many) = others;
-                Ok(Binder {
-                    label,
-                    first,
-                    named,
-                    numbers,
-                    contents,
-                    big,
-                    many,
-                })
-            }
-            Err(error) => Err(error),
-        }
+        decode_structure::<BinderParts<A>, Self, A>(alloc, 0x540090, false, bytes)
     }
 }
 
 impl<A: Allocator + Copy> Sound for Binder<A> {
-    ghost IsSound = { ⟦<Binder<A> as Structure<A>>⟧.item.rules.IsSound };
+    ghost IsSound = { ⟦<Of<Binder<A>, 0x540090> as Element<A>>⟧.rules.IsSound };
 
     fn is_sound(&self) -> bool {
-        <Binder<A> as Structure<A>>::is_whole(self)
+        is_structure_whole(self)
     }
 }
 
 impl<A: Allocator + Copy> Message<A> for Binder<A> {
     fn comes_back() {
-        structures_come_back::<Binder<A>, A>();
+        structures_come_back::<Binder<A>, 0x540090, A>();
     }
 }

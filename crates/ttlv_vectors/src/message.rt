@@ -1,17 +1,25 @@
 // Written by codegen from types.table: change that, and run codegen/codegen.
-//! A message with a part of every kind, some of whose types are written by hand.
+//! A message with a part of every kind.
 
-ghost use Rattle.std.specs.Prelude.{◌≡◌, refl, codes, false};
-ghost use Rattle.kmip_ttlv.specs.Forms.{enum, no_variants, unit, variant};
-ghost use Rattle.kmip_ttlv.specs.Values.{unit_variant_value};
-ghost use Rattle.ttlv_vectors.specs.Messages.{every_form, written_every, read_every};
+ghost use Rattle.std.specs.Prelude.{◌≡◌, false, refl, true};
+ghost use Rattle.kmip_ttlv_parts.specs.Digits.{tag_text};
+ghost use Rattle.kmip_ttlv_parts.specs.Values.{unit_variant_value};
+ghost use Rattle.kmip_ttlv_kinds.specs.Parts.{structure};
+ghost use Rattle.ttlv_vectors.specs.Listed.{every_constant_is_unit, every_constant_number, every_constant_variants};
+ghost use Rattle.ttlv_vectors.specs.declared.message.EveryConstant.TheVariants as every_constant;
 
-use crate::leaves::{Contents, Kind, Moments, Numbers, OptionalContents};
-use crate::numbers::{OptionalNumbers, Reasons};
-use kmip_ttlv::messages::writing;
+use crate::leaves::{Contents, Kind, Moments, Numbers, OptionalContents, OptionalNumbers, Reasons};
+use kmip_ttlv::error::Error;
+use kmip_ttlv::laws::{Message, Sound};
 use kmip_ttlv::shape::{Decode, Serialize};
-use kmip_ttlv::visit::Visitor;
-use kmip_ttlv::{error, reader};
+use kmip_ttlv_kinds::{
+    Element, Four, FromParts, Holds, Listed, ListedItem, Maybe, Of, One, PartList, Several,
+    Structure, Walk, decode_structure, is_structure_whole, read_structure, structures_come_back,
+    visit_structure,
+};
+use kmip_ttlv_parts::reader;
+use kmip_ttlv_parts::reader::{Cursor, Scope, Step};
+use kmip_ttlv_parts::visit::Visitor;
 use std::alloc::{AllocError, Allocator, Global};
 
 /// A message with every kind of part.
@@ -34,69 +42,87 @@ pub struct Every<A: Allocator = Global> {
     pub contents: Vec<Contents<A>, A>,
 }
 
-impl<B: Allocator> Serialize for Every<B> {
-    ghost stated = { written_every };
+/// What `constant` of a `Every` always is.
+#[derive(Clone, Copy, PartialEq, Eq)]
+pub enum EveryConstant {
+    /// The number.
+    Only,
+}
 
-    fn visit<V: Visitor>(&self, visitor: &mut V) -> Result<(), AllocError> {
-        writing::begin_structure(visitor, 0x540060)?;
-        writing::unit_variant(visitor, "0x540061", "0x00000001")?;
-        self.kind.visit(visitor)?;
-        self.numbers.visit(visitor)?;
-        self.moments.visit(visitor)?;
-        writing::option(visitor, &self.optional_numbers)?;
-        writing::option(visitor, &self.optional_contents)?;
-        self.reasons.visit(visitor)?;
-        writing::several(visitor, &self.contents)?;
-        writing::end_structure(visitor, 0x540060)?;
-        Ok(())
+// Each number, and what it stands for.
+const EVERY_CONSTANT: [(&str, EveryConstant); 1] = [("0x00000001", EveryConstant::Only)];
+
+impl reader::Listed for EveryConstant {
+    ghost own = { tag_text 0x540061 };
+
+    ghost variants = { every_constant_variants };
+
+    ghost value = { λ x. unit_variant_value (tag_text 0x540061) (every_constant_number x) };
+}
+
+impl Listed for EveryConstant {
+    ghost tag = { 0x540061 };
+
+    ghost variants = { every_constant_variants };
+
+    ghost rules = { record {
+      number = every_constant_number;
+      units = every_constant_is_unit;
+      eq = λ x y. true;
+      same = λ x y e. refl;
+    } };
+
+    fn read_listed<'b, A: Allocator + Copy>(
+        scope: &Scope<'b, A>,
+        cursor: &mut Cursor<'b, A>,
+    ) -> Step<Self, A> {
+        cursor.listed(scope, &EVERY_CONSTANT)
+    }
+
+    fn tag() -> u32 {
+        0x540061
+    }
+
+    #[tactic(auto, unfolding(kmip_ttlv_types::specs::Digits::six_digits))]
+    fn name() -> &'static str {
+        "0x540061"
+    }
+
+    fn number_text(self) -> &'static str {
+        match self {
+            EveryConstant::Only => "0x00000001",
+        }
     }
 }
 
-impl<A: Allocator + Copy> reader::ReadStructure<A> for Every<A> {
-    ghost form = { every_form };
+type EveryFirst = (
+    One<ListedItem<EveryConstant>>,
+    One<ListedItem<Kind>>,
+    One<Of<Numbers, 0x540001>>,
+    One<Of<Moments, 0x540009>>,
+);
 
-    ghost value = { read_every };
+type EverySecond<A> = (
+    Maybe<Of<OptionalNumbers, 0x540010>, 0x540010>,
+    Maybe<Of<OptionalContents<A>, 0x540030>, 0x540030>,
+    One<Of<Reasons, 0x540015>>,
+    Several<Of<Contents<A>, 0x540020>, 0x540020>,
+);
 
-    ghost TAG = { 0x540060 };
+type EveryParts<A> = Four<EveryFirst, EverySecond<A>>;
 
-    ghost DENIES_UNKNOWN = { false };
+impl<A: Allocator + Copy> FromParts<A, EveryParts<A>> for Every<A> {
+    ghost parts = { λ x. (every_constant.Only, x.kind, x.numbers, x.moments, (x.optional_numbers, x.optional_contents, x.reasons, x.contents)) };
 
-    type Fields = reader::Four<
-        reader::Item<EveryConstant, 0x540061>,
-        reader::Item<Kind, 0x540040>,
-        reader::Nested<Numbers>,
-        reader::Nested<Moments>,
+    fn from_parts(
         (
-            reader::OptionalNested<OptionalNumbers>,
-            reader::OptionalNested<OptionalContents<A>>,
-            reader::Nested<Reasons>,
-            reader::Several<Contents<A>>,
-        ),
-    >;
-
-    const TAG: u32 = 0x540060;
-
-    const DENIES_UNKNOWN: bool = false;
-
-    fn has_form() {}
-
-    #[tactic(auto, unfolding(crate::specs::Messages::read_every))]
-    fn from_fields(
-        fields: (
-            EveryConstant,
-            Kind,
-            Numbers,
-            Moments,
-            (
-                Option<OptionalNumbers>,
-                Option<OptionalContents<A>>,
-                Reasons,
-                Vec<Contents<A>, A>,
-            ),
-        ),
+            _,
+            kind,
+            numbers,
+            moments,
+            (optional_numbers, optional_contents, reasons, contents),
+        ): Holds<EveryParts<A>, A>,
     ) -> Self {
-        let (_, kind, numbers, moments, (optional_numbers, optional_contents, reasons, contents)) =
-            fields;
         Every {
             kind,
             numbers,
@@ -109,39 +135,70 @@ impl<A: Allocator + Copy> reader::ReadStructure<A> for Every<A> {
     }
 }
 
-impl<A: Allocator + Copy> Decode<A> for Every<A> {
-    ghost form = { every_form };
+impl<A: Allocator + Copy> Structure<A> for Every<A> {
+    ghost rules = { structure false ⟦<EveryParts<A> as PartList<A>>⟧.rules ⟦<Every<A> as FromParts<A, EveryParts<A>>>⟧.parts refl ⟦<Every<A> as PartialEq>⟧.eq (λ x y e. e) };
 
-    ghost is_value = { λ v x. v ≡ read_every x };
+    fn read<'b>(scope: &Scope<'b, A>, tag: u32, cursor: &mut Cursor<'b, A>) -> Step<Self, A> {
+        read_structure::<EveryParts<A>, Self, A>(scope, tag, false, cursor)
+    }
 
-    fn decode(alloc: A, bytes: &[u8]) -> Result<Self, error::Error<A>> {
-        reader::read_message(alloc, bytes)
+    fn tell_parts<W: Walk<A>>(&self, state: &mut W::State) -> Result<(), AllocError> {
+        W::four::<
+            One<ListedItem<EveryConstant>>,
+            One<ListedItem<Kind>>,
+            One<Of<Numbers, 0x540001>>,
+            One<Of<Moments, 0x540009>>,
+        >(
+            state,
+            &EveryConstant::Only,
+            &self.kind,
+            &self.numbers,
+            &self.moments,
+        )?;
+        W::four::<
+            Maybe<Of<OptionalNumbers, 0x540010>, 0x540010>,
+            Maybe<Of<OptionalContents<A>, 0x540030>, 0x540030>,
+            One<Of<Reasons, 0x540015>>,
+            Several<Of<Contents<A>, 0x540020>, 0x540020>,
+        >(
+            state,
+            &self.optional_numbers,
+            &self.optional_contents,
+            &self.reasons,
+            &self.contents,
+        )?;
+        Ok(())
     }
 }
 
-/// What `constant` of a `Every` always is.
-#[derive(Clone, Copy)]
-pub struct EveryConstant;
+impl<A: Allocator + Copy> Serialize for Every<A> {
+    ghost stated = { ⟦<Of<Every<A>, 0x540060> as Element<A>>⟧.rules.written };
 
-impl reader::Listed for EveryConstant {
-    ghost own = { codes "0x540061" };
-
-    ghost variants = { variant (codes "0x00000001") unit no_variants };
-
-    ghost value = { λ _. unit_variant_value (codes "0x540061") (codes "0x00000001") };
+    fn visit<V: Visitor>(&self, visitor: &mut V) -> Result<(), AllocError> {
+        visit_structure(self, 0x540060, visitor)
+    }
 }
 
-impl<A: Allocator + Copy> reader::ReadItem<A> for EveryConstant {
-    ghost form = { enum (codes "0x540061") (variant (codes "0x00000001") unit no_variants) };
+impl<A: Allocator + Copy> Decode<A> for Every<A> {
+    ghost form = { ⟦<Of<Every<A>, 0x540060> as Element<A>>⟧.form };
 
-    ghost value = { λ _. unit_variant_value (codes "0x540061") (codes "0x00000001") };
+    ghost is_value = { λ v x. v ≡ ⟦<Of<Every<A>, 0x540060> as Element<A>>⟧.value x };
 
-    ghost plain = { (refl, refl) };
+    fn decode(alloc: A, bytes: &[u8]) -> Result<Self, Error<A>> {
+        decode_structure::<EveryParts<A>, Self, A>(alloc, 0x540060, false, bytes)
+    }
+}
 
-    fn read_item<'b>(
-        scope: &reader::Scope<'b, A>,
-        cursor: &mut reader::Cursor<'b, A>,
-    ) -> reader::Step<Self, A> {
-        cursor.listed(scope, &[("0x00000001", EveryConstant)])
+impl<A: Allocator + Copy> Sound for Every<A> {
+    ghost IsSound = { ⟦<Of<Every<A>, 0x540060> as Element<A>>⟧.rules.IsSound };
+
+    fn is_sound(&self) -> bool {
+        is_structure_whole(self)
+    }
+}
+
+impl<A: Allocator + Copy> Message<A> for Every<A> {
+    fn comes_back() {
+        structures_come_back::<Every<A>, 0x540060, A>();
     }
 }

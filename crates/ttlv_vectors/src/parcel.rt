@@ -1,14 +1,20 @@
 // Written by codegen from types.table: change that, and run codegen/codegen.
 //! A message with structures on the heap.
 
-ghost use Rattle.std.specs.Prelude.{◌≡◌, refl, false};
-ghost use Rattle.ttlv_vectors.specs.Parcels.{note_form, note_value, parcel_form, written_parcel, read_parcel};
+ghost use Rattle.std.specs.Prelude.{◌≡◌, false, refl};
+ghost use Rattle.kmip_ttlv_kinds.specs.Parts.{structure};
 
 use crate::leaves::{Contents, Moments};
-use kmip_ttlv::messages::writing;
+use kmip_ttlv::error::Error;
+use kmip_ttlv::laws::{Message, Sound};
 use kmip_ttlv::shape::{Decode, Serialize};
-use kmip_ttlv::visit::Visitor;
-use kmip_ttlv::{Boxed, error, reader};
+use kmip_ttlv_kinds::{
+    Alone, Element, FromParts, Holds, InBox, Leaf, Maybe, Of, One, PartList, Structure, Walk,
+    decode_structure, is_structure_whole, read_structure, structures_come_back, visit_structure,
+};
+use kmip_ttlv_parts::Boxed;
+use kmip_ttlv_parts::reader::{Cursor, Scope, Step};
+use kmip_ttlv_parts::visit::Visitor;
 use std::alloc::{AllocError, Allocator, Global};
 
 /// A note.
@@ -19,58 +25,25 @@ pub struct Note<A: Allocator = Global> {
     pub text: String<A>,
 }
 
-impl<B: Allocator> Serialize for Note<B> {
-    ghost stated = { note_value };
+type NoteParts<A> = Alone<Leaf<String<A>, 0x540082>>;
 
-    #[tactic(auto, unfolding(crate::specs::Parcels::note_value))]
-    fn visit<V: Visitor>(&self, visitor: &mut V) -> Result<(), AllocError> {
-        writing::begin_structure(visitor, 0x540081)?;
-        writing::string(visitor, 0x540082, &self.text)?;
-        writing::end_structure(visitor, 0x540081)?;
-        Ok(())
-    }
-}
+impl<A: Allocator + Copy> FromParts<A, NoteParts<A>> for Note<A> {
+    ghost parts = { λ x. x.text };
 
-impl<A: Allocator + Copy> reader::ReadStructure<A> for Note<A> {
-    ghost form = { note_form };
-
-    ghost value = { note_value };
-
-    ghost TAG = { 0x540081 };
-
-    ghost DENIES_UNKNOWN = { false };
-
-    type Fields = (reader::Leaf<String<A>, 0x540082>,);
-
-    const TAG: u32 = 0x540081;
-
-    const DENIES_UNKNOWN: bool = false;
-
-    fn has_form() {}
-
-    #[tactic(auto, unfolding(crate::specs::Parcels::note_value))]
-    fn from_fields(fields: (String<A>,)) -> Self {
-        let (text,) = fields;
+    fn from_parts(text: Holds<NoteParts<A>, A>) -> Self {
         Note { text }
     }
 }
 
-impl<A: Allocator + Copy> reader::ReadNested<A> for Note<A> {
-    ghost form = { note_form };
+impl<A: Allocator + Copy> Structure<A> for Note<A> {
+    ghost rules = { structure false ⟦<NoteParts<A> as PartList<A>>⟧.rules ⟦<Note<A> as FromParts<A, NoteParts<A>>>⟧.parts refl ⟦<Note<A> as PartialEq>⟧.eq (λ x y e. e) };
 
-    ghost value = { note_value };
+    fn read<'b>(scope: &Scope<'b, A>, tag: u32, cursor: &mut Cursor<'b, A>) -> Step<Self, A> {
+        read_structure::<NoteParts<A>, Self, A>(scope, tag, false, cursor)
+    }
 
-    ghost TAG = { 0x540081 };
-
-    ghost structured = { (refl, refl) };
-
-    const TAG: u32 = 0x540081;
-
-    fn read_nested<'b>(
-        scope: &reader::Scope<'b, A>,
-        cursor: &mut reader::Cursor<'b, A>,
-    ) -> reader::Step<Self, A> {
-        reader::read_structure(scope, cursor)
+    fn tell_parts<W: Walk<A>>(&self, state: &mut W::State) -> Result<(), AllocError> {
+        W::one::<Leaf<String<A>, 0x540082>>(state, &self.text)
     }
 }
 
@@ -86,49 +59,16 @@ pub struct Parcel<A: Allocator = Global> {
     pub note: Option<Boxed<Note<A>, A>>,
 }
 
-impl<B: Allocator> Serialize for Parcel<B> {
-    ghost stated = { written_parcel };
+type ParcelParts<A> = (
+    One<InBox<Of<Moments, 0x540009>>>,
+    Maybe<InBox<Of<Contents<A>, 0x540020>>, 0x540020>,
+    Maybe<InBox<Of<Note<A>, 0x540081>>, 0x540081>,
+);
 
-    fn visit<V: Visitor>(&self, visitor: &mut V) -> Result<(), AllocError> {
-        writing::begin_structure(visitor, 0x540080)?;
-        self.moments.visit(visitor)?;
-        writing::option(visitor, &self.contents)?;
-        writing::option(visitor, &self.note)?;
-        writing::end_structure(visitor, 0x540080)?;
-        Ok(())
-    }
-}
+impl<A: Allocator + Copy> FromParts<A, ParcelParts<A>> for Parcel<A> {
+    ghost parts = { λ x. (x.moments, x.contents, x.note) };
 
-impl<A: Allocator + Copy> reader::ReadStructure<A> for Parcel<A> {
-    ghost form = { parcel_form };
-
-    ghost value = { read_parcel };
-
-    ghost TAG = { 0x540080 };
-
-    ghost DENIES_UNKNOWN = { false };
-
-    type Fields = (
-        reader::Nested<Boxed<Moments, A>>,
-        reader::OptionalNested<Boxed<Contents<A>, A>>,
-        reader::OptionalNested<Boxed<Note<A>, A>>,
-    );
-
-    const TAG: u32 = 0x540080;
-
-    const DENIES_UNKNOWN: bool = false;
-
-    fn has_form() {}
-
-    #[tactic(auto, unfolding(crate::specs::Parcels::read_parcel))]
-    fn from_fields(
-        fields: (
-            Boxed<Moments, A>,
-            Option<Boxed<Contents<A>, A>>,
-            Option<Boxed<Note<A>, A>>,
-        ),
-    ) -> Self {
-        let (moments, contents, note) = fields;
+    fn from_parts((moments, contents, note): Holds<ParcelParts<A>, A>) -> Self {
         Parcel {
             moments,
             contents,
@@ -137,12 +77,50 @@ impl<A: Allocator + Copy> reader::ReadStructure<A> for Parcel<A> {
     }
 }
 
+impl<A: Allocator + Copy> Structure<A> for Parcel<A> {
+    ghost rules = { structure false ⟦<ParcelParts<A> as PartList<A>>⟧.rules ⟦<Parcel<A> as FromParts<A, ParcelParts<A>>>⟧.parts refl ⟦<Parcel<A> as PartialEq>⟧.eq (λ x y e. e) };
+
+    fn read<'b>(scope: &Scope<'b, A>, tag: u32, cursor: &mut Cursor<'b, A>) -> Step<Self, A> {
+        read_structure::<ParcelParts<A>, Self, A>(scope, tag, false, cursor)
+    }
+
+    fn tell_parts<W: Walk<A>>(&self, state: &mut W::State) -> Result<(), AllocError> {
+        W::three::<
+            One<InBox<Of<Moments, 0x540009>>>,
+            Maybe<InBox<Of<Contents<A>, 0x540020>>, 0x540020>,
+            Maybe<InBox<Of<Note<A>, 0x540081>>, 0x540081>,
+        >(state, &self.moments, &self.contents, &self.note)
+    }
+}
+
+impl<A: Allocator + Copy> Serialize for Parcel<A> {
+    ghost stated = { ⟦<Of<Parcel<A>, 0x540080> as Element<A>>⟧.rules.written };
+
+    fn visit<V: Visitor>(&self, visitor: &mut V) -> Result<(), AllocError> {
+        visit_structure(self, 0x540080, visitor)
+    }
+}
+
 impl<A: Allocator + Copy> Decode<A> for Parcel<A> {
-    ghost form = { parcel_form };
+    ghost form = { ⟦<Of<Parcel<A>, 0x540080> as Element<A>>⟧.form };
 
-    ghost is_value = { λ v x. v ≡ read_parcel x };
+    ghost is_value = { λ v x. v ≡ ⟦<Of<Parcel<A>, 0x540080> as Element<A>>⟧.value x };
 
-    fn decode(alloc: A, bytes: &[u8]) -> Result<Self, error::Error<A>> {
-        reader::read_message(alloc, bytes)
+    fn decode(alloc: A, bytes: &[u8]) -> Result<Self, Error<A>> {
+        decode_structure::<ParcelParts<A>, Self, A>(alloc, 0x540080, false, bytes)
+    }
+}
+
+impl<A: Allocator + Copy> Sound for Parcel<A> {
+    ghost IsSound = { ⟦<Of<Parcel<A>, 0x540080> as Element<A>>⟧.rules.IsSound };
+
+    fn is_sound(&self) -> bool {
+        is_structure_whole(self)
+    }
+}
+
+impl<A: Allocator + Copy> Message<A> for Parcel<A> {
+    fn comes_back() {
+        structures_come_back::<Parcel<A>, 0x540080, A>();
     }
 }

@@ -1,46 +1,28 @@
 // Written by codegen from types.table: change that, and run codegen/codegen.
 //! A search for objects, what a server can do, and what failed (KMIP 1.0, sections 4.8, 4.24 and 7).
 
-ghost use Rattle.std.specs.Prelude.{◌≡◌, refl, codes, false};
-ghost use Rattle.ttlv_vectors.specs.Queries.{maximum_items_form, maximum_items_value, text_attribute_form, text_attribute_value, locate_request_payload_form, written_locate_request_payload, read_locate_request_payload, object_type_form, object_type_value, object_type_number, object_type_variants, application_namespace_form, application_namespace_value, query_response_payload_form, written_query_response_payload, read_query_response_payload, result_status_form, result_status_value, result_status_number, result_status_variants, failed_item_form, written_failed_item, read_failed_item};
+ghost use Rattle.std.specs.Prelude.{◌≡◌, false, refl};
+ghost use denote.Enum.Bare.{true_same};
+ghost use Rattle.kmip_ttlv_parts.specs.Digits.{tag_text};
+ghost use Rattle.kmip_ttlv_parts.specs.Values.{unit_variant_value};
+ghost use Rattle.kmip_ttlv_kinds.specs.Parts.{structure};
+ghost use Rattle.ttlv_vectors.specs.Listed.{object_type_is_unit, object_type_number, object_type_same, object_type_variants};
+ghost use Rattle.ttlv_vectors.specs.contracts.query.ObjectType as object_type_contract;
+ghost use Rattle.ttlv_vectors.specs.Listed.{result_status_is_unit, result_status_number, result_status_same, result_status_variants};
+ghost use Rattle.ttlv_vectors.specs.contracts.query.ResultStatus as result_status_contract;
 
-use kmip_ttlv::messages::writing;
+use kmip_ttlv::error::Error;
+use kmip_ttlv::laws::{Message, Sound};
 use kmip_ttlv::shape::{Decode, Serialize};
-use kmip_ttlv::visit::{Leaf, Visitor};
-use kmip_ttlv::{Enumeration, error, reader};
+use kmip_ttlv_kinds::{
+    Any, Element, FromParts, Holds, Leaf, LeafItem, Listed, ListedItem, Maybe, MaybeLeaf, Of, One,
+    PartList, Structure, Walk, decode_structure, is_structure_whole, read_structure,
+    structures_come_back, visit_structure,
+};
+use kmip_ttlv_parts::reader::{Cursor, Scope, Step};
+use kmip_ttlv_parts::visit::Visitor;
+use kmip_ttlv_parts::{Enumeration, reader};
 use std::alloc::{AllocError, Allocator, Global};
-
-/// How many objects are named at most.
-#[derive(Clone, Copy, PartialEq, Eq)]
-pub struct MaximumItems {
-    /// What it holds.
-    pub count: i32,
-}
-
-impl Serialize for MaximumItems {
-    ghost stated = { maximum_items_value };
-
-    fn visit<V: Visitor>(&self, visitor: &mut V) -> Result<(), AllocError> {
-        writing::tagged(visitor, 0x42004F, Leaf::I32(self.count))?;
-        Ok(())
-    }
-}
-
-impl<A: Allocator + Copy> reader::ReadItem<A> for MaximumItems {
-    ghost form = { maximum_items_form };
-
-    ghost value = { maximum_items_value };
-
-    ghost plain = { (refl, refl) };
-
-    fn read_item<'b>(
-        scope: &reader::Scope<'b, A>,
-        cursor: &mut reader::Cursor<'b, A>,
-    ) -> reader::Step<Self, A> {
-        let count = cursor.wrapped_leaf(scope, 0x42004F)?;
-        Ok(MaximumItems { count })
-    }
-}
 
 /// An attribute whose value is a text.
 #[derive(Drop)]
@@ -52,62 +34,29 @@ pub struct TextAttribute<A: Allocator = Global> {
     pub value: String<A>,
 }
 
-impl<B: Allocator> Serialize for TextAttribute<B> {
-    ghost stated = { text_attribute_value };
+type TextAttributeParts<A> = (Leaf<String<A>, 0x42000A>, Leaf<String<A>, 0x42000B>);
 
-    #[tactic(auto, unfolding(crate::specs::Queries::text_attribute_value))]
-    fn visit<V: Visitor>(&self, visitor: &mut V) -> Result<(), AllocError> {
-        writing::begin_structure(visitor, 0x420008)?;
-        writing::string(visitor, 0x42000A, &self.name)?;
-        writing::string(visitor, 0x42000B, &self.value)?;
-        writing::end_structure(visitor, 0x420008)?;
-        Ok(())
-    }
-}
+impl<A: Allocator + Copy> FromParts<A, TextAttributeParts<A>> for TextAttribute<A> {
+    ghost parts = { λ x. (x.name, x.value) };
 
-impl<A: Allocator + Copy> reader::ReadStructure<A> for TextAttribute<A> {
-    ghost form = { text_attribute_form };
-
-    ghost value = { text_attribute_value };
-
-    ghost TAG = { 0x420008 };
-
-    ghost DENIES_UNKNOWN = { false };
-
-    type Fields = (
-        reader::Leaf<String<A>, 0x42000A>,
-        reader::Leaf<String<A>, 0x42000B>,
-    );
-
-    const TAG: u32 = 0x420008;
-
-    const DENIES_UNKNOWN: bool = false;
-
-    fn has_form() {}
-
-    #[tactic(auto, unfolding(crate::specs::Queries::text_attribute_value))]
-    fn from_fields(fields: (String<A>, String<A>)) -> Self {
-        let (name, value) = fields;
+    fn from_parts((name, value): Holds<TextAttributeParts<A>, A>) -> Self {
         TextAttribute { name, value }
     }
 }
 
-impl<A: Allocator + Copy> reader::ReadNested<A> for TextAttribute<A> {
-    ghost form = { text_attribute_form };
+impl<A: Allocator + Copy> Structure<A> for TextAttribute<A> {
+    ghost rules = { structure false ⟦<TextAttributeParts<A> as PartList<A>>⟧.rules ⟦<TextAttribute<A> as FromParts<A, TextAttributeParts<A>>>⟧.parts refl ⟦<TextAttribute<A> as PartialEq>⟧.eq (λ x y e. e) };
 
-    ghost value = { text_attribute_value };
+    fn read<'b>(scope: &Scope<'b, A>, tag: u32, cursor: &mut Cursor<'b, A>) -> Step<Self, A> {
+        read_structure::<TextAttributeParts<A>, Self, A>(scope, tag, false, cursor)
+    }
 
-    ghost TAG = { 0x420008 };
-
-    ghost structured = { (refl, refl) };
-
-    const TAG: u32 = 0x420008;
-
-    fn read_nested<'b>(
-        scope: &reader::Scope<'b, A>,
-        cursor: &mut reader::Cursor<'b, A>,
-    ) -> reader::Step<Self, A> {
-        reader::read_structure(scope, cursor)
+    fn tell_parts<W: Walk<A>>(&self, state: &mut W::State) -> Result<(), AllocError> {
+        W::two::<Leaf<String<A>, 0x42000A>, Leaf<String<A>, 0x42000B>>(
+            state,
+            &self.name,
+            &self.value,
+        )
     }
 }
 
@@ -116,46 +65,20 @@ impl<A: Allocator + Copy> reader::ReadNested<A> for TextAttribute<A> {
 #[derive_where(PartialEq)]
 pub struct LocateRequestPayload<A: Allocator = Global> {
     /// How many at most.
-    pub maximum_items: Option<MaximumItems>,
+    pub maximum_items: Option<i32>,
     /// What each of them has; without any, all objects are sought.
     pub attributes: Vec<TextAttribute<A>, A>,
 }
 
-impl<B: Allocator> Serialize for LocateRequestPayload<B> {
-    ghost stated = { written_locate_request_payload };
+type LocateRequestPayloadParts<A> = (
+    MaybeLeaf<i32, 0x42004F>,
+    Any<Of<TextAttribute<A>, 0x420008>, 0x420008>,
+);
 
-    fn visit<V: Visitor>(&self, visitor: &mut V) -> Result<(), AllocError> {
-        writing::begin_structure(visitor, 0x420079)?;
-        writing::option(visitor, &self.maximum_items)?;
-        writing::several(visitor, &self.attributes)?;
-        writing::end_structure(visitor, 0x420079)?;
-        Ok(())
-    }
-}
+impl<A: Allocator + Copy> FromParts<A, LocateRequestPayloadParts<A>> for LocateRequestPayload<A> {
+    ghost parts = { λ x. (x.maximum_items, x.attributes) };
 
-impl<A: Allocator + Copy> reader::ReadStructure<A> for LocateRequestPayload<A> {
-    ghost form = { locate_request_payload_form };
-
-    ghost value = { read_locate_request_payload };
-
-    ghost TAG = { 0x420079 };
-
-    ghost DENIES_UNKNOWN = { false };
-
-    type Fields = (
-        reader::OptionalItem<MaximumItems, 0x42004F>,
-        reader::OptionalSeveral<TextAttribute<A>>,
-    );
-
-    const TAG: u32 = 0x420079;
-
-    const DENIES_UNKNOWN: bool = false;
-
-    fn has_form() {}
-
-    #[tactic(auto, unfolding(crate::specs::Queries::read_locate_request_payload))]
-    fn from_fields(fields: (Option<MaximumItems>, Vec<TextAttribute<A>, A>)) -> Self {
-        let (maximum_items, attributes) = fields;
+    fn from_parts((maximum_items, attributes): Holds<LocateRequestPayloadParts<A>, A>) -> Self {
         LocateRequestPayload {
             maximum_items,
             attributes,
@@ -163,22 +86,51 @@ impl<A: Allocator + Copy> reader::ReadStructure<A> for LocateRequestPayload<A> {
     }
 }
 
-impl<A: Allocator + Copy> reader::ReadNested<A> for LocateRequestPayload<A> {
-    ghost form = { locate_request_payload_form };
+impl<A: Allocator + Copy> Structure<A> for LocateRequestPayload<A> {
+    ghost rules = { structure false ⟦<LocateRequestPayloadParts<A> as PartList<A>>⟧.rules ⟦<LocateRequestPayload<A> as FromParts<A, LocateRequestPayloadParts<A>>>⟧.parts refl ⟦<LocateRequestPayload<A> as PartialEq>⟧.eq (λ x y e. e) };
 
-    ghost value = { read_locate_request_payload };
+    fn read<'b>(scope: &Scope<'b, A>, tag: u32, cursor: &mut Cursor<'b, A>) -> Step<Self, A> {
+        read_structure::<LocateRequestPayloadParts<A>, Self, A>(scope, tag, false, cursor)
+    }
 
-    ghost TAG = { 0x420079 };
+    fn tell_parts<W: Walk<A>>(&self, state: &mut W::State) -> Result<(), AllocError> {
+        W::two::<MaybeLeaf<i32, 0x42004F>, Any<Of<TextAttribute<A>, 0x420008>, 0x420008>>(
+            state,
+            &self.maximum_items,
+            &self.attributes,
+        )
+    }
+}
 
-    ghost structured = { (refl, refl) };
+impl<A: Allocator + Copy> Serialize for LocateRequestPayload<A> {
+    ghost stated = { ⟦<Of<LocateRequestPayload<A>, 0x420079> as Element<A>>⟧.rules.written };
 
-    const TAG: u32 = 0x420079;
+    fn visit<V: Visitor>(&self, visitor: &mut V) -> Result<(), AllocError> {
+        visit_structure(self, 0x420079, visitor)
+    }
+}
 
-    fn read_nested<'b>(
-        scope: &reader::Scope<'b, A>,
-        cursor: &mut reader::Cursor<'b, A>,
-    ) -> reader::Step<Self, A> {
-        reader::read_structure(scope, cursor)
+impl<A: Allocator + Copy> Decode<A> for LocateRequestPayload<A> {
+    ghost form = { ⟦<Of<LocateRequestPayload<A>, 0x420079> as Element<A>>⟧.form };
+
+    ghost is_value = { λ v x. v ≡ ⟦<Of<LocateRequestPayload<A>, 0x420079> as Element<A>>⟧.value x };
+
+    fn decode(alloc: A, bytes: &[u8]) -> Result<Self, Error<A>> {
+        decode_structure::<LocateRequestPayloadParts<A>, Self, A>(alloc, 0x420079, false, bytes)
+    }
+}
+
+impl<A: Allocator + Copy> Sound for LocateRequestPayload<A> {
+    ghost IsSound = { ⟦<Of<LocateRequestPayload<A>, 0x420079> as Element<A>>⟧.rules.IsSound };
+
+    fn is_sound(&self) -> bool {
+        is_structure_whole(self)
+    }
+}
+
+impl<A: Allocator + Copy> Message<A> for LocateRequestPayload<A> {
+    fn comes_back() {
+        structures_come_back::<LocateRequestPayload<A>, 0x420079, A>();
     }
 }
 
@@ -212,80 +164,47 @@ const OBJECT_TYPE: [(&str, ObjectType); 2] = [
     ("0x00000002", ObjectType::SymmetricKey),
 ];
 
-impl ObjectType {
-    /// Its number, as rules see it: `0x` and eight digits.
-    pub fn number(self) -> &'static str
-        ensures { result.now ≡ object_type_number self }
-    {
+impl reader::Listed for ObjectType {
+    ghost own = { tag_text 0x420057 };
+
+    ghost variants = { object_type_variants };
+
+    ghost value = { λ x. unit_variant_value (tag_text 0x420057) (object_type_number x) };
+}
+
+impl Listed for ObjectType {
+    ghost tag = { 0x420057 };
+
+    ghost variants = { object_type_variants };
+
+    ghost rules = { record {
+      number = object_type_number;
+      units = object_type_is_unit;
+      eq = ⟦<ObjectType as PartialEq>⟧.eq;
+      same = λ x y e. true_same object_type_contract.the_type x y (object_type_same x y e);
+    } };
+
+    fn read_listed<'b, A: Allocator + Copy>(
+        scope: &Scope<'b, A>,
+        cursor: &mut Cursor<'b, A>,
+    ) -> Step<Self, A> {
+        cursor.listed(scope, &OBJECT_TYPE)
+    }
+
+    fn tag() -> u32 {
+        0x420057
+    }
+
+    #[tactic(auto, unfolding(kmip_ttlv_types::specs::Digits::six_digits))]
+    fn name() -> &'static str {
+        "0x420057"
+    }
+
+    fn number_text(self) -> &'static str {
         match self {
             ObjectType::Certificate => "0x00000001",
             ObjectType::SymmetricKey => "0x00000002",
         }
-    }
-}
-
-impl Serialize for ObjectType {
-    ghost stated = { object_type_value };
-
-    #[tactic(auto, unfolding(crate::specs::Queries::object_type_value))]
-    fn visit<V: Visitor>(&self, visitor: &mut V) -> Result<(), AllocError> {
-        writing::unit_variant(visitor, "0x420057", self.number())
-    }
-}
-
-impl reader::Listed for ObjectType {
-    ghost own = { codes "0x420057" };
-
-    ghost variants = { object_type_variants };
-
-    ghost value = { object_type_value };
-}
-
-impl<A: Allocator + Copy> reader::ReadItem<A> for ObjectType {
-    ghost form = { object_type_form };
-
-    ghost value = { object_type_value };
-
-    ghost plain = { (refl, refl) };
-
-    #[tactic(auto, unfolding(crate::specs::Queries::object_type_value))]
-    fn read_item<'b>(
-        scope: &reader::Scope<'b, A>,
-        cursor: &mut reader::Cursor<'b, A>,
-    ) -> reader::Step<Self, A> {
-        cursor.listed(scope, &OBJECT_TYPE)
-    }
-}
-
-/// A namespace that applications name objects in.
-#[derive(Drop)]
-#[derive_where(PartialEq)]
-pub struct ApplicationNamespace<A: Allocator = Global> {
-    /// What it holds.
-    pub name: String<A>,
-}
-
-impl<B: Allocator> Serialize for ApplicationNamespace<B> {
-    ghost stated = { application_namespace_value };
-
-    fn visit<V: Visitor>(&self, visitor: &mut V) -> Result<(), AllocError> {
-        writing::string(visitor, 0x420003, &self.name)
-    }
-}
-
-impl<A: Allocator + Copy> reader::ReadItem<A> for ApplicationNamespace<A> {
-    ghost form = { application_namespace_form };
-
-    ghost value = { application_namespace_value };
-
-    ghost plain = { (refl, refl) };
-
-    fn read_item<'b>(
-        scope: &reader::Scope<'b, A>,
-        cursor: &mut reader::Cursor<'b, A>,
-    ) -> reader::Step<Self, A> {
-        let name = cursor.wrapped_leaf(scope, 0x420003)?;
-        Ok(ApplicationNamespace { name })
     }
 }
 
@@ -300,80 +219,86 @@ pub struct QueryResponsePayload<A: Allocator = Global> {
     /// Who made it.
     pub vendor: Option<String<A>>,
     /// The namespaces that it knows.
-    pub namespaces: Vec<ApplicationNamespace<A>, A>,
+    pub application_namespaces: Vec<String<A>, A>,
 }
 
-impl<B: Allocator> Serialize for QueryResponsePayload<B> {
-    ghost stated = { written_query_response_payload };
+type QueryResponsePayloadParts<A> = (
+    Any<Operation, 0x42005C>,
+    Any<ListedItem<ObjectType>, 0x420057>,
+    MaybeLeaf<String<A>, 0x42009D>,
+    Any<LeafItem<String<A>, 0x420003>, 0x420003>,
+);
 
-    fn visit<V: Visitor>(&self, visitor: &mut V) -> Result<(), AllocError> {
-        writing::begin_structure(visitor, 0x42007C)?;
-        writing::several(visitor, &self.operations)?;
-        writing::several(visitor, &self.object_types)?;
-        writing::optional_text_string(visitor, 0x42009D, &self.vendor)?;
-        writing::several(visitor, &self.namespaces)?;
-        writing::end_structure(visitor, 0x42007C)?;
-        Ok(())
-    }
-}
+impl<A: Allocator + Copy> FromParts<A, QueryResponsePayloadParts<A>> for QueryResponsePayload<A> {
+    ghost parts = { λ x. (x.operations, x.object_types, x.vendor, x.application_namespaces) };
 
-impl<A: Allocator + Copy> reader::ReadStructure<A> for QueryResponsePayload<A> {
-    ghost form = { query_response_payload_form };
-
-    ghost value = { read_query_response_payload };
-
-    ghost TAG = { 0x42007C };
-
-    ghost DENIES_UNKNOWN = { false };
-
-    type Fields = (
-        reader::OptionalSeveralItems<Operation, 0x42005C>,
-        reader::OptionalSeveralItems<ObjectType, 0x420057>,
-        reader::OptionalLeaf<String<A>, 0x42009D>,
-        reader::OptionalSeveralItems<ApplicationNamespace<A>, 0x420003>,
-    );
-
-    const TAG: u32 = 0x42007C;
-
-    const DENIES_UNKNOWN: bool = false;
-
-    fn has_form() {}
-
-    #[tactic(auto, unfolding(crate::specs::Queries::read_query_response_payload))]
-    fn from_fields(
-        fields: (
-            Vec<Operation, A>,
-            Vec<ObjectType, A>,
-            Option<String<A>>,
-            Vec<ApplicationNamespace<A>, A>,
-        ),
+    fn from_parts(
+        (operations, object_types, vendor, application_namespaces): Holds<
+            QueryResponsePayloadParts<A>,
+            A,
+        >,
     ) -> Self {
-        let (operations, object_types, vendor, namespaces) = fields;
         QueryResponsePayload {
             operations,
             object_types,
             vendor,
-            namespaces,
+            application_namespaces,
         }
     }
 }
 
-impl<A: Allocator + Copy> reader::ReadNested<A> for QueryResponsePayload<A> {
-    ghost form = { query_response_payload_form };
+impl<A: Allocator + Copy> Structure<A> for QueryResponsePayload<A> {
+    ghost rules = { structure false ⟦<QueryResponsePayloadParts<A> as PartList<A>>⟧.rules ⟦<QueryResponsePayload<A> as FromParts<A, QueryResponsePayloadParts<A>>>⟧.parts refl ⟦<QueryResponsePayload<A> as PartialEq>⟧.eq (λ x y e. e) };
 
-    ghost value = { read_query_response_payload };
+    fn read<'b>(scope: &Scope<'b, A>, tag: u32, cursor: &mut Cursor<'b, A>) -> Step<Self, A> {
+        read_structure::<QueryResponsePayloadParts<A>, Self, A>(scope, tag, false, cursor)
+    }
 
-    ghost TAG = { 0x42007C };
+    fn tell_parts<W: Walk<A>>(&self, state: &mut W::State) -> Result<(), AllocError> {
+        W::four::<
+            Any<Operation, 0x42005C>,
+            Any<ListedItem<ObjectType>, 0x420057>,
+            MaybeLeaf<String<A>, 0x42009D>,
+            Any<LeafItem<String<A>, 0x420003>, 0x420003>,
+        >(
+            state,
+            &self.operations,
+            &self.object_types,
+            &self.vendor,
+            &self.application_namespaces,
+        )
+    }
+}
 
-    ghost structured = { (refl, refl) };
+impl<A: Allocator + Copy> Serialize for QueryResponsePayload<A> {
+    ghost stated = { ⟦<Of<QueryResponsePayload<A>, 0x42007C> as Element<A>>⟧.rules.written };
 
-    const TAG: u32 = 0x42007C;
+    fn visit<V: Visitor>(&self, visitor: &mut V) -> Result<(), AllocError> {
+        visit_structure(self, 0x42007C, visitor)
+    }
+}
 
-    fn read_nested<'b>(
-        scope: &reader::Scope<'b, A>,
-        cursor: &mut reader::Cursor<'b, A>,
-    ) -> reader::Step<Self, A> {
-        reader::read_structure(scope, cursor)
+impl<A: Allocator + Copy> Decode<A> for QueryResponsePayload<A> {
+    ghost form = { ⟦<Of<QueryResponsePayload<A>, 0x42007C> as Element<A>>⟧.form };
+
+    ghost is_value = { λ v x. v ≡ ⟦<Of<QueryResponsePayload<A>, 0x42007C> as Element<A>>⟧.value x };
+
+    fn decode(alloc: A, bytes: &[u8]) -> Result<Self, Error<A>> {
+        decode_structure::<QueryResponsePayloadParts<A>, Self, A>(alloc, 0x42007C, false, bytes)
+    }
+}
+
+impl<A: Allocator + Copy> Sound for QueryResponsePayload<A> {
+    ghost IsSound = { ⟦<Of<QueryResponsePayload<A>, 0x42007C> as Element<A>>⟧.rules.IsSound };
+
+    fn is_sound(&self) -> bool {
+        is_structure_whole(self)
+    }
+}
+
+impl<A: Allocator + Copy> Message<A> for QueryResponsePayload<A> {
+    fn comes_back() {
+        structures_come_back::<QueryResponsePayload<A>, 0x42007C, A>();
     }
 }
 
@@ -410,49 +335,48 @@ const RESULT_STATUS: [(&str, ResultStatus); 3] = [
     ("0x00000003", ResultStatus::Undone),
 ];
 
-impl ResultStatus {
-    /// Its number, as rules see it: `0x` and eight digits.
-    pub fn number(self) -> &'static str
-        ensures { result.now ≡ result_status_number self }
-    {
+impl reader::Listed for ResultStatus {
+    ghost own = { tag_text 0x42007F };
+
+    ghost variants = { result_status_variants };
+
+    ghost value = { λ x. unit_variant_value (tag_text 0x42007F) (result_status_number x) };
+}
+
+impl Listed for ResultStatus {
+    ghost tag = { 0x42007F };
+
+    ghost variants = { result_status_variants };
+
+    ghost rules = { record {
+      number = result_status_number;
+      units = result_status_is_unit;
+      eq = ⟦<ResultStatus as PartialEq>⟧.eq;
+      same = λ x y e. true_same result_status_contract.the_type x y (result_status_same x y e);
+    } };
+
+    fn read_listed<'b, A: Allocator + Copy>(
+        scope: &Scope<'b, A>,
+        cursor: &mut Cursor<'b, A>,
+    ) -> Step<Self, A> {
+        cursor.listed(scope, &RESULT_STATUS)
+    }
+
+    fn tag() -> u32 {
+        0x42007F
+    }
+
+    #[tactic(auto, unfolding(kmip_ttlv_types::specs::Digits::six_digits))]
+    fn name() -> &'static str {
+        "0x42007F"
+    }
+
+    fn number_text(self) -> &'static str {
         match self {
             ResultStatus::Failed => "0x00000001",
             ResultStatus::Pending => "0x00000002",
             ResultStatus::Undone => "0x00000003",
         }
-    }
-}
-
-impl Serialize for ResultStatus {
-    ghost stated = { result_status_value };
-
-    #[tactic(auto, unfolding(crate::specs::Queries::result_status_value))]
-    fn visit<V: Visitor>(&self, visitor: &mut V) -> Result<(), AllocError> {
-        writing::unit_variant(visitor, "0x42007F", self.number())
-    }
-}
-
-impl reader::Listed for ResultStatus {
-    ghost own = { codes "0x42007F" };
-
-    ghost variants = { result_status_variants };
-
-    ghost value = { result_status_value };
-}
-
-impl<A: Allocator + Copy> reader::ReadItem<A> for ResultStatus {
-    ghost form = { result_status_form };
-
-    ghost value = { result_status_value };
-
-    ghost plain = { (refl, refl) };
-
-    #[tactic(auto, unfolding(crate::specs::Queries::result_status_value))]
-    fn read_item<'b>(
-        scope: &reader::Scope<'b, A>,
-        cursor: &mut reader::Cursor<'b, A>,
-    ) -> reader::Step<Self, A> {
-        cursor.listed(scope, &RESULT_STATUS)
     }
 }
 
@@ -470,52 +394,17 @@ pub struct FailedItem<A: Allocator = Global> {
     pub message: Option<String<A>>,
 }
 
-impl<B: Allocator> Serialize for FailedItem<B> {
-    ghost stated = { written_failed_item };
+type FailedItemParts<A> = (
+    One<Operation>,
+    One<ListedItem<ResultStatus>>,
+    Maybe<ResultReason, 0x42007E>,
+    MaybeLeaf<String<A>, 0x42007D>,
+);
 
-    fn visit<V: Visitor>(&self, visitor: &mut V) -> Result<(), AllocError> {
-        writing::begin_structure(visitor, 0x42000F)?;
-        self.operation.visit(visitor)?;
-        self.status.visit(visitor)?;
-        writing::option(visitor, &self.reason)?;
-        writing::optional_text_string(visitor, 0x42007D, &self.message)?;
-        writing::end_structure(visitor, 0x42000F)?;
-        Ok(())
-    }
-}
+impl<A: Allocator + Copy> FromParts<A, FailedItemParts<A>> for FailedItem<A> {
+    ghost parts = { λ x. (x.operation, x.status, x.reason, x.message) };
 
-impl<A: Allocator + Copy> reader::ReadStructure<A> for FailedItem<A> {
-    ghost form = { failed_item_form };
-
-    ghost value = { read_failed_item };
-
-    ghost TAG = { 0x42000F };
-
-    ghost DENIES_UNKNOWN = { false };
-
-    type Fields = (
-        reader::Item<Operation, 0x42005C>,
-        reader::Item<ResultStatus, 0x42007F>,
-        reader::OptionalItem<ResultReason, 0x42007E>,
-        reader::OptionalLeaf<String<A>, 0x42007D>,
-    );
-
-    const TAG: u32 = 0x42000F;
-
-    const DENIES_UNKNOWN: bool = false;
-
-    fn has_form() {}
-
-    #[tactic(auto, unfolding(crate::specs::Queries::read_failed_item))]
-    fn from_fields(
-        fields: (
-            Operation,
-            ResultStatus,
-            Option<ResultReason>,
-            Option<String<A>>,
-        ),
-    ) -> Self {
-        let (operation, status, reason, message) = fields;
+    fn from_parts((operation, status, reason, message): Holds<FailedItemParts<A>, A>) -> Self {
         FailedItem {
             operation,
             status,
@@ -525,12 +414,57 @@ impl<A: Allocator + Copy> reader::ReadStructure<A> for FailedItem<A> {
     }
 }
 
+impl<A: Allocator + Copy> Structure<A> for FailedItem<A> {
+    ghost rules = { structure false ⟦<FailedItemParts<A> as PartList<A>>⟧.rules ⟦<FailedItem<A> as FromParts<A, FailedItemParts<A>>>⟧.parts refl ⟦<FailedItem<A> as PartialEq>⟧.eq (λ x y e. e) };
+
+    fn read<'b>(scope: &Scope<'b, A>, tag: u32, cursor: &mut Cursor<'b, A>) -> Step<Self, A> {
+        read_structure::<FailedItemParts<A>, Self, A>(scope, tag, false, cursor)
+    }
+
+    fn tell_parts<W: Walk<A>>(&self, state: &mut W::State) -> Result<(), AllocError> {
+        W::four::<
+            One<Operation>,
+            One<ListedItem<ResultStatus>>,
+            Maybe<ResultReason, 0x42007E>,
+            MaybeLeaf<String<A>, 0x42007D>,
+        >(
+            state,
+            &self.operation,
+            &self.status,
+            &self.reason,
+            &self.message,
+        )
+    }
+}
+
+impl<A: Allocator + Copy> Serialize for FailedItem<A> {
+    ghost stated = { ⟦<Of<FailedItem<A>, 0x42000F> as Element<A>>⟧.rules.written };
+
+    fn visit<V: Visitor>(&self, visitor: &mut V) -> Result<(), AllocError> {
+        visit_structure(self, 0x42000F, visitor)
+    }
+}
+
 impl<A: Allocator + Copy> Decode<A> for FailedItem<A> {
-    ghost form = { failed_item_form };
+    ghost form = { ⟦<Of<FailedItem<A>, 0x42000F> as Element<A>>⟧.form };
 
-    ghost is_value = { λ v x. v ≡ read_failed_item x };
+    ghost is_value = { λ v x. v ≡ ⟦<Of<FailedItem<A>, 0x42000F> as Element<A>>⟧.value x };
 
-    fn decode(alloc: A, bytes: &[u8]) -> Result<Self, error::Error<A>> {
-        reader::read_message(alloc, bytes)
+    fn decode(alloc: A, bytes: &[u8]) -> Result<Self, Error<A>> {
+        decode_structure::<FailedItemParts<A>, Self, A>(alloc, 0x42000F, false, bytes)
+    }
+}
+
+impl<A: Allocator + Copy> Sound for FailedItem<A> {
+    ghost IsSound = { ⟦<Of<FailedItem<A>, 0x42000F> as Element<A>>⟧.rules.IsSound };
+
+    fn is_sound(&self) -> bool {
+        is_structure_whole(self)
+    }
+}
+
+impl<A: Allocator + Copy> Message<A> for FailedItem<A> {
+    fn comes_back() {
+        structures_come_back::<FailedItem<A>, 0x42000F, A>();
     }
 }

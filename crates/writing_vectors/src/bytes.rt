@@ -2,7 +2,6 @@
 
 use hex::FromHexError;
 use kmip_ttlv::error::Result;
-use kmip_ttlv::reader::{ReadStructure, read_message};
 use kmip_ttlv::shape::{Data, Decode, Serialize};
 use kmip_ttlv::{from_slice, to_vec};
 use std::alloc::Global;
@@ -90,31 +89,16 @@ fn is_found<T: PartialEq>(found: &Result<T>, value: &T) -> bool {
     matches!(found, Ok(found) if *found == *value)
 }
 
-/// Whether a part is written as the bytes of texts in hexadecimal, and read of them.
-pub fn is_both_ways<T: Serialize + ReadStructure<Global> + PartialEq + Drop>(
+/// Whether a message is written as the bytes of texts in hexadecimal, and read of them.
+pub fn is_both_ways<T: Serialize + Decode<Global> + PartialEq>(
     alloc: Global,
     value: &T,
     texts: &[&str],
 ) -> bool {
     match &joined(alloc, texts) {
-        Ok(bytes) => {
-            is_written(alloc, value, bytes) && is_found(&read_message(alloc, bytes), value)
-        }
+        Ok(bytes) => is_written(alloc, value, bytes) && is_found(&from_slice(alloc, bytes), value),
         Err(_) => false,
     }
-}
-
-/// Whether messages are written as the bytes beside them, in hexadecimal, and read of them.
-pub fn come_back<T: Serialize + Decode<Global> + PartialEq>(
-    alloc: Global,
-    rows: &[(T, &str)],
-) -> bool {
-    for row in rows {
-        if !comes_back(alloc, &row.0, row.1) {
-            return false;
-        }
-    }
-    true
 }
 
 /// Whether a message is written as these bytes, in hexadecimal, and read of them.
@@ -123,8 +107,5 @@ pub fn comes_back<T: Serialize + Decode<Global> + PartialEq>(
     value: &T,
     text: &str,
 ) -> bool {
-    match &hex::decode(alloc, text) {
-        Ok(bytes) => is_written(alloc, value, bytes) && is_found(&from_slice(alloc, bytes), value),
-        Err(_) => false,
-    }
+    is_both_ways(alloc, value, &[text])
 }

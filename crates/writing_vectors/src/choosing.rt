@@ -3,13 +3,13 @@
 use kmip_ttlv::laws::{Message, reread};
 use sample_shapes::rereads::{comes_back, decoded};
 use std::alloc::{AllocError, Global};
-use ttlv_vectors::chosen::{Chosen, Count, Line, Named, Said, Word};
+use ttlv_vectors::chosen::{Chosen, Named, Said};
 
 // Messages, made of items by hand, and whether they come back, or aren't decoded.
 const MESSAGES: [(&str, &str, bool); 5] = [
     (
-        "a label: texts, a number more, and two labels",
-        "540074010000006054007007000000054C6162656C00000054007107000000036F6E650000000000540072070000000374776F0000000000540071020000000400000003000000005400730700000004686F6D65000000005400730700000004776F726B00000000",
+        "a label: texts, and a number more",
+        "540074010000004054007007000000054C6162656C00000054007107000000036F6E650000000000540072070000000374776F000000000054007302000000040000000300000000",
         true,
     ),
     (
@@ -18,8 +18,8 @@ const MESSAGES: [(&str, &str, bool); 5] = [
         true,
     ),
     (
-        "an address: a number, a text more, and an address",
-        "5400740100000048540070070000000741646472657373005400710200000004000000000000000054007107000000046D6F726500000000540073070000000D4D61696E205374726565742031000000",
+        "an address: a number, a text, and a text more",
+        "54007401000000485400700700000007416464726573730054007102000000040000000000000000540072070000000D4D61696E20737472656574203100000054007307000000046D6F726500000000",
         true,
     ),
     (
@@ -52,15 +52,10 @@ fn choices_come_back(rt: HostRuntime) {
 // A message with this word and a number.
 fn chosen(alloc: Global, word: &str) -> Result<Chosen, AllocError> {
     Ok(Chosen {
-        word: Word {
-            text: String::from_str(alloc, word)?,
-        },
-        said: Said::Line(Line {
-            text: String::new(alloc),
-        }),
-        named: Some(Named::Count(Count { number: 3 })),
+        word: String::from_str(alloc, word)?,
+        said: Said::Line(String::new(alloc)),
+        named: Some(Named::Count(3)),
         more: None,
-        places: Vec::new(alloc),
     })
 }
 

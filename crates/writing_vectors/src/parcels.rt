@@ -5,6 +5,7 @@ use crate::parts::contents;
 use kmip_ttlv::Boxed;
 use kmip_ttlv::laws::Sound;
 use kmip_ttlv::memory::BoundedAllocator;
+use kmip_ttlv::reader::{DateTime, Interval};
 use sample_shapes::rereads::comes_back_in;
 use std::alloc::{AllocError, Allocator, Global};
 use ttlv_vectors::leaves::Moments;
@@ -19,9 +20,9 @@ const SMALL: &str = "5400800100000038";
 
 // What the parts are made of: the number is that of `CONTENTS`.
 const TIMES: Moments = Moments {
-    date: 0x4AFB_E7C2,
+    date: DateTime(0x4AFB_E7C2),
     truth: true,
-    seconds: 3600,
+    seconds: Interval(3600),
 };
 
 const BIG: [u8; 8] = [0, 0, 0, 0, 0, 0, 1, 1];
@@ -68,7 +69,7 @@ fn has_what_was_put_in(alloc: Global) -> bool {
         Ok(moments) => {
             let seconds = moments.seconds;
             let inner = moments.into_inner();
-            seconds == 3600 && inner == TIMES
+            seconds.0 == 3600 && inner == TIMES
         }
         Err(_) => false,
     }

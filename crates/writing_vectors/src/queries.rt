@@ -4,12 +4,13 @@
 use crate::bytes::{is_both_ways, joined};
 use crate::low_level::is_text;
 use kmip_ttlv::error::{Error, ErrorKind};
-use kmip_ttlv::reader::{ReadStructure, read_message};
+use kmip_ttlv::from_slice;
+use kmip_ttlv::shape::Decode;
 use kmip_ttlv_memory::BoundedAllocator;
 use std::alloc::{AllocError, Global};
 use ttlv_vectors::query::{
-    ApplicationNamespace, FailedItem, LocateRequestPayload, MaximumItems, ObjectType, Operation,
-    QueryResponsePayload, ResultReason, ResultStatus, TextAttribute, operation, result_reason,
+    FailedItem, LocateRequestPayload, ObjectType, Operation, QueryResponsePayload, ResultReason,
+    ResultStatus, TextAttribute, operation, result_reason,
 };
 
 // Ten at most; the group of an object.
@@ -47,11 +48,7 @@ fn search(
     is_bounded: bool,
     count: usize,
 ) -> Result<LocateRequestPayload, AllocError> {
-    let maximum_items = if is_bounded {
-        Some(MaximumItems { count: 10 })
-    } else {
-        None
-    };
+    let maximum_items = if is_bounded { Some(10) } else { None };
     let mut search = LocateRequestPayload {
         maximum_items,
         attributes: Vec::new(alloc),
@@ -123,11 +120,6 @@ fn text(alloc: Global, text: Option<&str>) -> Result<Option<String>, AllocError>
     }
 }
 
-fn namespace(alloc: Global) -> Result<ApplicationNamespace, AllocError> {
-    let name = String::from_str(alloc, "ssl")?;
-    Ok(ApplicationNamespace { name })
-}
-
 // An answer of these.
 fn answer(alloc: Global, row: &AnswerRow) -> Result<QueryResponsePayload, AllocError> {
     let vendor = text(alloc, row.2)?;
@@ -135,12 +127,14 @@ fn answer(alloc: Global, row: &AnswerRow) -> Result<QueryResponsePayload, AllocE
         operations: Vec::new(alloc),
         object_types: Vec::new(alloc),
         vendor,
-        namespaces: Vec::new(alloc),
+        application_namespaces: Vec::new(alloc),
     };
     answer.operations.extend_from_slice(row.0)?;
     answer.object_types.extend_from_slice(row.1)?;
     for _ in 0..row.3 {
-        answer.namespaces.push(namespace(alloc)?)?;
+        answer
+            .application_namespaces
+            .push(String::from_str(alloc, "ssl")?)?;
     }
     Ok(answer)
 }
@@ -162,11 +156,11 @@ fn answers(rt: HostRuntime) {
 }
 
 // Whether bytes are no such payload, for this error and place.
-fn is_error<T: ReadStructure<Global> + Drop>(alloc: Global, text: &str, wanted: &str) -> bool {
+fn is_error<T: Decode<Global>>(alloc: Global, text: &str, wanted: &str) -> bool {
     let Ok(bytes) = &hex::decode(alloc, text) else {
         return false;
     };
-    let found: Result<T, Error> = read_message(alloc, bytes);
+    let found: Result<T, Error> = from_slice(alloc, bytes);
     match &found {
         Ok(_) => false,
         Err(error) => is_text(
@@ -316,7 +310,7 @@ fn any_number_is_read_and_written(rt: HostRuntime) {
 // though one failed, or for any other answer.
 fn runs_out(alloc: Global, bytes: &[u8], before: u64) -> Option<bool> {
     let heap = BoundedAllocator::failing_after(alloc, before);
-    let read: Result<LocateRequestPayload<_>, Error<_>> = read_message(&heap, bytes);
+    let read: Result<LocateRequestPayload<_>, Error<_>> = from_slice(&heap, bytes);
     match (&read, heap.has_failed()) {
         (Ok(payload), false) if payload.attributes.len() == 3 => Some(false),
         (Err(error), true) if matches!(error.kind(), ErrorKind::OutOfMemory) => Some(true),

@@ -1,4 +1,0 @@
-use Rattle.kmip_messages.proofs.laws.equal_choices.Goals as goal
-
-pub returns : goal.returns
-returns g c = g.C.Choice.chosen.rules.same

@@ -1,7 +1,0 @@
--- Written by codegen from types.table: change that, and run codegen/codegen.
--- What it answers, by what it holds.
-use Rattle.kmip_ttlv_kinds.proofs.Whole.{all_sound}
-use Rattle.kmip_objects.proofs.key.KeyBlockStructure.is_whole.Goals as goal
-
-pub returns : goal.returns
-returns g c = all_sound c.both.ensures c.are_whole_four-first_four.ensures c.are_whole_two-others.ensures

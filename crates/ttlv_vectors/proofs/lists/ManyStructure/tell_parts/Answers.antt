@@ -1,0 +1,4 @@
+use Rattle.ttlv_vectors.proofs.lists.ManyStructure.tell_parts.Goals as goal
+
+pub returns-clause-told : goal.returns-clause-told
+returns-clause-told g c = g.W.Walk.steps.behind _ _ _ _ _ c.in_ok-four.ensures.told c.in_ok-two.ensures.told
