@@ -1,22 +1,26 @@
 # Completion of the command ttlv for bash. Written by codegen/completions.
 _ttlv() {
     local word=${COMP_WORDS[COMP_CWORD]} before=${COMP_WORDS[COMP_CWORD - 1]} command= options=
+    # bash takes `=` for a word of its own
+    [ "$word" != = ] || word= before=$before=
+    [ "$before" != = ] || before=${COMP_WORDS[COMP_CWORD - 2]}=
     case $before in
-    --width) COMPREPLY=(); return ;;
-    --tag) COMPREPLY=(); return ;;
-    --color) COMPREPLY=($(compgen -W 'always never auto' -- "$word")); return ;;
-    --input) COMPREPLY=($(compgen -W 'raw hex base64 base64url pem xxd hexdump od tcpdump' -- "$word")); return ;;
-    --prefix) COMPREPLY=(); return ;;
+    --redact=) COMPREPLY=($(compgen -W 'all keys' -- "$word")); return ;;
+    --width | --width=) COMPREPLY=(); return ;;
+    --tag | --tag=) COMPREPLY=(); return ;;
+    --color | --color=) COMPREPLY=($(compgen -W 'always never auto' -- "$word")); return ;;
+    --input | --input=) COMPREPLY=($(compgen -W 'raw hex base64 base64url pem xxd hexdump od tcpdump' -- "$word")); return ;;
+    --prefix | --prefix=) COMPREPLY=(); return ;;
     esac
     [ "$COMP_CWORD" -gt 1 ] && command=${COMP_WORDS[1]}
     case $command in
     '') options='show diag undiag check hex json from-json --help --version' ;;
-    show) options='--redact --secrets --strict --raw --offsets --lengths --width --tag --color --names --input --help' ;;
+    show) options='--redact --redact=all --redact=keys --secrets --strict --raw --find --offsets --lengths --width --tag --color --names --input --help' ;;
     diag) options='--prefix --closed --unclosed --strict --input --help' ;;
     undiag) options='--prefix --names --help' ;;
     check) options='--kmip --allow-empty --input --help' ;;
     hex) options='--input --help' ;;
-    json) options='--redact --secrets --strict --input --help' ;;
+    json) options='--redact --redact=all --redact=keys --secrets --strict --input --help' ;;
     from-json) options='--raw --help' ;;
     esac
     if [ -z "$command" ] || [[ $word == -* ]]; then

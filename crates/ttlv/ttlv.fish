@@ -12,6 +12,7 @@ complete -c ttlv -n '__fish_seen_subcommand_from show json' -l redact -f -a 'all
 complete -c ttlv -n '__fish_seen_subcommand_from show json' -l secrets -r -d 'A file with further tags that --redact=keys hides, as `540001 Own Secret`, a line for each'
 complete -c ttlv -n '__fish_seen_subcommand_from show diag json' -l strict -d 'Prints nothing of a malformed message, and no tag at its error; so does --redact'
 complete -c ttlv -n '__fish_seen_subcommand_from show' -l raw -d 'Prints texts as they are, with their control characters and backslashes'
+complete -c ttlv -n '__fish_seen_subcommand_from show' -l find -d 'Prints the request and response messages that stand anywhere in the input, with their offsets: in a log, a literal, HTTP'
 complete -c ttlv -n '__fish_seen_subcommand_from show' -l offsets -d 'Prints the offset of each item, in bytes, in front of its line'
 complete -c ttlv -n '__fish_seen_subcommand_from show' -l lengths -d 'Prints how many bytes the value of each item has, in front of its line; not with --redact'
 complete -c ttlv -n '__fish_seen_subcommand_from show' -l width -x -d 'The most bytes that are printed of a byte string'

@@ -17,6 +17,8 @@ mod faults;
 #[cfg(test)]
 mod files;
 #[cfg(test)]
+mod finds;
+#[cfg(test)]
 mod json_memory;
 #[cfg(test)]
 mod jsons;

@@ -6,8 +6,14 @@ use ttlv_run::{Asked, Encoding, Hiding, Look, Strict, Task, Values, request_of};
 // Arguments, what they ask for, the file of names, and how many files are read.
 type Row = (&'static str, Asked<'static>, Option<&'static str>, usize);
 
-const ASKED: [Row; 26] = [
+const ASKED: [Row; 27] = [
     ("ttlv from-json", Asked::FromJson { raw: false }, None, 0),
+    (
+        "ttlv show --find a",
+        Asked::Find { look: Look::PLAIN },
+        None,
+        1,
+    ),
     (
         "ttlv from-json --raw a b",
         Asked::FromJson { raw: true },

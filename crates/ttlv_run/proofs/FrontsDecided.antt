@@ -7,7 +7,7 @@ use Rattle.std.proofs.lemmas.List.{take-append-le, drop-append-le, get_or_append
 use Rattle.ttlv_run.specs.declared.{form.Form.Form, job.Encoding.Encoding, job.Encoding.TheVariants.Detected, job.Encoding.TheVariants.Raw}
 use Rattle.ttlv_run.specs.Columns.{mark_length, body}
 use Rattle.ttlv_run.specs.Fronts.{is_some, front_size, taken_as}
-use Rattle.ttlv_run.specs.Guesses.{has_control, looks_raw, front_of, front_found, text_found}
+use Rattle.ttlv_run.specs.Guesses.{is_raw, looks_raw, front_of, front_found, text_found}
 use Rattle.ttlv_run.specs.Inputs.{form_of, is_detected, encoding_of}
 
 -- it has four bytes at least
@@ -43,7 +43,7 @@ module _ (s more : List ℕ) (long : front_size Detected s ≤ length s) where
   few_on = le-ltb (length (s ++ more)) 4 (omega (arith, four, length-append s more))
 
   raw : looks_raw (s ++ more) ≡ looks_raw s
-  raw = ap has_control (take-append-le 4 s more four)
+  raw = ap is_raw (take-append-le 4 s more four)
 
   decided_by : (r : Bool) → looks_raw s ≡ r → (o : Option Encoding) → front_of s ≡ o → Decided Detected s more
   decided_by true is o of = record { size = rw (few_on, few, raw, is) refl; encoding = rw (raw, is) refl }

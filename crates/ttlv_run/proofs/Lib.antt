@@ -33,3 +33,4 @@ pub mod Asking
 pub mod OwnTables
 pub mod Tagging
 pub mod Written
+pub mod Finding

@@ -3,11 +3,13 @@ use Rattle.std.specs.Borrow.{Bor}
 use Rattle.std.specs.Prelude.{◌≡◌, ℕ, Bool, true, false, List, Some, None, Result, Ok, Err}
 use Rattle.kmip_ttlv_types.specs.Held.{Held, Rests, Says}
 use Rattle.ttlv_run.specs.declared.back.BackFault.{BackFault}
+use Rattle.ttlv_run.specs.declared.find.FindFault.{FindFault}
 use Rattle.ttlv_run.specs.declared.from_json.LineFault.{LineFault}
 use Rattle.ttlv_run.specs.declared.job.Asked.{Asked}
-use Rattle.ttlv_run.specs.declared.job.Asked.TheVariants.{Print, ReadBack, FromJson}
+use Rattle.ttlv_run.specs.declared.job.Asked.TheVariants.{Print, ReadBack, FromJson, Find}
 use Rattle.ttlv_run.specs.declared.run_error.RunError.{RunError}
 use Rattle.ttlv_run.specs.Backs.{back_line}
+use Rattle.ttlv_run.specs.Finds.{FoundAll, LacksSome, FailsToFind, find_line}
 use Rattle.ttlv_run.specs.JsonLines.{PrintedJson, FaultsJson, FailsJson, bad_line}
 use Rattle.ttlv_run.specs.Reasons.{status_in, error_line}
 use Rattle.ttlv_run.specs.Runs.{Streams, Printed, Breaks, Fails, PrintedBack, FailsBack}
@@ -18,20 +20,23 @@ abbrev pub IsWhole : Names → Asked → Bor (List ℕ) → Streams → Type 0
 IsWhole names (Print task encoding) name s = Printed names (record { name = name; task = task; encoding = encoding }) s
 IsWhole names (ReadBack prefix) name s = PrintedBack names prefix.now s None
 IsWhole names (FromJson raw) name s = PrintedJson raw s
+IsWhole names (Find look) name s = FoundAll names look s
 
--- something is malformed, this line says so, and exactly what is printed in spite of it was appended: what stands in front of it, or
--- what all lines of diagnostics are read back as, each as far as it goes
+-- something is malformed or not found, this line says so, and exactly what is printed in spite of it was appended: what stands in
+-- front of it, or what all lines of diagnostics are read back as, each as far as it goes
 abbrev pub IsMalformed : Names → Asked → Bor (List ℕ) → Streams → List ℕ → Type 0
 IsMalformed names (Print task encoding) name s line = Breaks names (record { name = name; task = task; encoding = encoding }) s line
 IsMalformed names (ReadBack prefix) name s line =
     (fault : BackFault) × PrintedBack names prefix.now s (Some fault) × (line ≡ back_line name.now fault)
 IsMalformed names (FromJson raw) name s line = (fault : LineFault) × FaultsJson raw s fault × (line ≡ bad_line name.now fault)
+IsMalformed names (Find look) name s line = (fault : FindFault) × LacksSome names look s fault × (line ≡ find_line name.now fault)
 
 -- it ended early for this reason, which is true of the input or of the output, and what was printed by then was appended
 abbrev pub EndsEarly : Names → Asked → Bor (List ℕ) → Streams → RunError → Type 0
 EndsEarly names (Print task encoding) name s why = Fails names (record { name = name; task = task; encoding = encoding }) s why
 EndsEarly names (ReadBack prefix) name s why = FailsBack names prefix.now s why
 EndsEarly names (FromJson raw) name s why = FailsJson raw s why
+EndsEarly names (Find look) name s why = FailsToFind names look s why
 
 -- how it ended: all is whole; or something is malformed, or there is a reason to end early, and its line was appended to the errors, as
 -- far as they have room

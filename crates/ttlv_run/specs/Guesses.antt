@@ -13,9 +13,23 @@ abbrev pub has_control : List ℕ → Bool
 has_control [] = false
 has_control (b ∷ s) = is_control b || has_control s
 
--- raw messages have such a byte among the first four, since the root's type has the code 1
+-- a text is these four bytes
+abbrev pub are_four : List ℕ → ℕ → ℕ → ℕ → ℕ → Bool
+are_four s a b c d = slice_index s 0 == a && (slice_index s 1 == b && (slice_index s 2 == c && slice_index s 3 == d))
+
+-- a packet capture begins with these, of pcap in either order of bytes and either resolution, or of pcapng
+abbrev pub is_capture : List ℕ → Bool
+is_capture s =
+    are_four s 0xA1 0xB2 0xC3 0xD4 || are_four s 0xD4 0xC3 0xB2 0xA1 || are_four s 0xA1 0xB2 0x3C 0x4D || are_four s 0x4D 0x3C 0xB2 0xA1
+    || are_four s 0x0A 0x0D 0x0D 0x0A
+
+-- no text begins with these bytes
+abbrev pub is_raw : List ℕ → Bool
+is_raw s = has_control s || is_capture s
+
+-- raw messages have a byte that stands in no text among the first four, since the root's type has the code 1
 abbrev pub looks_raw : List ℕ → Bool
-looks_raw s = has_control (take 4 s)
+looks_raw s = is_raw (take 4 s)
 
 -- the first byte that doesn't stand between digits
 abbrev pub first_byte : List ℕ → Option ℕ

@@ -1,7 +1,7 @@
 -- The line with a file's name, which stands in front of what is shown of it where there are several.
 use Rattle.std.specs.Prelude.{◌≡◌, ℕ, Bool, true, false, ◌&&◌, nat_lt, List, ◌++◌, codes}
 use Rattle.ttlv_run.specs.declared.job.Asked.{Asked}
-use Rattle.ttlv_run.specs.declared.job.Asked.TheVariants.{Print}
+use Rattle.ttlv_run.specs.declared.job.Asked.TheVariants.{Print, Find}
 use Rattle.ttlv_run.specs.declared.job.Strict.TheVariants.{Show as ShowWhole}
 use Rattle.ttlv_run.specs.declared.job.Task.TheVariants.{Show, Whole}
 use Rattle.ttlv_run.specs.declared.run_error.RunError.{RunError}
@@ -13,6 +13,7 @@ use Rattle.ttlv_run.specs.Reasons.{IsOfPrinting, PrintsFront}
 abbrev pub asks_for_lines : Asked → Bool
 asks_for_lines (Print (Show look) encoding) = true
 asks_for_lines (Print (Whole (ShowWhole look)) encoding) = true
+asks_for_lines (Find look) = true
 asks_for_lines asked = false
 
 -- the line stands in front of what is printed of each of so many files: readable lines of several

@@ -27,3 +27,5 @@ pub mod Tables
 pub mod Tags
 pub mod Texts
 pub mod Tools
+pub mod Finds
+pub mod Kinds

@@ -10,9 +10,11 @@ use Rattle.kmip_ttlv_items.specs.declared.found.FaultKind.TheVariants.{Cut, NoSt
 use Rattle.kmip_ttlv_items.specs.declared.found.FaultKind.TheVariants.{WrongLength, Overlong, InvalidValue, Surplus}
 use Rattle.ttlv_run.specs.declared.job.Task.{Task}
 use Rattle.ttlv_run.specs.declared.job.Task.TheVariants.{Check, Whole as OfWhole}
+use Rattle.ttlv_run.specs.declared.kind.InputKind.{InputKind}
 use Rattle.ttlv_run.specs.declared.messages.Place.{Place}
 use Rattle.ttlv_run.specs.declared.messages.Wrong.{Wrong}
 use Rattle.ttlv_run.specs.declared.messages.Wrong.TheVariants.{Malformed, NotKmip}
+use Rattle.ttlv_run.specs.Kinds.{kind_of, kind_words}
 use Rattle.ttlv_run.specs.Escapes.{escape}
 use Rattle.ttlv_run.specs.Texts.{Names, IsMessageText}
 
@@ -129,9 +131,13 @@ abbrev pub place_told : Task → Place → Place
 place_told (OfWhole strict) place = record { offset = place.offset; tag = None; wrong = place.wrong }
 place_told task place = place
 
--- the line on standard error: what the input is called, the offset among its messages' bytes, the tag there and
--- what is wrong
+-- what the input looks like, if the first message is wrong where it begins
+abbrev pub kind_at : Place → Option InputKind
+kind_at place = if place.offset == 0 then kind_of place.tag else None
+
+-- the line on standard error: what the input is called, the offset among its messages' bytes, the tag there,
+-- what is wrong, and what the input looks like
 unfoldable pub fault_line : Names → List ℕ → Place → List ℕ
 fault_line names name place =
     escape name ++ codes ": byte " ++ decimal place.offset ++ codes ": " ++ tag_report names place.tag ++ codes ": "
-    ++ wrong_words place.wrong ++ codes "\n"
+    ++ wrong_words place.wrong ++ kind_words (kind_at place) ++ codes "\n"

@@ -6,7 +6,7 @@ use Rattle.clap.specs.declared.parser.matches.Found.{Found}
 use Rattle.kmip_ttlv_json.specs.declared.print.Hiding.{Hiding}
 use Rattle.kmip_ttlv_json.specs.declared.print.Hiding.TheVariants as hiding
 use Rattle.ttlv_run.specs.declared.job.Asked.{Asked}
-use Rattle.ttlv_run.specs.declared.job.Asked.TheVariants.{Print, ReadBack, FromJson}
+use Rattle.ttlv_run.specs.declared.job.Asked.TheVariants.{Print, ReadBack, FromJson, Find}
 use Rattle.ttlv_run.specs.declared.job.Encoding.{Encoding}
 use Rattle.ttlv_run.specs.declared.job.Encoding.TheVariants as encoding
 use Rattle.ttlv_run.specs.declared.job.Look.{Look}
@@ -121,11 +121,16 @@ IsTask command f (Check kmip empty) =
     (is_other command ≡ false) × (kmip ≡ (bytes_eq command (codes "check") && is_set f (codes "kmip")))
     × (empty ≡ (bytes_eq command (codes "check") && is_set f (codes "allow-empty")))
 
+-- messages are looked for within anything else
+abbrev pub finds : List ℕ → Found → Bool
+finds command f = bytes_eq command (codes "show") && is_set f (codes "find")
+
 -- what a command asks for
 abbrev pub IsAsked : List ℕ → Found → Asked → Type 0
-IsAsked command f (Print task encoding) = IsTask command f task × (encoding ≡ encoding_in f)
+IsAsked command f (Print task encoding) = IsTask command f task × (encoding ≡ encoding_in f) × (finds command f ≡ false)
 IsAsked command f (ReadBack prefix) = (command ≡ codes "undiag") × (prefix.now ≡ prefix_in f)
 IsAsked command f (FromJson raw) = (command ≡ codes "from-json") × (raw ≡ is_set f (codes "raw"))
+IsAsked command f (Find look) = (finds command f ≡ true) × IsLook f look
 
 -- the words of an option that may be given several times
 abbrev pub texts_in : Found → List ℕ → List (List ℕ)
@@ -148,3 +153,7 @@ is_useless f = is_some (matched_of f (codes "secrets")) && not (is_given f (code
 abbrev pub tells_lengths : Found → Bool
 tells_lengths f =
     is_set f (codes "lengths") && (is_given f (codes "redact") (codes "all") || is_given f (codes "redact") (codes "keys"))
+
+-- messages are looked for in any notation, and an encoding is named
+abbrev pub names_encoding : Found → Bool
+names_encoding f = is_set f (codes "find") && is_some (matched_of f (codes "input"))

@@ -12,7 +12,7 @@ use Rattle.kmip_ttlv_names.specs.declared.masks.TheConstants.{STANDARD_MASKS}
 use Rattle.kmip_ttlv_names.specs.declared.secrets.TheConstants.{STANDARD_SECRETS}
 use Rattle.kmip_ttlv_json.specs.Printings.{is_there}
 use Rattle.ttlv_run.specs.declared.job.Asked.{Asked}
-use Rattle.ttlv_run.specs.declared.job.Asked.TheVariants.{Print}
+use Rattle.ttlv_run.specs.declared.job.Asked.TheVariants.{Print, Find}
 use Rattle.ttlv_run.specs.declared.job.Strict.TheVariants.{Show as ShowWhole}
 use Rattle.ttlv_run.specs.declared.job.Task.TheVariants.{Show, Whole}
 use Rattle.ttlv_run.specs.declared.run_error.RunError.TheVariants.{UnopenedInput, NoMemory}
@@ -95,6 +95,7 @@ with_look (Print (Show look) encoding) colored tags =
     Print (Show (record look { colored = colored; only = only_of tags })) encoding
 with_look (Print (Whole (ShowWhole look)) encoding) colored tags =
     Print (Whole (ShowWhole (record look { colored = colored; only = only_of tags }))) encoding
+with_look (Find look) colored tags = Find (record look { colored = colored; only = only_of tags })
 with_look asked colored tags = asked
 
 -- the line of a table that names nothing: of that of tags, or of that of secrets, where a line that names a value does not either

@@ -16,6 +16,7 @@ const EXAMPLES: &str = "Examples:
   ttlv hex capture.b64           one line of hexadecimal digits for each message
   ttlv json capture.bin          one line of JSON for each message
   ttlv from-json messages.json   the message of each line of JSON, in hexadecimal
+  ttlv show --find server.log    the messages within anything else
   xxd key.bin | ttlv show        a dump of xxd, hexdump -C, od -A x -t x1 or tcpdump -x
 
 Input is raw TTLV, hexadecimal, base64, or a dump; messages stand one after the other.
@@ -43,6 +44,7 @@ enum Part {
     Names,
     Offsets,
     Lengths,
+    Find,
     Width,
     Tag,
     Color,
@@ -67,6 +69,7 @@ const COMMANDS: [(&str, &str, &[Part]); 7] = [
             Part::Secrets,
             Part::Strict,
             Part::Raw,
+            Part::Find,
             Part::Offsets,
             Part::Lengths,
             Part::Width,
@@ -169,6 +172,15 @@ fn lengths<'w>(alloc: Global) -> Arg<'w> {
         .action(ArgAction::SetTrue)
         .help(
             "Prints how many bytes the value of each item has, in front of its line; not with --redact",
+        )
+}
+
+fn find<'w>(alloc: Global) -> Arg<'w> {
+    Arg::new(alloc, "find")
+        .long("find")
+        .action(ArgAction::SetTrue)
+        .help(
+            "Prints the request and response messages that stand anywhere in the input, with their offsets: in a log, a literal, HTTP",
         )
 }
 
@@ -278,6 +290,7 @@ fn arg<'w>(alloc: Global, part: Part) -> Arg<'w> {
         Part::Names => names(alloc),
         Part::Offsets => offsets(alloc),
         Part::Lengths => lengths(alloc),
+        Part::Find => find(alloc),
         Part::Width => width(alloc),
         Part::Tag => tag(alloc),
         Part::Color => color(alloc),

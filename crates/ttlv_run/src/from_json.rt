@@ -30,8 +30,8 @@ pub struct LineFault {
     pub error: JsonError,
 }
 
-// Writes bytes to the output.
-fn send<W: Sink>(output: &mut W, bytes: &[u8]) -> Result<(), RunError>
+/// Writes bytes to the output.
+pub(crate) fn send<W: Sink>(output: &mut W, bytes: &[u8]) -> Result<(), RunError>
     ensures ok { OnOk result (Gets (held W.emitted W.room output.old) (held W.emitted W.room output.new) bytes.now) }
     ensures why { IfErr result IsOfPrinting }
     ensures err { IfErr result (λ why. PrintsFront why (held W.emitted W.room output.old) (held W.emitted W.room output.new) bytes.now) }

@@ -2,7 +2,7 @@
 
 ghost use Rattle.std.specs.Prelude.{◌≡◌, ◌<◌, ◌≤◌, ◌+◌, length, slice_index, take};
 ghost use Rattle.ttlv_run.specs.Columns.{mark_length, body};
-ghost use Rattle.ttlv_run.specs.Guesses.{is_control, has_control, looks_raw, first_byte, zeros, ends_offset, starts_dump};
+ghost use Rattle.ttlv_run.specs.Guesses.{is_control, has_control, are_four, is_capture, is_raw, looks_raw, first_byte, zeros, ends_offset, starts_dump};
 ghost use Rattle.ttlv_run.specs.Guesses.{starts_packet, has_packet, has_url_digit, by_first_byte, is_in_hexadecimal, is_hexadecimal, starts_digit, front_found, text_found, front_of, encoding_found};
 
 use crate::form::{is_between, is_hex_digit};
@@ -31,11 +31,39 @@ fn has_control(bytes: &[u8]) -> bool
     false
 }
 
-/// Whether an input is raw: its first four bytes hold one that stands in no text.
+// Whether bytes are these four.
+fn are_four(bytes: &[u8], a: u8, b: u8, c: u8, d: u8) -> bool
+    ensures { result ≡ are_four bytes.now a b c d }
+{
+    byte_at(bytes, 0) == a
+        && byte_at(bytes, 1) == b
+        && byte_at(bytes, 2) == c
+        && byte_at(bytes, 3) == d
+}
+
+// Whether a packet capture begins with bytes.
+fn is_capture(bytes: &[u8]) -> bool
+    ensures { result ≡ is_capture bytes.now }
+{
+    are_four(bytes, 0xA1, 0xB2, 0xC3, 0xD4)
+        || are_four(bytes, 0xD4, 0xC3, 0xB2, 0xA1)
+        || are_four(bytes, 0xA1, 0xB2, 0x3C, 0x4D)
+        || are_four(bytes, 0x4D, 0x3C, 0xB2, 0xA1)
+        || are_four(bytes, 0x0A, 0x0D, 0x0D, 0x0A)
+}
+
+// Whether no text begins with bytes.
+fn is_raw(bytes: &[u8]) -> bool
+    ensures { result ≡ is_raw bytes.now }
+{
+    has_control(bytes) || is_capture(bytes)
+}
+
+/// Whether an input is raw: its first four bytes hold one that stands in no text, or begin a packet capture, which is none.
 pub fn looks_raw(input: &[u8]) -> bool
     ensures { result ≡ looks_raw input.now }
 {
-    has_control(&input[..input.len().min(4)])
+    is_raw(&input[..input.len().min(4)])
 }
 
 // The first byte that doesn't stand between digits.

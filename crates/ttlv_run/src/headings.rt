@@ -27,6 +27,7 @@ fn asks_for_lines(asked: Asked<'_>) -> bool
             },
             ..
         } => true,
+        Asked::Find { .. } => true,
         _ => false,
     }
 }

@@ -136,6 +136,8 @@ pub enum Asked<'w> {
     ReadBack { prefix: &'w str },
     /// To print the messages that its lines are the JSON of: as raw bytes, or in hexadecimal, each in a line of its own.
     FromJson { raw: bool },
+    /// To print the messages that stand anywhere in it, as readable lines, each behind a line that says where it begins.
+    Find { look: Look<'w> },
 }
 
 /// What is to be printed of an input's messages.

@@ -3,12 +3,13 @@
 ghost use Rattle.std.specs.Prelude.{◌≡◌, ◌<◌, ◌≤◌, ◌+◌, ◌^◌, length, ◌++◌, Option, IfOk, OnOk, OnErr, string_bytes};
 ghost use Rattle.kmip_ttlv_types.specs.Places.{length_at};
 ghost use Rattle.kmip_ttlv_util.specs.Pieces.{SomeText};
-ghost use Rattle.ttlv_run.specs.Messages.{size_stated, is_there, first_size, message_at, tag_there, is_kmip, is_taken, wants_message, fault_words, wrong_words, fault_line, tag_report};
+ghost use Rattle.ttlv_run.specs.Messages.{size_stated, is_there, first_size, message_at, tag_there, is_kmip, is_taken, wants_message, fault_words, wrong_words, kind_at, fault_line, tag_report};
 ghost use Rattle.ttlv_run.specs.Streaming.{is_due, EndsAt, PrintsOn, ContinuesBehind};
 ghost use Rattle.ttlv_run.specs.Texts.{names_of};
 
 use crate::escape::push_text;
 use crate::job::{Names, Task};
+use crate::kind::{InputKind, kind_of, kind_words};
 use crate::texts::push_message;
 use itoa::Buffer;
 use kmip_ttlv_items::FaultKind;
@@ -102,8 +103,8 @@ fn message_at(bytes: &[u8], at: usize) -> &[u8]
     &rest[..first_size(rest)]
 }
 
-// The tag at a place, where its three bytes are there.
-fn tag_there(bytes: &[u8], at: usize) -> Option<TtlvTag>
+/// The tag at a place, where its three bytes are there.
+pub fn tag_there(bytes: &[u8], at: usize) -> Option<TtlvTag>
     ensures { result ≡ tag_there bytes.now at }
 {
     if bytes.len() < 3 || bytes.len() - 3 < at {
@@ -203,6 +204,16 @@ fn wrong_words(wrong: Wrong) -> &'static str
     }
 }
 
+// What the input looks like, if the first message is wrong where it begins.
+fn kind_at(place: Place) -> Option<InputKind>
+    ensures { result ≡ kind_at place }
+{
+    if place.offset == 0 {
+        return kind_of(place.tag);
+    }
+    None
+}
+
 // A fault in words.
 fn fault_words(kind: FaultKind) -> &'static str
     ensures { result.now ≡ fault_words kind }
@@ -253,6 +264,7 @@ pub fn fault_line<A: Allocator + Copy>(
     push_report(&mut line, names, place.tag)?;
     line.push_str(": ")?;
     line.push_str(wrong_words(place.wrong))?;
+    line.push_str(kind_words(kind_at(place)))?;
     line.push_str("\n")?;
     Ok(line)
 }

@@ -3,7 +3,7 @@
 ghost use Rattle.std.specs.Prelude.{◌≡◌, ℕ, List, false, map, bytes_eq, codes, IfOk};
 ghost use Rattle.clap.specs.Matches.{found_of, one_text};
 ghost use Rattle.clap.specs.declared.parser.matches.Found.{Found};
-ghost use Rattle.ttlv_run.specs.Requests.{is_given, is_set, encoding_in, prefix_in, values_in, IsWidth, IsLook, hiding_in, color_in, is_closed, is_strict, IsTask, texts_in, IsAsked, IsRequest, is_useless, tells_lengths};
+ghost use Rattle.ttlv_run.specs.Requests.{is_given, is_set, encoding_in, prefix_in, values_in, IsWidth, IsLook, hiding_in, color_in, is_closed, is_strict, IsTask, texts_in, IsAsked, IsRequest, is_useless, tells_lengths, finds, names_encoding};
 
 use crate::command::program;
 use crate::job::{Asked, Encoding, Look, Strict, Task, Values};
@@ -17,6 +17,9 @@ const NO_USE: &str = "--secrets hides nothing without --redact=keys";
 
 /// Why lengths are refused.
 const TELLS: &str = "--lengths tells how long the values are that --redact hides";
+
+/// Why an encoding is refused where messages are looked for.
+const ANY_NOTATION: &str = "--find looks for messages in any notation, so --input names none";
 
 /// When lines are coloured.
 #[derive(Clone, Copy, Debug, PartialEq, Eq)]
@@ -247,6 +250,13 @@ fn texts_of<'w>(
     }
 }
 
+// Whether messages are looked for within anything else.
+fn finds(command: &str, matches: &ArgMatches<'_>) -> bool
+    ensures { result ≡ finds command.now (found_of matches.now) }
+{
+    command == "show" && is_set(matches, "find")
+}
+
 fn asked_of<'w>(command: &str, matches: &ArgMatches<'w>) -> Asked<'w>
     ensures { IsAsked command.now (found_of matches.now) result }
 {
@@ -257,6 +267,10 @@ fn asked_of<'w>(command: &str, matches: &ArgMatches<'w>) -> Asked<'w>
     } else if command == "from-json" {
         Asked::FromJson {
             raw: is_set(matches, "raw"),
+        }
+    } else if finds(command, matches) {
+        Asked::Find {
+            look: look_of(matches),
         }
     } else {
         Asked::Print {
@@ -301,11 +315,18 @@ fn tells_lengths(matches: &ArgMatches<'_>) -> bool
         && (is_given(matches, "redact", "all") || is_given(matches, "redact", "keys"))
 }
 
-/// What words ask for, the first of which is the program's name. `--secrets` without `--redact=keys` is wrong usage, and so is
-/// `--lengths` with any `--redact`. The error is to be printed, on standard output for help and the version, and has the exit status.
+// Whether messages are looked for in any notation, and an encoding is named.
+fn names_encoding(matches: &ArgMatches<'_>) -> bool
+    ensures { result ≡ names_encoding (found_of matches.now) }
+{
+    is_set(matches, "find") && matches.contains_id("input")
+}
+
+/// What words ask for, the first of which is the program's name. `--secrets` without `--redact=keys` is wrong usage, and so are
+/// `--lengths` with any `--redact` and `--find` with `--input`. The error is to be printed, on standard output for help and the version, and has the exit status.
 pub fn request_of<'w>(alloc: Global, words: &'w [String]) -> Result<Request<'w>, Error>
     ensures { IfOk result (λ r. (command : List ℕ) × (f : Found) × IsRequest command f r
-        × (is_useless f ≡ false) × (tells_lengths f ≡ false)) }
+        × (is_useless f ≡ false) × (tells_lengths f ≡ false) × (names_encoding f ≡ false)) }
 {
     let mut program = program(alloc)?;
     let matches = program.try_get_matches_from_mut(words)?;
@@ -317,6 +338,9 @@ pub fn request_of<'w>(alloc: Global, words: &'w [String]) -> Result<Request<'w>,
     }
     if tells_lengths(found) {
         return Err(program.error(ErrorKind::ArgumentConflict, TELLS)?);
+    }
+    if names_encoding(found) {
+        return Err(program.error(ErrorKind::ArgumentConflict, ANY_NOTATION)?);
     }
     Ok(request_in(alloc, command, found)?)
 }

@@ -19,6 +19,7 @@ use crate::back::{BackFault, BackReached, print_back};
 use crate::coding::{encoding_of, form_of, front_size};
 use crate::digits::print_digits;
 use crate::escape::{NameSink, push_text};
+use crate::find::{find_messages, report_find_fault};
 use crate::from_json::{read_json, report_line_fault};
 use crate::job::{Asked, Encoding, Job, Names, Task};
 use crate::memory::Memory;
@@ -338,6 +339,13 @@ fn respond<A: Allocator + Copy, B: Allocator + Copy, R: Source, W: Sink, E: Sink
             report_line_fault(errors, name, fault);
             Ok(false)
         }
+        Asked::Find { look } => {
+            let Some(fault) = find_messages(memory, names, look, input, output)? else {
+                return Ok(true);
+            };
+            report_find_fault(errors, name, fault);
+            Ok(false)
+        }
     }
 }
 
@@ -381,6 +389,9 @@ pub(crate) fn run_to_end<A: Allocator + Copy, B: Allocator + Copy, R: Source, W:
 ///
 /// *JSON*: each line is a message or empty, and a message is printed before the next read if all of its line is there. With status 1 the
 /// messages before the first line that is none are printed, and nothing more is read. With status 2 those of the lines before are.
+///
+/// *Messages within anything else* are looked for when all of the input was read, and printed one after the other. With status 1 there
+/// is none, or the search ended early, since too much looked like messages; with status 2 nothing is printed.
 pub fn run<A: Allocator + Copy, B: Allocator + Copy, R: Source, W: Sink, E: Sink>(
     memory: Memory<A, B>,
     asked: Asked<'_>,

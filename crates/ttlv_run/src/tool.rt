@@ -181,6 +181,13 @@ fn with_look<'w>(asked: Asked<'w>, colored: bool, tags: &'w [u32]) -> Asked<'w>
             let task = Task::Whole { strict };
             Asked::Print { task, encoding }
         }
+        Asked::Find { look } => Asked::Find {
+            look: Look {
+                colored,
+                only,
+                ..look
+            },
+        },
         asked => asked,
     }
 }

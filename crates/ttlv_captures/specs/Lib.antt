@@ -1,0 +1,4 @@
+pub mod Notations
+pub mod Captures
+pub mod Attempts
+pub mod Searches
