@@ -36,7 +36,6 @@ pub use Rattle.kmip_ttlv_reader.specs.Outcomes
 pub use Rattle.kmip_ttlv_reader.specs.ReadResults
 pub use Rattle.kmip_ttlv_reader.specs.LeafForms
 pub use Rattle.kmip_ttlv_reader.specs.Spots
-pub use Rattle.kmip_ttlv_reader.specs.ListedRows
 pub use Rattle.kmip_ttlv_reader.specs.Chosen
 pub use Rattle.kmip_ttlv_de.specs.Settings
 pub use Rattle.kmip_ttlv_de.specs.StreamMessages

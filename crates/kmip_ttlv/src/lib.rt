@@ -23,7 +23,7 @@ pub use kmip_ttlv_de::{
 pub use kmip_ttlv_items as items;
 pub use kmip_ttlv_memory as memory;
 pub use kmip_ttlv_names as names;
-pub use kmip_ttlv_parts::{Boxed, Enumeration, messages};
+pub use kmip_ttlv_parts::{Boxed, Enumeration};
 pub use kmip_ttlv_reader::reader;
 pub use kmip_ttlv_ser as ser;
 pub use kmip_ttlv_ser::{to_vec, to_writer};

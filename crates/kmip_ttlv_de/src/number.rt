@@ -12,9 +12,8 @@ use kmip_ttlv_base::shape::{Data, VariantContent, VariantShape};
 use kmip_ttlv_base::types::{FieldType, TtlvType};
 use kmip_ttlv_reader::failure::{Cause, Failure, Step, at_item, in_struct};
 use kmip_ttlv_reader::head::{
-    content_there, inside, length_there, length_wanted, tag_at, type_wanted,
+    content_there, inside, is_number_type, length_there, length_wanted, tag_at, type_wanted,
 };
-use kmip_ttlv_reader::listed::is_number_type;
 use kmip_ttlv_reader::number_text::number_text;
 use kmip_ttlv_reader::scope::Scope;
 use kmip_ttlv_reader::store::TagValueStore;

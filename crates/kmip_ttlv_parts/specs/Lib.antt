@@ -35,7 +35,6 @@ pub use Rattle.kmip_ttlv_reader.specs.Outcomes
 pub use Rattle.kmip_ttlv_reader.specs.ReadResults
 pub use Rattle.kmip_ttlv_reader.specs.LeafForms
 pub use Rattle.kmip_ttlv_reader.specs.Spots
-pub use Rattle.kmip_ttlv_reader.specs.ListedRows
 pub use Rattle.kmip_ttlv_reader.specs.Chosen
 pub use Rattle.kmip_ttlv_ser.specs.WriteLaws
 pub use Rattle.kmip_ttlv_ser.specs.Rows

@@ -8,7 +8,6 @@ ghost use Rattle.kmip_ttlv_parts.specs.Boxes.{boxed, IsBoxed};
 use crate::sound::Sound;
 use kmip_ttlv_base::shape::Serialize;
 use kmip_ttlv_base::visit::Visitor;
-use kmip_ttlv_reader::reader::{Cursor, ReadNested, Scope, Step};
 use std::alloc::{AllocError, Allocator, Global};
 use std::ops::Deref;
 
@@ -71,25 +70,6 @@ impl<T: Serialize, A: Allocator> Serialize for Boxed<T, A> {
 
     fn visit<V: Visitor>(&self, visitor: &mut V) -> Result<(), AllocError> {
         self.inner.as_ref().visit(visitor)
-    }
-}
-
-impl<T: ReadNested<A>, A: Allocator + Copy> ReadNested<A> for Boxed<T, A> {
-    ghost form = { T.form };
-
-    ghost value = { boxed T.value };
-
-    ghost TAG = { T.TAG };
-
-    ghost structured = { T.structured };
-
-    const TAG: u32 = T::TAG;
-
-    fn read_nested<'b>(scope: &Scope<'b, A>, cursor: &mut Cursor<'b, A>) -> Step<Self, A> {
-        match T::read_nested(scope, cursor) {
-            Ok(inner) => Ok(Boxed::new(scope.alloc, inner)?),
-            Err(failure) => Err(failure),
-        }
     }
 }
 

@@ -1,17 +1,13 @@
 //! An Enumeration of any number, as one type for all of them: each is this type at its own tag, with constants for the numbers
 //! that have a name.
 
-ghost use Rattle.std.specs.Prelude.{refl};
-ghost use Rattle.kmip_ttlv_base.specs.Forms.{any_number};
-ghost use Rattle.kmip_ttlv_reader.specs.Spots.{wrapped_leaf};
 ghost use Rattle.kmip_ttlv_parts.specs.Enumerations.{enumeration_value, IsEnumeration};
 
 use crate::sound::Sound;
 use kmip_ttlv_base::parts;
 use kmip_ttlv_base::shape::Serialize;
 use kmip_ttlv_base::visit::{Leaf, Visitor};
-use kmip_ttlv_reader::reader::{Cursor, ReadItem, Scope, Step};
-use std::alloc::{AllocError, Allocator};
+use std::alloc::AllocError;
 use std::fmt;
 
 /// An Enumeration of this tag: any number of four bytes, those of vendors and of later versions too. What is encoded and what
@@ -47,19 +43,6 @@ impl<const TAG: u32> Serialize for Enumeration<TAG> {
 
     fn visit<V: Visitor>(&self, visitor: &mut V) -> Result<(), AllocError> {
         parts::tagged(visitor, TAG, Leaf::U32(self.number))
-    }
-}
-
-impl<const TAG: u32, A: Allocator + Copy> ReadItem<A> for Enumeration<TAG> {
-    ghost form = { wrapped_leaf TAG any_number };
-
-    ghost value = { enumeration_value };
-
-    ghost plain = { (refl, refl) };
-
-    fn read_item<'b>(scope: &Scope<'b, A>, cursor: &mut Cursor<'b, A>) -> Step<Self, A> {
-        let number: u32 = cursor.wrapped_leaf(scope, TAG)?;
-        Ok(Enumeration { number })
     }
 }
 

@@ -1,15 +1,12 @@
-//! What message types are made of, and what is true of them: parts that are encoded and decoded, and the laws of both together.
+//! What is true of encoding and decoding together, and two types that parts of messages are made of.
 //!
-//! `messages` has the parts of a type's `visit`, `reader` those that it is read by; a large part is `Boxed`, an Enumeration of any
-//! number is `Enumeration`. `laws` has what is true of encoding and decoding together, and which values of a type are sound. A crate
-//! of parts of messages needs no more than this crate: for that, what it stands on is named here as in `kmip_ttlv`, which users
-//! name, and which adds whole messages.
+//! `laws` has the laws, and which values of a type are sound; a large part is `Boxed`, an Enumeration of any number is `Enumeration`.
+//! A crate of parts of messages names what it stands on by this crate, as users do by `kmip_ttlv`, which adds whole messages.
 #![tactic(auto)]
 
 mod boxed;
 mod enumeration;
 pub mod laws;
-pub mod messages;
 mod sound;
 
 pub use crate::boxed::Boxed;

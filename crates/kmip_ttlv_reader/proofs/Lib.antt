@@ -12,9 +12,7 @@ pub mod Giving
 pub mod ResultLemmas
 pub mod Mapped
 pub mod LeafLemmas
-pub mod Items
 pub mod Structures
-pub mod TableLemmas
 pub mod Cuts
 pub mod ChosenLemmas
 mod StoredRows

@@ -7,13 +7,24 @@ use lib.Utf8.{encode}
 use Rattle.std.proofs.lemmas.Slice.Eq.{bytes_eq-Decides}
 use Rattle.kmip_ttlv_types.specs.declared.typ.TtlvType.{TtlvType}
 use Rattle.kmip_ttlv_types.specs.Names.{after_prefix, number, tag_of}
-use Rattle.kmip_ttlv_reader.specs.{TagValues.TagValue, TagValues.last, Chosen.if_holds, declared.rules.RuleParts.RuleParts}
-use Rattle.kmip_ttlv_reader.specs.Rules.{Choice, first_by, Verdict, fails, plain_verdict, needs, with_text, sides, in_brackets, type_name, by, equal, at_least}
+use Rattle.kmip_ttlv_reader.specs.{TagValues.TagValue, TagValues.last, declared.rules.RuleParts.RuleParts}
+use Rattle.kmip_ttlv_reader.specs.Rules.{Verdict, fails, plain_verdict, needs, with_text, sides, in_brackets, type_name, by, equal, at_least}
 use Rattle.kmip_ttlv_reader.specs.Rules.{member, verdict, rule, refused}
 use Rattle.kmip_ttlv_base.specs.Errors.{invalid_rule}
-use Rattle.kmip_ttlv_reader.specs.RuleParts.{texts_verdict, texts_of, wanted, parts_of_equal, parts_of_member, parts_by, parts_of_body, parts_by_name, parts_of}
-use Rattle.kmip_ttlv_reader.specs.RuleParts.{equal_sides, AreParts}
+use Rattle.kmip_ttlv_reader.specs.RuleParts.{is_one_of, is_stored, texts_of, holds, parts_of_equal, parts_of_member, parts_by, parts_of_body, parts_by_name}
+use Rattle.kmip_ttlv_reader.specs.RuleParts.{parts_of, equal_sides, AreParts}
 use Rattle.kmip_ttlv_reader.specs.declared.rules.RuleParts.TheVariants as parts
+
+-- what a rule in parts says
+abbrev texts_verdict : ℕ → List (List ℕ) → List TagValue → Verdict
+texts_verdict t texts ks = with_text (last ks t) (λ text. plain_verdict (list_any (bytes_eq text) texts))
+
+as_stored : (t : ℕ) (texts : List (List ℕ)) (ks : List TagValue) → texts_verdict t texts ks ≡ plain_verdict (is_stored t texts ks)
+as_stored t texts ks = by (last ks t)
+  where
+    by : (o : Option (List ℕ)) → with_text o (λ text. plain_verdict (list_any (bytes_eq text) texts)) ≡ plain_verdict (is_one_of texts o)
+    by None = refl
+    by (Some text) = refl
 
 -- what parts say, where there are some
 abbrev said_by : List TagValue → Option (ℕ × List (List ℕ)) → Verdict
@@ -99,11 +110,10 @@ rule_in_parts ks typ name p e = rule_by_name ks typ name p (sym (computed name) 
 
 -- whether the last text is one of some texts
 pub is_wanted : (ks : List TagValue) (t : ℕ) (texts : List (Bor (List ℕ))) (text : List ℕ) → Some text ≡ last ks t
-    → plain_verdict (list_any (λ one. bytes_eq text one.now) texts) ≡ texts_verdict t (map (λ one. one.now) texts) ks
-is_wanted ks t texts text stored =
-    ap plain_verdict (seen texts) ∙ ap (λ o. with_text o (λ s. plain_verdict (list_any (bytes_eq s) (map (λ one. one.now) texts)))) stored
+    → list_any (λ one. bytes_eq text one.now) texts ≡ is_stored t (texts_of texts) ks
+is_wanted ks t texts text stored = seen texts ∙ ap (is_one_of (texts_of texts)) stored
   where
-    seen : (xs : List (Bor (List ℕ))) → list_any (λ one. bytes_eq text one.now) xs ≡ list_any (bytes_eq text) (map (λ one. one.now) xs)
+    seen : (xs : List (Bor (List ℕ))) → list_any (λ one. bytes_eq text one.now) xs ≡ list_any (bytes_eq text) (texts_of xs)
     seen [] = refl
     seen (x ∷ xs) = ap (λ b. bytes_eq text x.now || b) (seen xs)
 
@@ -123,15 +133,21 @@ typed ks typ asked name e = go (after_prefix (codes "if ") name) (sym (sides_com
     go (Some body) e = rw e refl
 
 -- a rule says what its parts say
-said_in_parts : (ks : List TagValue) (typ : TtlvType) (name : List ℕ) (p : RuleParts) → AreParts name (Some p) → rule name ks typ ≡ wanted p ks typ
-said_in_parts ks typ name (parts.Texts tag texts) are = rule_in_parts ks typ name (tag, texts_of texts.now) are
+pub said_in_parts : (ks : List TagValue) (typ : TtlvType) (name : List ℕ) (p : RuleParts) → AreParts name p → rule name ks typ ≡ plain_verdict (holds p ks typ)
+said_in_parts ks typ name (parts.Texts tag texts) are = rule_in_parts ks typ name (tag, texts_of texts.now) are ∙ as_stored tag (texts_of texts.now) ks
 said_in_parts ks typ name (parts.Type asked) are = typed ks typ asked name are
 
--- a rule holds where its parts do
-pub holds_in_parts : (ks : List TagValue) (typ : TtlvType) (name : List ℕ) (p : RuleParts) (stored_text : Bool) → AreParts name (Some p)
-    → plain_verdict stored_text ≡ wanted p ks typ → (c : Choice) → first_by (rule name ks typ) c ≡ if_holds stored_text c
-holds_in_parts ks typ name p stored_text are verdict_by c = ap (λ v. first_by v c) (said_in_parts ks typ name p are ∙ sym verdict_by) ∙ by_holding stored_text
+-- a name that has parts begins as a rule does
+pub is_rule : (name : List ℕ) (p : RuleParts) → AreParts name p → (body : List ℕ) × (after_prefix (codes "if ") name ≡ Some body)
+is_rule name (parts.Texts tag texts) are = go (after_prefix (codes "if ") name) refl (sym (computed name) ∙ are)
   where
-    by_holding : (b : Bool) → first_by (plain_verdict b) c ≡ if_holds b c
-    by_holding true = refl
-    by_holding false = refl
+    go : (o : Option (List ℕ)) → after_prefix (codes "if ") name ≡ o → option_and_then parts_of_body o ≡ Some (tag, texts_of texts.now)
+        → (body : List ℕ) × (after_prefix (codes "if ") name ≡ Some body)
+    go None is e = absurd (search rules)
+    go (Some body) is e = (body, is)
+is_rule name (parts.Type asked) are = go (after_prefix (codes "if ") name) refl (sym (sides_computed name) ∙ are)
+  where
+    go : (o : Option (List ℕ)) → after_prefix (codes "if ") name ≡ o → option_and_then (sides (codes "==")) o ≡ Some (codes "type", type_name asked)
+        → (body : List ℕ) × (after_prefix (codes "if ") name ≡ Some body)
+    go None is e = absurd (search rules)
+    go (Some body) is e = (body, is)

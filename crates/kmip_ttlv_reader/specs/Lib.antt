@@ -12,7 +12,6 @@ pub mod Wholes
 pub mod LeafForms
 pub mod ReadLaws
 pub mod Spots
-pub mod ListedRows
 pub mod Verdicts
 pub mod Chosen
 pub mod RuleParts

@@ -1,28 +1,34 @@
 -- Rules in parts: a rule that asks whether the last text under a tag is one of some texts, or for the type of an item.
-use Rattle.std.specs.Prelude.{◌≡◌, ℕ, List, [], ◌∷◌, map, codes, ◌==◌, if◌then◌else◌, Option, Some, None, option_map, option_and_then}
+use Rattle.std.specs.Prelude.{◌≡◌, ℕ, Bool, false, List, [], ◌∷◌, map, codes, ◌==◌, if◌then◌else◌, Option, Some, None, option_map, option_and_then}
 use Rattle.std.specs.List.{list_any, slice_split}
 use Rattle.std.specs.Borrow.{Bor}
 use Rattle.std.specs.Str.{bytes_eq, trim, trim_end, trim_start, chars}
 use lib.Utf8.{encode}
 use Rattle.kmip_ttlv_types.specs.Names.{after_prefix, number, tag_of}
 use Rattle.kmip_ttlv_reader.specs.TagValues.{TagValue, last}
-use Rattle.kmip_ttlv_reader.specs.Rules.{Verdict, plain_verdict, with_text, sides, in_brackets, type_name}
+use Rattle.kmip_ttlv_base.specs.Forms.{Variants, no_variants, variant, wrapped}
+use Rattle.kmip_ttlv_reader.specs.Rules.{sides, in_brackets, type_name}
 use Rattle.kmip_ttlv_types.specs.declared.typ.TtlvType.{TtlvType}
 use Rattle.kmip_ttlv_reader.specs.declared.rules.RuleParts.{RuleParts}
 use Rattle.kmip_ttlv_reader.specs.declared.rules.RuleParts.TheVariants as parts
 
+-- there is a text, and it is one of these
+abbrev pub is_one_of : List (List ℕ) → Option (List ℕ) → Bool
+is_one_of texts None = false
+is_one_of texts (Some text) = list_any (bytes_eq text) texts
+
 -- the last text stored under a tag is one of these; not where there is no such tag
-abbrev pub texts_verdict : ℕ → List (List ℕ) → List TagValue → Verdict
-texts_verdict t texts ks = with_text (last ks t) (λ text. plain_verdict (list_any (bytes_eq text) texts))
+abbrev pub is_stored : ℕ → List (List ℕ) → List TagValue → Bool
+is_stored t texts ks = is_one_of texts (last ks t)
 
 -- the texts themselves
 abbrev pub texts_of : List (Bor (List ℕ)) → List (List ℕ)
 texts_of texts = map (λ one. one.now) texts
 
--- what a rule in parts says of the stored texts and of an item's type
-abbrev pub wanted : RuleParts → List TagValue → TtlvType → Verdict
-wanted (parts.Texts tag texts) ks typ = texts_verdict tag (texts_of texts.now) ks
-wanted (parts.Type asked) ks typ = plain_verdict (bytes_eq (type_name asked) (type_name typ))
+-- whether a rule in parts holds, by the stored texts and of an item of this type
+abbrev pub holds : RuleParts → List TagValue → TtlvType → Bool
+holds (parts.Texts tag texts) ks typ = is_stored tag (texts_of texts.now) ks
+holds (parts.Type asked) ks typ = bytes_eq (type_name asked) (type_name typ)
 
 -- the tag and the one text of `==`, where it asks for no type
 abbrev pub parts_of_equal : List ℕ → List ℕ → Option (ℕ × List (List ℕ))
@@ -58,8 +64,13 @@ unfoldable pub equal_sides : List ℕ → Option (List ℕ × List ℕ)
 unfolding sides trim_end trim_start chars encode
 equal_sides name = option_and_then (sides (codes "==")) (after_prefix (codes "if ") name)
 
--- they are the parts of the rule of this name; there may be none of any rule
-abbrev pub AreParts : List ℕ → Option RuleParts → Type 0
-AreParts name None = Unit {0}
-AreParts name (Some (parts.Texts tag texts)) = parts_of name ≡ Some (tag, texts_of texts.now)
-AreParts name (Some (parts.Type asked)) = equal_sides name ≡ Some (codes "type", type_name asked)
+-- they are the parts of the rule of this name
+abbrev pub AreParts : List ℕ → RuleParts → Type 0
+AreParts name (parts.Texts tag texts) = parts_of name ≡ Some (tag, texts_of texts.now)
+AreParts name (parts.Type asked) = equal_sides name ≡ Some (codes "type", type_name asked)
+
+-- variants of one item each have these rules, in their order
+abbrev pub AreRules : Variants → List RuleParts → Type 0
+AreRules no_variants [] = Unit {0}
+AreRules (variant name (wrapped s) vs) (rule ∷ rules) = AreParts name rule × AreRules vs rules
+AreRules _ _ = ⊥

@@ -1,28 +1,28 @@
 //! A cursor: how far reading has come in a structure. A type that reads itself takes its fields by the calls here,
 //! one for each, in their order. Each call reads as the form of such a field is read (specs/Outcomes).
 
-ghost use Rattle.std.specs.Prelude.{◌≡◌, ◌+◌, ◌≤◌, length, codes, [], IfOk};
+ghost use Rattle.std.specs.Prelude.{◌≡◌, ◌+◌, ◌≤◌, ◌++◌, ◌∷◌, length, codes, true, [], IfOk};
 ghost use Rattle.kmip_ttlv_types.specs.Digits.{tag_text};
 ghost use Rattle.kmip_ttlv_base.specs.Values.{newtype_value};
-ghost use Rattle.kmip_ttlv_base.specs.Forms.{option, enum, newtype};
+ghost use Rattle.kmip_ttlv_base.specs.Forms.{newtype};
 ghost use Rattle.kmip_ttlv_reader.specs.LeafForms.{form_of_leaf};
-ghost use Rattle.kmip_ttlv_reader.specs.Reads.{has_tag};
+ghost use Rattle.kmip_ttlv_reader.specs.Reads.{decoded_leaf, has_tag, takes};
+ghost use Rattle.kmip_ttlv_types.specs.Leaves.{is_valid};
 ghost use Rattle.kmip_ttlv_reader.specs.Outcomes.{outcome, field_outcome, tag_wanted};
 ghost use Rattle.kmip_ttlv_reader.specs.Results.{IsRead, IsStep, IsFailureOf};
 ghost use Rattle.kmip_ttlv_reader.specs.ReadFaults.{in_struct};
 ghost use Rattle.kmip_ttlv_base.specs.Tags.{wrapper_name};
-ghost use Rattle.kmip_ttlv_reader.specs.Spots.{Spot, IsWithin, IsReadTo, at, wrapped_leaf, optional_value, field_there, optional_there};
-ghost use Rattle.kmip_ttlv_reader.specs.ListedRows.{AreListed};
+ghost use Rattle.kmip_ttlv_reader.specs.Spots.{Spot, IsWithin, IsReadTo, at, wrapped_leaf, field_there, optional_there};
+ghost use Rattle.kmip_ttlv_reader.specs.TagValues.{TagValue};
 
 use crate::failure::{Cause, Failure, Step, at_item, in_struct};
 use crate::head::{tag_at, type_there};
-use crate::leaf::{LeafValue, read_leaf_as};
-use crate::listed::{Listed, read_listed};
+use crate::leaf::{Leaf, LeafContent, leaf_there};
 use crate::scope::Scope;
 use crate::store::TagValueStore;
 use kmip_ttlv_base::error::SerdeError;
 use kmip_ttlv_base::types::{TtlvTag, TtlvType};
-use std::alloc::{Allocator, Global};
+use std::alloc::{AllocError, Allocator, Global};
 use std::marker::Model;
 
 /// How far reading has come in a structure, and the stored texts for the rules of enums.
@@ -117,49 +117,40 @@ pub fn is_there<A: Allocator + Copy>(scope: &Scope<'_, A>, tag: u32, pos: usize)
 
 // A leaf within its wrapper.
 #[inline(always)]
-fn read_wrapped<'b, K: LeafValue<A>, A: Allocator + Copy>(
+fn wrapped_there<'b, A: Allocator + Copy>(
     scope: &Scope<'b, A>,
     tag: u32,
+    leaf: Leaf,
     pos: usize,
     stored: &mut TagValueStore<'b, A>,
-) -> Step<(K, usize), A>
+) -> Step<(LeafContent<'b>, usize), A>
     requires inside { pos ≤ length scope.now.bytes.now }
-    ensures read { IsRead (λ x. newtype_value (wrapper_name tag) (K.value x)) stored.new
-        (outcome (wrapped_leaf tag (form_of_leaf K.leaf)) scope.now.bytes.now scope.now.owner stored.old pos scope.now.end) result }
+    ensures read { IsRead (λ c. newtype_value (wrapper_name tag) (decoded_leaf (form_of_leaf leaf) c.bytes.now)) stored.new
+        (outcome (wrapped_leaf tag (form_of_leaf leaf)) scope.now.bytes.now scope.now.owner stored.old pos scope.now.end) result }
+    ensures taken { IfOk result (λ r. takes (form_of_leaf leaf) r.0.typ ≡ true) }
+    ensures valid { IfOk result (λ r. is_valid r.0.typ r.0.bytes.now ≡ true) }
     ensures further { IfOk result (λ r. (pos + 8 ≤ r.1) × (r.1 ≤ scope.now.end) × (r.1 ≤ length scope.now.bytes.now)) }
 {
-    read_leaf_as(scope, pos, stored)
-}
-
-// A leaf, as its form has it.
-#[inline(always)]
-fn read_bare<'b, K: LeafValue<A>, A: Allocator + Copy>(
-    scope: &Scope<'b, A>,
-    pos: usize,
-    stored: &mut TagValueStore<'b, A>,
-) -> Step<(K, usize), A>
-    requires inside { pos ≤ length scope.now.bytes.now }
-    ensures read { IsRead K.value stored.new
-        (outcome (form_of_leaf K.leaf) scope.now.bytes.now scope.now.owner stored.old pos scope.now.end) result }
-    ensures further { IfOk result (λ r. (pos + 8 ≤ r.1) × (r.1 ≤ scope.now.end) × (r.1 ≤ length scope.now.bytes.now)) }
-{
-    read_leaf_as(scope, pos, stored)
+    leaf_there(scope, leaf, pos, stored)
 }
 
 // A field that is a leaf within its wrapper.
 #[tactic(auto, unfolding(crate::specs::Outcomes::field_outcome), using(crate::proofs::Steps::failure_then))]
 #[inline(always)]
-fn read_leaf_field<'b, K: LeafValue<A>, A: Allocator + Copy>(
+fn leaf_field_there<'b, A: Allocator + Copy>(
     scope: &Scope<'b, A>,
     tag: u32,
+    leaf: Leaf,
     pos: usize,
     stored: &mut TagValueStore<'b, A>,
-) -> Step<(K, usize), A>
+) -> Step<(LeafContent<'b>, usize), A>
     requires inside { pos ≤ length scope.now.bytes.now }
     requires before { pos ≤ scope.now.end }
-    ensures read { IsRead (λ x. newtype_value (wrapper_name tag) (K.value x)) stored.new
-        (field_outcome (tag_text tag) (wrapped_leaf tag (form_of_leaf K.leaf)) (outcome (wrapped_leaf tag (form_of_leaf K.leaf)))
+    ensures read { IsRead (λ c. newtype_value (wrapper_name tag) (decoded_leaf (form_of_leaf leaf) c.bytes.now)) stored.new
+        (field_outcome (tag_text tag) (wrapped_leaf tag (form_of_leaf leaf)) (outcome (wrapped_leaf tag (form_of_leaf leaf)))
         scope.now.bytes.now scope.now.owner stored.old pos scope.now.end) result }
+    ensures taken { IfOk result (λ r. takes (form_of_leaf leaf) r.0.typ ≡ true) }
+    ensures valid { IfOk result (λ r. is_valid r.0.typ r.0.bytes.now ≡ true) }
     ensures further { IfOk result (λ r. (pos + 8 ≤ r.1) × (r.1 ≤ scope.now.end) × (r.1 ≤ length scope.now.bytes.now)) }
 {
     if pos == scope.end {
@@ -169,34 +160,7 @@ fn read_leaf_field<'b, K: LeafValue<A>, A: Allocator + Copy>(
     if !is_tag(tag, tag_at(scope.bytes, pos)) {
         tag_is(scope.alloc, tag, scope.bytes, pos, typ)?;
     }
-    read_wrapped(scope, tag, pos, stored)
-}
-
-// A field that is a leaf within its wrapper, where it is there.
-#[tactic(auto, unfolding(crate::specs::Outcomes::field_outcome, crate::specs::Outcomes::outcome), using(crate::proofs::Steps::failure_then))]
-#[inline(always)]
-fn read_optional_leaf<'b, K: LeafValue<A>, A: Allocator + Copy>(
-    scope: &Scope<'b, A>,
-    tag: u32,
-    pos: usize,
-    stored: &mut TagValueStore<'b, A>,
-) -> Step<(Option<K>, usize), A>
-    requires inside { pos ≤ length scope.now.bytes.now }
-    requires before { pos ≤ scope.now.end }
-    ensures read { IsRead (optional_value (λ x. newtype_value (wrapper_name tag) (K.value x))) stored.new
-        (field_outcome (tag_text tag) (option (wrapped_leaf tag (form_of_leaf K.leaf))) (outcome (option (wrapped_leaf tag (form_of_leaf K.leaf))))
-        scope.now.bytes.now scope.now.owner stored.old pos scope.now.end) result }
-    ensures further { IfOk result (λ r. (pos ≤ r.1) × (r.1 ≤ scope.now.end) × (r.1 ≤ length scope.now.bytes.now)) }
-{
-    if pos == scope.end {
-        return Ok((None, pos));
-    }
-    let _ = type_there(scope.alloc, scope.bytes, pos)?;
-    if !is_tag(tag, tag_at(scope.bytes, pos)) {
-        return Ok((None, pos));
-    }
-    let (value, next) = read_wrapped(scope, tag, pos, stored)?;
-    Ok((Some(value), next))
+    wrapped_there(scope, tag, leaf, pos, stored)
 }
 
 impl<'b, A: Allocator + Copy> Cursor<'b, A> {
@@ -234,80 +198,49 @@ impl<'b, A: Allocator + Copy> Cursor<'b, A> {
         self.pos = pos;
     }
 
-    /// The next field, a leaf of this tag.
+    /// The next field, a leaf of this tag and shape.
     #[inline(always)]
-    pub fn leaf<K: LeafValue<A>>(&mut self, scope: &Scope<'b, A>, tag: u32) -> Step<K, A>
+    pub fn leaf(&mut self, scope: &Scope<'b, A>, tag: u32, leaf: Leaf) -> Step<LeafContent<'b>, A>
         requires within { IsWithin scope.now self.old }
-        ensures read { IsReadTo (λ x. newtype_value (wrapper_name tag) (K.value x)) self.new
-            (at (field_outcome (tag_text tag) (wrapped_leaf tag (form_of_leaf K.leaf)) (outcome (wrapped_leaf tag (form_of_leaf K.leaf))))
+        ensures read { IsReadTo (λ c. newtype_value (wrapper_name tag) (decoded_leaf (form_of_leaf leaf) c.bytes.now)) self.new
+            (at (field_outcome (tag_text tag) (wrapped_leaf tag (form_of_leaf leaf)) (outcome (wrapped_leaf tag (form_of_leaf leaf))))
             scope.now self.old) result }
+        ensures taken { IfOk result (λ c. takes (form_of_leaf leaf) c.typ ≡ true) }
+        ensures valid { IfOk result (λ c. is_valid c.typ c.bytes.now ≡ true) }
         ensures within { IfOk result (λ _. IsWithin scope.now self.new) }
     {
-        let (value, next) = read_leaf_field(scope, tag, self.pos, &mut self.stored)?;
+        let (content, next) = leaf_field_there(scope, tag, leaf, self.pos, &mut self.stored)?;
         self.pos = next;
-        Ok(value)
+        Ok(content)
     }
 
-    /// The next field, a leaf of this tag, where it is there.
+    /// The next item, a leaf of this shape within the wrapper of this tag, whatever the item's own tag.
     #[inline(always)]
-    pub fn optional_leaf<K: LeafValue<A>>(
+    pub fn wrapped_leaf(
         &mut self,
         scope: &Scope<'b, A>,
         tag: u32,
-    ) -> Step<Option<K>, A>
+        leaf: Leaf,
+    ) -> Step<LeafContent<'b>, A>
         requires within { IsWithin scope.now self.old }
-        ensures read { IsReadTo (optional_value (λ x. newtype_value (wrapper_name tag) (K.value x))) self.new
-            (at (field_outcome (tag_text tag) (option (wrapped_leaf tag (form_of_leaf K.leaf))) (outcome (option (wrapped_leaf tag (form_of_leaf K.leaf)))))
-            scope.now self.old) result }
-        ensures within { IfOk result (λ _. IsWithin scope.now self.new) }
-    {
-        let (value, next) = read_optional_leaf(scope, tag, self.pos, &mut self.stored)?;
-        self.pos = next;
-        Ok(value)
-    }
-
-    /// The next item, a leaf within the wrapper of this tag, whatever the item's own tag.
-    #[inline(always)]
-    pub fn wrapped_leaf<K: LeafValue<A>>(&mut self, scope: &Scope<'b, A>, tag: u32) -> Step<K, A>
-        requires within { IsWithin scope.now self.old }
-        ensures read { IsReadTo (λ x. newtype_value (wrapper_name tag) (K.value x)) self.new
-            (at (outcome (wrapped_leaf tag (form_of_leaf K.leaf))) scope.now self.old) result }
+        ensures read { IsReadTo (λ c. newtype_value (wrapper_name tag) (decoded_leaf (form_of_leaf leaf) c.bytes.now)) self.new
+            (at (outcome (wrapped_leaf tag (form_of_leaf leaf))) scope.now self.old) result }
+        ensures taken { IfOk result (λ c. takes (form_of_leaf leaf) c.typ ≡ true) }
+        ensures valid { IfOk result (λ c. is_valid c.typ c.bytes.now ≡ true) }
         ensures within { IfOk result (λ _. IsWithin scope.now self.new) }
         ensures further { IfOk result (λ _. self.old.pos + 8 ≤ self.new.pos) }
     {
-        let (value, next) = read_wrapped(scope, tag, self.pos, &mut self.stored)?;
+        let (content, next) = wrapped_there(scope, tag, leaf, self.pos, &mut self.stored)?;
         self.pos = next;
-        Ok(value)
+        Ok(content)
     }
 
-    /// The next item, a leaf.
+    /// Stores a text under the tag of the item that it was read from, for the rules of what follows. An AllocError when out of
+    /// memory.
     #[inline(always)]
-    pub fn bare_leaf<K: LeafValue<A>>(&mut self, scope: &Scope<'b, A>) -> Step<K, A>
-        requires within { IsWithin scope.now self.old }
-        ensures read { IsReadTo K.value self.new (at (outcome (form_of_leaf K.leaf)) scope.now self.old) result }
-        ensures within { IfOk result (λ _. IsWithin scope.now self.new) }
-        ensures further { IfOk result (λ _. self.old.pos + 8 ≤ self.new.pos) }
+    pub fn store(&mut self, tag: TtlvTag, text: &'b str) -> Result<(), AllocError>
+        ensures { IfOk result (λ _. self.new ≡ record { stored = self.old.stored ++ record { tag = tag; text = text.now } ∷ []; pos = self.old.pos }) }
     {
-        let (value, next) = read_bare(scope, self.pos, &mut self.stored)?;
-        self.pos = next;
-        Ok(value)
-    }
-
-    /// The next item, an Enumeration of listed numbers: the value that its number names in the table.
-    #[inline(always)]
-    pub fn listed<T: Listed>(
-        &mut self,
-        scope: &Scope<'b, A>,
-        table: &[(&'static str, T)],
-    ) -> Step<T, A>
-        requires within { IsWithin scope.now self.old }
-        requires listed { AreListed T.own T.value T.variants table.now }
-        ensures read { IsReadTo T.value self.new (at (outcome (enum T.own T.variants)) scope.now self.old) result }
-        ensures within { IfOk result (λ _. IsWithin scope.now self.new) }
-        ensures further { IfOk result (λ _. self.old.pos + 8 ≤ self.new.pos) }
-    {
-        let (value, next) = read_listed(scope, table, self.pos, &mut self.stored)?;
-        self.pos = next;
-        Ok(value)
+        self.stored.store(tag, text)
     }
 }

@@ -6,7 +6,7 @@ ghost use Rattle.kmip_ttlv_types.specs.Leaves.{is_valid};
 ghost use Rattle.kmip_ttlv_reader.specs.Outcomes.{type_there, tag_wanted, length_there, structure_wanted, inside, type_wanted};
 ghost use Rattle.kmip_ttlv_reader.specs.Outcomes.{content_there, opened, length_wanted, end_there, item_end, goes_on};
 ghost use Rattle.kmip_ttlv_reader.specs.Results.{IsStep};
-ghost use Rattle.kmip_ttlv_reader.specs.Reads.{has_tag};
+ghost use Rattle.kmip_ttlv_reader.specs.Reads.{has_tag, is_number_type};
 
 use crate::failure::{Cause, Failure, Step, at_item, bad_code, overflow};
 use kmip_ttlv_base::error::{MalformedTtlvError, SerdeError};
@@ -286,4 +286,12 @@ pub fn goes_on<A: Allocator + Copy>(
     }
     let _ = type_there(alloc, bytes, pos)?;
     Ok(tag_at(bytes, pos) == tag_at(bytes, first) && bytes[pos + 3] == bytes[first + 3])
+}
+
+/// Whether an enum is read from an item of this type by its number.
+#[inline(always)]
+pub fn is_number_type(typ: TtlvType) -> bool
+    ensures { result ≡ is_number_type typ }
+{
+    typ == TtlvType::Integer || typ == TtlvType::Enumeration
 }

@@ -1,4 +1,4 @@
-//! Leaves: their content, and the values that are read from it, as data or as a type's own.
+//! Leaves: their content, and the values that are read from it.
 
 ghost use Rattle.std.specs.Prelude.{◌≡◌, ◌+◌, ◌≤◌, length, true, IfOk};
 ghost use Rattle.kmip_ttlv_types.specs.Leaves.{is_valid};
@@ -126,8 +126,47 @@ fn store_leaf<'b, A: Allocator + Copy>(
     Ok(())
 }
 
-/// A leaf by its shape.
+/// A leaf's type and its content, which is valid for it.
+#[derive(Clone, Copy)]
+pub struct LeafContent<'b> {
+    /// The type of the item.
+    pub typ: TtlvType,
+    /// Its content, as it stands in the message, without padding.
+    pub bytes: &'b [u8],
+}
+
+/// A leaf of this shape: its type, its content, and where the next item is. Its text, if it has one, is stored.
 #[tactic(auto, unfolding(crate::specs::Outcomes::leaf_outcome), using(crate::proofs::Steps::failure_then))]
+#[inline(always)]
+pub fn leaf_there<'b, A: Allocator + Copy>(
+    scope: &Scope<'b, A>,
+    leaf: Leaf,
+    pos: usize,
+    stored: &mut TagValueStore<'b, A>,
+) -> Step<(LeafContent<'b>, usize), A>
+    requires inside { pos ≤ length scope.now.bytes.now }
+    ensures read { IsRead (λ c. decoded_leaf (form_of_leaf leaf) c.bytes.now) stored.new
+        (leaf_outcome (form_of_leaf leaf) scope.now.bytes.now scope.now.owner stored.old pos scope.now.end) result }
+    ensures taken { IfOk result (λ r. takes (form_of_leaf leaf) r.0.typ ≡ true) }
+    ensures valid { IfOk result (λ r. is_valid r.0.typ r.0.bytes.now ≡ true) }
+    ensures further { IfOk result (λ r. (pos + 8 ≤ r.1) × (r.1 ≤ scope.now.end) × (r.1 ≤ length scope.now.bytes.now)) }
+{
+    let typ = type_there(scope.alloc, scope.bytes, pos)?;
+    type_wanted(
+        scope.alloc,
+        leaf.takes(typ),
+        leaf.first_type(),
+        scope.bytes,
+        pos,
+        typ,
+    )?;
+    let (bytes, next) = content_there(scope.alloc, scope.bytes, pos, typ)?;
+    inside(scope.alloc, scope.bytes, pos, scope.end, typ, next)?;
+    store_leaf(leaf, tag_at(scope.bytes, pos), typ, bytes, stored)?;
+    Ok((LeafContent { typ, bytes }, next))
+}
+
+/// A leaf of this shape, as data.
 #[inline(always)]
 pub fn read_leaf<'b, A: Allocator + Copy>(
     scope: &Scope<'b, A>,
@@ -140,69 +179,11 @@ pub fn read_leaf<'b, A: Allocator + Copy>(
         (leaf_outcome (form_of_leaf leaf) scope.now.bytes.now scope.now.owner stored.old pos scope.now.end) result }
     ensures further { IfOk result (λ r. (pos + 8 ≤ r.1) × (r.1 ≤ scope.now.end) × (r.1 ≤ length scope.now.bytes.now)) }
 {
-    let typ = type_there(scope.alloc, scope.bytes, pos)?;
-    type_wanted(
-        scope.alloc,
-        leaf.takes(typ),
-        leaf.first_type(),
-        scope.bytes,
-        pos,
-        typ,
-    )?;
-    let (content, next) = content_there(scope.alloc, scope.bytes, pos, typ)?;
-    inside(scope.alloc, scope.bytes, pos, scope.end, typ, next)?;
-    let data = leaf_data(scope.alloc, leaf, typ, content)?;
-    store_leaf(leaf, tag_at(scope.bytes, pos), typ, content, stored)?;
-    Ok((data, next))
-}
-
-/// A type whose values the contents of leaves are.
-pub trait LeafValue<A: Allocator>: Sized + Drop {
-    ghost use Rattle.kmip_ttlv_reader.specs.declared.leaf.Leaf.{Leaf};
-
-    // The shape of such a leaf.
-    ghost leaf: { Leaf };
-
-    // The value that it stands for.
-    ghost value: { Self → Value };
-
-    /// The shape of such a leaf.
-    fn leaf() -> Leaf
-        ensures { result ≡ leaf };
-
-    /// The value of valid content. An AllocError when out of memory.
-    fn decode(alloc: A, typ: TtlvType, content: &[u8]) -> Result<Self, AllocError>
-        requires takes { takes (form_of_leaf leaf) typ ≡ true }
-        requires valid { is_valid typ content.now ≡ true }
-        ensures { IfOk result (λ x. value x ≡ decoded_leaf (form_of_leaf leaf) content.now) };
-}
-
-/// A leaf as a value of the type.
-#[tactic(auto, unfolding(crate::specs::Outcomes::leaf_outcome), using(crate::proofs::Steps::failure_then))]
-#[inline(always)]
-pub fn read_leaf_as<'b, K: LeafValue<A>, A: Allocator + Copy>(
-    scope: &Scope<'b, A>,
-    pos: usize,
-    stored: &mut TagValueStore<'b, A>,
-) -> Step<(K, usize), A>
-    requires inside { pos ≤ length scope.now.bytes.now }
-    ensures read { IsRead K.value stored.new
-        (leaf_outcome (form_of_leaf K.leaf) scope.now.bytes.now scope.now.owner stored.old pos scope.now.end) result }
-    ensures further { IfOk result (λ r. (pos + 8 ≤ r.1) × (r.1 ≤ scope.now.end) × (r.1 ≤ length scope.now.bytes.now)) }
-{
-    let leaf = K::leaf();
-    let item_type = type_there(scope.alloc, scope.bytes, pos)?;
-    type_wanted(
-        scope.alloc,
-        leaf.takes(item_type),
-        leaf.first_type(),
-        scope.bytes,
-        pos,
-        item_type,
-    )?;
-    let (content, next) = content_there(scope.alloc, scope.bytes, pos, item_type)?;
-    inside(scope.alloc, scope.bytes, pos, scope.end, item_type, next)?;
-    let value = K::decode(scope.alloc, item_type, content)?;
-    store_leaf(leaf, tag_at(scope.bytes, pos), item_type, content, stored)?;
-    Ok((value, next))
+    match leaf_there(scope, leaf, pos, stored) {
+        Ok((content, next)) => Ok((
+            leaf_data(scope.alloc, leaf, content.typ, content.bytes)?,
+            next,
+        )),
+        Err(failure) => Err(failure),
+    }
 }

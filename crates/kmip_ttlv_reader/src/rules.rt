@@ -10,7 +10,7 @@ ghost use Rattle.kmip_ttlv_base.specs.Errors.{mismatch, view_of_serde};
 ghost use Rattle.kmip_ttlv_reader.specs.ReadFaults.{at_item};
 ghost use Rattle.kmip_ttlv_reader.specs.Results.{IsFailureOf};
 ghost use Rattle.kmip_ttlv_reader.specs.Rules.{rule, type_name, sides, in_brackets, equal, at_least, member, plain_verdict};
-ghost use Rattle.kmip_ttlv_reader.specs.RuleParts.{texts_verdict, texts_of, wanted};
+ghost use Rattle.kmip_ttlv_reader.specs.RuleParts.{holds, is_stored, texts_of};
 ghost use Rattle.kmip_ttlv_reader.specs.Verdicts.{verdict_of, mismatch_of};
 
 use crate::failure::{Cause, Failure, at_item};
@@ -102,7 +102,7 @@ pub fn parts_hold<'b, A: Allocator + Copy>(
     stored: &TagValueStore<'b, A>,
     typ: TtlvType,
 ) -> bool
-    ensures { plain_verdict result ≡ wanted parts stored.now typ }
+    ensures { result ≡ holds parts stored.now typ }
 {
     match parts {
         RuleParts::Texts { tag, texts } => is_stored(tag, texts, stored),
@@ -117,7 +117,7 @@ fn is_stored<'b, A: Allocator + Copy>(
     texts: &[&str],
     stored: &TagValueStore<'b, A>,
 ) -> bool
-    ensures { plain_verdict result ≡ texts_verdict tag (texts_of texts.now) stored.now }
+    ensures { result ≡ is_stored tag (texts_of texts.now) stored.now }
 {
     match stored.last_under(tag) {
         Some(text) => is_among(text, texts),
