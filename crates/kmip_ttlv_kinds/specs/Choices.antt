@@ -1,23 +1,32 @@
 -- Values that are one of several items of one tag, of which a rule chooses one: what is known of the choice, by what is known of each item.
-use Rattle.std.proofs.Common.{◌≡◌, ◌==◌, ap, cond, option_map, subst, sym, ℕ, Bool as Boole, true, false, List, [], ◌∷◌, Option, Some, None, refl}
-use Rattle.std.specs.{Option.IsSomeAnd, Prelude.IfSome}
+use Rattle.std.proofs.Common.{◌≡◌, ◌==◌, ◌∙◌, Result, Ok, Err, ap, cond, option_map, subst, sym, ℕ, zero, suc, Bool as Boole, true, false, List, [], ◌∷◌, Option, Some, None, refl}
+use Rattle.std.specs.{Option.IsSomeAnd, Prelude.IfSome, Prelude.IsErrAnd}
 use Rattle.std.proofs.lemmas.Bool.{eqb-true, false≢true}
 use Rattle.std.proofs.lemmas.Option.{none-some}
 use Rattle.kmip_ttlv_types.specs.declared.typ.TtlvType.{TtlvType}
-use Rattle.kmip_ttlv_base.specs.Forms.{Form, enum, wrapped, Variants}
+use Rattle.kmip_ttlv_base.specs.Forms.{Form, enum, unit, wrapped, tuple, Variants, no_variants, variant}
 use Rattle.kmip_ttlv_base.specs.Values.{Value, newtype_variant_value, no_values, value}
+use Rattle.kmip_ttlv_reader.specs.declared.failure.Failure.{Failure}
+use Rattle.kmip_ttlv_reader.specs.Results.{IsFailure}
+use Rattle.kmip_ttlv_reader.specs.Chosen.{held_outcome}
+use Rattle.kmip_ttlv_reader.specs.Outcomes.{outcome}
+use Rattle.kmip_ttlv_reader.specs.Spots.{IsReadTo, Spot, at}
+use Rattle.kmip_ttlv_reader.specs.declared.scope.Scope.{Scope}
+use Rattle.kmip_ttlv_reader.specs.Steps.{Reader, ends_early, mapped, reads}
+use Rattle.kmip_ttlv_reader.proofs.Steps.{failure_then}
 use Rattle.kmip_ttlv_reader.specs.{Rules.choice, Rules.chosen, TagValues.TagValue, TagValues.last as last_text}
-use Rattle.kmip_ttlv_parts.specs.Agreements.{Head, HasVariant, is_run}
+use Rattle.kmip_ttlv_parts.specs.Agreements.{HasVariant, is_run}
 use Rattle.kmip_ttlv_parts.proofs.{Known.Finds, Known.Known, Known.said, MessageParts.PartAgrees, TagNumbers.IsTag}
 use Rattle.kmip_ttlv_parts.proofs.MessageRules.{PartAfter, chosen_after, chosen_by_type, chosen_twice}
 use Rattle.kmip_ttlv_parts.specs.{Returns.text_of_number, declared.enumeration.Enumeration.Enumeration}
 use Rattle.kmip_ttlv_kinds.specs.Parts.{ChoiceRules, ItemRules, KnownAgrees, NeedsNothing, Told}
 
--- all that is known of a type whose values a rule chooses
+-- all that is known of a type whose values a rule chooses: its name and variants among them
 pub record ChoiceOf (H : Type 0) : Type 1 where
-  pub form : Form
+  pub own : List ℕ
+  pub variants : Variants
   pub value : H → Value
-  pub rules : ChoiceRules H form value
+  pub rules : ChoiceRules H (enum own variants) value
 
 -- what a variant means: what is written of it, the value that it is read as, and whether what it holds is sound
 pub record Meaning : Type 1 where
@@ -77,7 +86,7 @@ abbrev pub held_choice : {K H : Type 0} {n decider : ℕ} {typ : TtlvType} {C : 
     → ((x y : K) → c.rules.eq x y ≡ true → eq (into x) (into y) ≡ true)
     → HeldChoice n decider typ C into eq
 held_choice c tagged typed needed same =
-    record { form = c.form; value = c.value; rules = c.rules; tagged = tagged; typed = typed; needed = needed; same = same }
+    record { form = enum c.own c.variants; value = c.value; rules = c.rules; tagged = tagged; typed = typed; needed = needed; same = same }
 
 -- where a text was kept last under a tag, that is known
 finds_one : (decider : ℕ) (text : List ℕ) (k : List TagValue) → last_text k decider ≡ Some text → Finds (record { tag = decider; text = Some text } ∷ []) k
@@ -109,6 +118,67 @@ as_item own name h x = record { written = h.rules.written x; value = newtype_var
 abbrev pub as_choice : {K H : Type 0} {n decider : ℕ} {typ : TtlvType} {C : List ℕ → K → Type 0} {into : K → H} {eq : H → H → Boole} (own name : List ℕ)
     → HeldChoice n decider typ C into eq → K → Meaning
 as_choice own name h x = record { written = h.rules.written x; value = newtype_variant_value own name (h.value x); IsSound = h.rules.IsSound x }
+
+-- ---- what is read
+
+-- the name and the form of the variant at a place
+abbrev pub variant_at : Variants → ℕ → Option (List ℕ × Form)
+variant_at (variant name (wrapped s) vs) zero = Some (name, s)
+variant_at (variant name c vs) (suc place) = variant_at vs place
+variant_at _ place = None
+
+-- what the variant at this place reads is the result
+unfoldable pub IsHeldAt : {H A : Type 0} → ChoiceOf H → ℕ → Scope A → Spot → Spot → Result H (Failure A) → Type 0
+IsHeldAt all place scope old new r = IsReadTo all.value new (at (held_outcome all.own all.variants place) scope old) r
+
+-- what a variant of this name and form reads
+abbrev variant_outcome : List ℕ → Option (List ℕ × Form) → Reader Value
+variant_outcome own None b o k p e = ends_early
+variant_outcome own (Some x) b o k p e = mapped (newtype_variant_value own x.0) (outcome x.1 b o k p e)
+
+held_is : (own : List ℕ) (vs : Variants) (place : ℕ) (b : List ℕ) (o : ℕ) (k : List TagValue) (p e : ℕ)
+    → held_outcome own vs place b o k p e ≡ variant_outcome own (variant_at vs place) b o k p e
+held_is own no_variants place b o k p e = refl
+held_is own (variant name (wrapped s) vs) zero b o k p e = refl
+held_is own (variant name (wrapped s) vs) (suc place) b o k p e = held_is own vs place b o k p e
+held_is own (variant name unit vs) zero b o k p e = refl
+held_is own (variant name unit vs) (suc place) b o k p e = held_is own vs place b o k p e
+held_is own (variant name (tuple ss) vs) zero b o k p e = refl
+held_is own (variant name (tuple ss) vs) (suc place) b o k p e = held_is own vs place b o k p e
+
+at_place : {place n : ℕ} {name : List ℕ} {s : Form} {A : Type 0} (own : List ℕ) (vs : Variants) (scope : Scope A) (old : Spot)
+    → place ≡ n
+    → variant_at vs n ≡ Some (name, s)
+    → at (held_outcome own vs place) scope old ≡ mapped (newtype_variant_value own name) (at (outcome s) scope old)
+at_place {n = n} own vs scope old is there =
+    ap (λ m. at (held_outcome own vs m) scope old) is ∙ held_is own vs n scope.bytes.now scope.owner old.stored old.pos scope.end
+    ∙ ap (λ x. variant_outcome own x scope.bytes.now scope.owner old.stored old.pos scope.end) there
+
+-- the variant at a place, of what was read of its item
+pub is_held_at : {H A : Type 0} {place n : ℕ} {name : List ℕ} {s : Form} {v : Value} (all : ChoiceOf H) (scope : Scope A) (old new : Spot) (y : H)
+    → at (outcome s) scope old ≡ reads v new.stored new.pos
+    → place ≡ n
+    → variant_at all.variants n ≡ Some (name, s)
+    → all.value y ≡ newtype_variant_value all.own name v
+    → IsHeldAt all place scope old new (Ok y)
+unfolding IsHeldAt
+is_held_at {name = name} all scope old new y read is there means =
+    at_place all.own all.variants scope old is there ∙ ap (mapped (newtype_variant_value all.own name)) read ∙ ap (λ w. reads w new.stored new.pos) (sym means)
+
+-- a fault of its item
+pub is_failed_at : {H A : Type 0} {place n : ℕ} {name : List ℕ} {s : Form} (all : ChoiceOf H) (scope : Scope A) (old new : Spot)
+    (r : Result H (Failure A)) (failure : Failure A)
+    → IsFailure (at (outcome s) scope old) failure
+    → IsErrAnd r (λ e. e ≡ failure)
+    → place ≡ n
+    → variant_at all.variants n ≡ Some (name, s)
+    → IsHeldAt all place scope old new r
+unfolding IsHeldAt
+is_failed_at all scope old new (Ok y) failure fails is_err is there = absurd is_err
+is_failed_at {name = name} {s = s} all scope old new (Err e) failure fails same is there =
+    subst (λ o. IsFailure o e) (sym (at_place all.own all.variants scope old is there))
+    (failure_then (at (outcome s) scope old) (λ r. reads (newtype_variant_value all.own name r.value) r.stored r.next) e
+    (subst (IsFailure (at (outcome s) scope old)) (sym same) fails))
 
 -- ---- choices by the text of a tag
 
@@ -154,13 +224,14 @@ after_known {decider = decider} c known (Some text) known_is is sound chooses =
     record { stored = p.stored; agrees = λ k found. p.agrees k (found decider text known_is) }
 
 -- a choice by the text of a tag: where that is known, it chooses what is held
-abbrev pub choice_by : {H : Type 0} {typ : H → TtlvType} {C : List ℕ → H → Type 0} {s : Form} {m : H → Meaning} (n decider : ℕ)
-    → ((x : H) → Case n decider (typ x) s (λ text. C text x) (m x))
+abbrev pub choice_by : {H : Type 0} {typ : H → TtlvType} {C : List ℕ → H → Type 0} {own : List ℕ} {vs : Variants} {m : H → Meaning} (n decider : ℕ)
+    → ((x : H) → Case n decider (typ x) (enum own vs) (λ text. C text x) (m x))
     → (eq : H → H → Boole)
     → ((x y : H) → (m x).value ≡ (m y).value → eq x y ≡ true)
     → ChoiceOf H
-choice_by {typ = typ} {C = C} {s = s} {m = m} n decider case eq same = record {
-  form = s;
+choice_by {typ = typ} {C = C} {own = own} {vs = vs} {m = m} n decider case eq same = record {
+  own = own;
+  variants = vs;
   value = λ x. (m x).value;
   rules = record {
     number = n;
@@ -206,13 +277,14 @@ pub typed_agrees : {n : ℕ} {typ : TtlvType} {s : Form} {m : Meaning} → Typed
 typed_agrees case is sound known = let p = case.agrees is sound in record { stored = p.stored; agrees = λ k found. p.agrees k }
 
 -- a choice by the type of the item: nothing has to be known
-abbrev pub choice_by_type : {H : Type 0} {typ : H → TtlvType} {s : Form} {m : H → Meaning} (n : ℕ)
-    → ((x : H) → TypedCase n (typ x) s (m x))
+abbrev pub choice_by_type : {H : Type 0} {typ : H → TtlvType} {own : List ℕ} {vs : Variants} {m : H → Meaning} (n : ℕ)
+    → ((x : H) → TypedCase n (typ x) (enum own vs) (m x))
     → (eq : H → H → Boole)
     → ((x y : H) → (m x).value ≡ (m y).value → eq x y ≡ true)
     → ChoiceOf H
-choice_by_type {typ = typ} {s = s} {m = m} n case eq same = record {
-  form = s;
+choice_by_type {typ = typ} {own = own} {vs = vs} {m = m} n case eq same = record {
+  own = own;
+  variants = vs;
   value = λ x. (m x).value;
   rules = record {
     number = n;

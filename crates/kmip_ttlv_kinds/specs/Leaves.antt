@@ -1,9 +1,9 @@
 -- What a type of Rust has to say of itself to be a leaf: what is written of it, and that this comes back.
-use Rattle.std.proofs.Common.{◌≡◌, ◌==◌, ℕ, List, Bool as Boole, false, true, refl, subst, Option, None, Some}
+use Rattle.std.proofs.Common.{◌≡◌, ◌==◌, ℕ, List, Bool as Boole, false, true, refl, subst, Option, Some}
 use Rattle.std.specs.Prelude.{IfSome}
 use Rattle.kmip_ttlv_types.specs.declared.typ.TtlvType.{TtlvType}
 use Rattle.kmip_ttlv_types.specs.declared.typ.TtlvType.TheVariants as types
-use Rattle.kmip_ttlv_base.specs.{Forms.Form, Forms.any_number, Tags.wrapper_name, Values.Value, Values.newtype_value, Values.u32_value}
+use Rattle.kmip_ttlv_base.specs.{Forms.any_number, Tags.wrapper_name, Values.Value, Values.newtype_value, Values.u32_value}
 use Rattle.kmip_ttlv_reader.specs.{declared.leaf.Leaf.Leaf, LeafForms.form_of_leaf, Spots.wrapped_leaf}
 use Rattle.kmip_ttlv_parts.specs.{Agreements.is_run, Agreements.leaf_type, MessageParts.tagged, Returns.ComesBack, Returns.as_number, Returns.text_of_number}
 use Rattle.kmip_ttlv_parts.specs.{Enumerations.enumeration_value, Enumerations.IsEnumeration, declared.enumeration.Enumeration.Enumeration}

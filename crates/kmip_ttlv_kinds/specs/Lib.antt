@@ -2,4 +2,5 @@ pub mod Choices
 pub mod Laws
 pub mod Leaves
 pub mod Listed
+pub mod ListedRows
 pub mod Parts

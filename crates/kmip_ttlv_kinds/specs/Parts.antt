@@ -7,7 +7,7 @@ use Rattle.std.proofs.lemmas.Bool.{and_parts, eqb-true, not-true}
 use Rattle.kmip_ttlv_types.specs.{declared.typ.TtlvType.TtlvType, Digits.tag_text}
 use Rattle.kmip_ttlv_types.specs.declared.typ.TtlvType.TheVariants as types
 use Rattle.kmip_ttlv_base.specs.Forms.{Form, option, seq, Fields, no_fields, field}
-use Rattle.kmip_ttlv_base.specs.Values.{Value, seq_value, some_value, Values, no_values, value}
+use Rattle.kmip_ttlv_base.specs.Values.{Value, seq_value, Values, no_values, value}
 use Rattle.kmip_ttlv_base.specs.Visits.{joined, optional_field, Event, ReceivesEach, visited_in}
 use Rattle.kmip_ttlv_base.proofs.Visiting.{visited_joined}
 use Rattle.kmip_ttlv_reader.specs.TagValues.{TagValue}

@@ -1,40 +1,48 @@
 //! Choices: parts that a rule chooses, by the text of a part before them or by the type of their item.
 
-ghost use Rattle.std.specs.Prelude.{◌≡◌, ◌↔◌, ◌+◌, ◌≤◌, Some, false, IfOk, IsTrue, OnErr, OnOk};
+ghost use Rattle.std.specs.Prelude.{◌≡◌, ◌↔◌, ◌+◌, ◌<◌, ◌≤◌, IfOk, IsTrue, OnErr, OnOk};
 ghost use Rattle.kmip_ttlv_types.specs.Digits.{tag_text};
-ghost use Rattle.kmip_ttlv_base.specs.Forms.{option};
+ghost use Rattle.kmip_ttlv_base.specs.Forms.{enum, option};
 ghost use Rattle.kmip_ttlv_base.specs.Values.{no_values, value};
 ghost use Rattle.kmip_ttlv_base.specs.Visits.{ReceivesEach};
-ghost use Rattle.kmip_ttlv_reader.specs.Outcomes.{outcome};
-ghost use Rattle.kmip_ttlv_reader.specs.Reads.{is_option, is_struct};
-ghost use Rattle.kmip_ttlv_reader.specs.declared.rules.RuleParts.TheVariants as rules;
+ghost use Rattle.kmip_ttlv_reader.specs.Chosen.{count_of};
+ghost use Rattle.kmip_ttlv_reader.specs.Outcomes.{field_outcome, outcome};
+ghost use Rattle.kmip_ttlv_reader.specs.RuleParts.{AreRules};
 ghost use Rattle.kmip_ttlv_reader.specs.Spots.{IsReadTo, IsWithin, at, optional_value};
 ghost use Rattle.kmip_ttlv_kinds.specs.Parts.{maybe_one_of, one_of, told_choice};
 
 use crate::counts::Part;
-use crate::elements::AsElement;
 use crate::walks::{Judges, Visits, Walk};
 use kmip_ttlv_base::types::TtlvTag;
 use kmip_ttlv_base::visit::Visitor;
+use kmip_ttlv_reader::choice::{first_that_holds, unnamed};
 use kmip_ttlv_reader::cursor::{field_there, is_tag};
-use kmip_ttlv_reader::reader::{
-    Cursor, Element, Field, OptionalOf, RuleParts, Scope, Step, Variant,
-};
+use kmip_ttlv_reader::head::{tag_at, type_there};
+use kmip_ttlv_reader::reader::{Cursor, RuleParts, Scope, Step};
 use std::alloc::{AllocError, Allocator};
 use std::marker::PhantomData;
 
 /// An enum that is read as one of its variants, which a rule chooses. All have one tag.
 pub trait Choice<A: Allocator + Copy>: Sized + Drop {
-    ghost use Rattle.kmip_ttlv_kinds.specs.Choices.{ChoiceOf};
+    ghost use Rattle.kmip_ttlv_kinds.specs.Choices.{ChoiceOf, IsHeldAt};
 
-    // Its form, the value that it is read as, what is written of it, which are sound, what has to be known so that a rule chooses
-    // what it holds, and that it comes back.
+    // Its name and variants, the value that it is read as, what is written of it, which are sound, what has to be known so that a rule
+    // chooses what it holds, and that it comes back.
     ghost chosen: { ChoiceOf Self };
 
-    /// The next item, as the variant that the rules choose: by the reader's `read_choice`.
-    fn read_chosen<'b>(scope: &Scope<'b, A>, cursor: &mut Cursor<'b, A>) -> Step<Self, A>
+    /// The rules of its variants, in their order.
+    fn variant_rules() -> &'static [RuleParts]
+        ensures { AreRules chosen.variants result.now };
+
+    /// The next item, as what the variant at this place holds, counted from 0.
+    fn read_held<'b>(
+        scope: &Scope<'b, A>,
+        cursor: &mut Cursor<'b, A>,
+        place: usize,
+    ) -> Step<Self, A>
         requires within { IsWithin scope.now cursor.old }
-        ensures read { IsReadTo chosen.value cursor.new (at (outcome chosen.form) scope.now cursor.old) result }
+        requires there { place < count_of chosen.variants }
+        ensures read { IsHeldAt chosen place scope.now cursor.old cursor.new result }
         ensures within { IfOk result (λ _. IsWithin scope.now cursor.new) }
         ensures further { IfOk result (λ _. cursor.old.pos + 8 ≤ cursor.new.pos) };
 
@@ -42,9 +50,24 @@ pub trait Choice<A: Allocator + Copy>: Sized + Drop {
     fn tell_held<W: Walk<A>>(&self, state: &mut W::State) -> Result<(), AllocError>
         ensures told { OnOk result (W.steps.Takes state.old (told_choice chosen.rules self.now) state.new) }
         ensures stopped { OnErr result (W.Stopped state.new) };
+}
 
-    // It goes by its field's tag, and may not be absent.
-    ghost plain: { (is_struct chosen.form ≡ false) × (is_option chosen.form ≡ false) };
+/// The next item, as the variant that the rules choose: the first whose rule holds.
+pub fn read_choice<'b, C: Choice<A>, A: Allocator + Copy>(
+    scope: &Scope<'b, A>,
+    cursor: &mut Cursor<'b, A>,
+) -> Step<C, A>
+    requires within { IsWithin scope.now cursor.old }
+    ensures read { IsReadTo C.chosen.value cursor.new (at (outcome (enum C.chosen.own C.chosen.variants)) scope.now cursor.old) result }
+    ensures within { IfOk result (λ _. IsWithin scope.now cursor.new) }
+    ensures further { IfOk result (λ _. cursor.old.pos + 8 ≤ cursor.new.pos) }
+{
+    let rules = C::variant_rules();
+    let typ = type_there(scope.alloc, scope.bytes, cursor.pos())?;
+    match first_that_holds(rules, cursor.stored_values(), typ) {
+        Some(place) => C::read_held(scope, cursor, place),
+        None => unnamed(scope, cursor.pos(), typ),
+    }
 }
 
 // Calls a visitor with what a choice holds.
@@ -70,36 +93,6 @@ pub fn is_choice_whole<C: Choice<A>, A: Allocator + Copy>(choice: &C) -> bool
     }
 }
 
-/// The rule that the last text of a tag is one of these, for a `parts`.
-#[inline(always)]
-pub fn texts_in(tag: u32, texts: &'static [&'static str]) -> Option<RuleParts>
-    ensures { result ≡ Some (rules.Texts tag texts.entry) }
-{
-    Some(RuleParts::Texts { tag, texts })
-}
-
-/// A variant that this rule chooses, of this element.
-pub type Case<R, E> = Variant<R, AsElement<E>>;
-
-/// A choice, as a variant of another of its tag.
-#[derive(Drop)]
-pub struct ChoiceElement<C> {
-    kind: PhantomData<C>,
-}
-
-impl<C: Choice<A>, A: Allocator + Copy> Element<A> for ChoiceElement<C> {
-    type Read = C;
-
-    ghost form = { C.chosen.form };
-
-    ghost value = { C.chosen.value };
-
-    #[inline(always)]
-    fn read_one<'b>(scope: &Scope<'b, A>, cursor: &mut Cursor<'b, A>) -> Step<C, A> {
-        C::read_chosen(scope, cursor)
-    }
-}
-
 /// A part that is exactly one item of this tag, which a rule chooses.
 #[derive(Drop)]
 pub struct OneOf<C, const TAG: u32> {
@@ -109,7 +102,7 @@ pub struct OneOf<C, const TAG: u32> {
 impl<C: Choice<A>, const TAG: u32, A: Allocator + Copy> Part<A> for OneOf<C, TAG> {
     type Holds = C;
 
-    ghost form = { C.chosen.form };
+    ghost form = { enum C.chosen.own C.chosen.variants };
 
     ghost value = { C.chosen.value };
 
@@ -122,7 +115,7 @@ impl<C: Choice<A>, const TAG: u32, A: Allocator + Copy> Part<A> for OneOf<C, TAG
     #[inline(always)]
     fn read<'b>(scope: &Scope<'b, A>, cursor: &mut Cursor<'b, A>) -> Step<C, A> {
         match field_there(scope, TAG, cursor.pos()) {
-            Ok(()) => C::read_chosen(scope, cursor),
+            Ok(()) => read_choice(scope, cursor),
             Err(failure) => Err(failure),
         }
     }
@@ -147,7 +140,7 @@ pub struct MaybeOneOf<C, const TAG: u32> {
 impl<C: Choice<A>, const TAG: u32, A: Allocator + Copy> Part<A> for MaybeOneOf<C, TAG> {
     type Holds = Option<C>;
 
-    ghost form = { option C.chosen.form };
+    ghost form = { option (enum C.chosen.own C.chosen.variants) };
 
     ghost value = { optional_value C.chosen.value };
 
@@ -157,9 +150,17 @@ impl<C: Choice<A>, const TAG: u32, A: Allocator + Copy> Part<A> for MaybeOneOf<C
         is_tag(TAG, tag)
     }
 
+    #[tactic(auto, unfolding(kmip_ttlv_reader::specs::Outcomes::field_outcome, kmip_ttlv_reader::specs::Outcomes::outcome), using(kmip_ttlv_reader::proofs::Steps::failure_then))]
     #[inline(always)]
     fn read<'b>(scope: &Scope<'b, A>, cursor: &mut Cursor<'b, A>) -> Step<Option<C>, A> {
-        <OptionalOf<ChoiceElement<C>, TAG> as Field<A>>::read(scope, cursor)
+        if cursor.pos() == scope.end {
+            return Ok(None);
+        }
+        let _ = type_there(scope.alloc, scope.bytes, cursor.pos())?;
+        if !is_tag(TAG, tag_at(scope.bytes, cursor.pos())) {
+            return Ok(None);
+        }
+        Ok(Some(read_choice(scope, cursor)?))
     }
 
     #[inline(always)]

@@ -11,14 +11,13 @@ ghost use Rattle.kmip_ttlv_reader.specs.Spots.{IsReadTo, IsWithin, at, optional_
 ghost use Rattle.kmip_ttlv_parts.specs.MessageParts.{sequence};
 ghost use Rattle.kmip_ttlv_kinds.specs.Parts.{any, maybe, one, several};
 
-use crate::elements::{AsElement, Element};
+use crate::elements::Element;
+use crate::fields::{read_any_field, read_optional_field, read_several_field};
 use kmip_ttlv_base::parts::{begin_seq, end_seq};
 use kmip_ttlv_base::types::TtlvTag;
 use kmip_ttlv_base::visit::Visitor;
 use kmip_ttlv_reader::cursor::is_tag;
-use kmip_ttlv_reader::reader::{
-    Cursor, Field, OptionalOf, OptionalSeveralOf, Scope, SeveralOf, Step,
-};
+use kmip_ttlv_reader::reader::{Cursor, Scope, Step};
 use std::alloc::{AllocError, Allocator};
 use std::marker::PhantomData;
 
@@ -116,7 +115,7 @@ impl<E: Element<A>, const TAG: u32, A: Allocator + Copy> Part<A> for Maybe<E, TA
 
     #[inline(always)]
     fn read<'b>(scope: &Scope<'b, A>, cursor: &mut Cursor<'b, A>) -> Step<Option<E::Holds>, A> {
-        <OptionalOf<AsElement<E>, TAG> as Field<A>>::read(scope, cursor)
+        read_optional_field::<E, A>(scope, TAG, cursor)
     }
 
     #[inline(always)]
@@ -186,7 +185,7 @@ impl<E: Element<A>, const TAG: u32, A: Allocator + Copy> Part<A> for Several<E, 
 
     #[inline(always)]
     fn read<'b>(scope: &Scope<'b, A>, cursor: &mut Cursor<'b, A>) -> Step<Vec<E::Holds, A>, A> {
-        <SeveralOf<AsElement<E>, TAG> as Field<A>>::read(scope, cursor)
+        read_several_field::<E, A>(scope, TAG, cursor)
     }
 
     #[inline(always)]
@@ -222,7 +221,7 @@ impl<E: Element<A>, const TAG: u32, A: Allocator + Copy> Part<A> for Any<E, TAG>
 
     #[inline(always)]
     fn read<'b>(scope: &Scope<'b, A>, cursor: &mut Cursor<'b, A>) -> Step<Vec<E::Holds, A>, A> {
-        <OptionalSeveralOf<AsElement<E>, TAG> as Field<A>>::read(scope, cursor)
+        read_any_field::<E, A>(scope, TAG, cursor)
     }
 
     #[inline(always)]
@@ -234,30 +233,5 @@ impl<E: Element<A>, const TAG: u32, A: Allocator + Copy> Part<A> for Any<E, TAG>
     #[inline(always)]
     fn is_whole(held: &Vec<E::Holds, A>) -> bool {
         held.iter().all(|element| E::is_whole(element))
-    }
-}
-
-/// A part, as the reader takes it.
-#[derive(Drop)]
-pub struct AsField<P> {
-    kind: PhantomData<P>,
-}
-
-impl<P: Part<A>, A: Allocator + Copy> Field<A> for AsField<P> {
-    type Read = P::Holds;
-
-    ghost name = { tag_text P.rules.tag };
-
-    ghost form = { P.form };
-
-    ghost stands_for = { P.value };
-
-    fn has_tag(tag: TtlvTag) -> bool {
-        P::has_tag(tag)
-    }
-
-    #[inline(always)]
-    fn read<'b>(scope: &Scope<'b, A>, cursor: &mut Cursor<'b, A>) -> Step<P::Holds, A> {
-        P::read(scope, cursor)
     }
 }

@@ -15,7 +15,7 @@ ghost use Rattle.kmip_ttlv_parts.specs.Enumerations.{enumeration_value};
 ghost use Rattle.kmip_ttlv_kinds.specs.Leaves.{enumeration_item, enumeration_under, leaf_item};
 
 use crate::counts::{Maybe, One};
-use crate::leaves::{Held, LeafKind};
+use crate::leaves::{LeafKind, read_leaf_field, read_wrapped};
 use crate::structure::{Structure, Wrapper, is_structure_whole, visit_structure};
 use crate::walks::{Judges, Visits};
 use kmip_ttlv_base::parts;
@@ -25,7 +25,7 @@ use kmip_ttlv_base::visit::{self, Visitor};
 use kmip_ttlv_parts::laws::Sound;
 use kmip_ttlv_parts::{Boxed, Enumeration};
 use kmip_ttlv_reader::cursor::missing_field;
-use kmip_ttlv_reader::reader::{self, Cursor, Scope, Step};
+use kmip_ttlv_reader::reader::{Cursor, Scope, Step};
 use std::alloc::{AllocError, Allocator};
 use std::marker::PhantomData;
 
@@ -246,7 +246,7 @@ impl<const TAG: u32, A: Allocator + Copy> Element<A> for Enumeration<TAG> {
 
     #[inline(always)]
     fn read_one<'b>(scope: &Scope<'b, A>, cursor: &mut Cursor<'b, A>) -> Step<Enumeration<TAG>, A> {
-        let number: u32 = cursor.wrapped_leaf(scope, TAG)?;
+        let number: u32 = read_wrapped(scope, TAG, cursor)?;
         Ok(Enumeration { number })
     }
 
@@ -255,7 +255,7 @@ impl<const TAG: u32, A: Allocator + Copy> Element<A> for Enumeration<TAG> {
         scope: &Scope<'b, A>,
         cursor: &mut Cursor<'b, A>,
     ) -> Step<Enumeration<TAG>, A> {
-        let number: u32 = cursor.leaf(scope, TAG)?;
+        let number: u32 = read_leaf_field(scope, TAG, cursor)?;
         Ok(Enumeration { number })
     }
 
@@ -293,7 +293,7 @@ impl<const OWN: u32, const TAG: u32, A: Allocator + Copy> Element<A>
 
     #[inline(always)]
     fn read_one<'b>(scope: &Scope<'b, A>, cursor: &mut Cursor<'b, A>) -> Step<Enumeration<OWN>, A> {
-        let number: u32 = cursor.wrapped_leaf(scope, TAG)?;
+        let number: u32 = read_wrapped(scope, TAG, cursor)?;
         Ok(Enumeration { number })
     }
 
@@ -302,7 +302,7 @@ impl<const OWN: u32, const TAG: u32, A: Allocator + Copy> Element<A>
         scope: &Scope<'b, A>,
         cursor: &mut Cursor<'b, A>,
     ) -> Step<Enumeration<OWN>, A> {
-        let number: u32 = cursor.leaf(scope, TAG)?;
+        let number: u32 = read_leaf_field(scope, TAG, cursor)?;
         Ok(Enumeration { number })
     }
 
@@ -339,16 +339,12 @@ impl<K: LeafKind<A>, const TAG: u32, A: Allocator + Copy> Element<A> for LeafIte
 
     #[inline(always)]
     fn read_one<'b>(scope: &Scope<'b, A>, cursor: &mut Cursor<'b, A>) -> Step<K, A> {
-        let held: Held<K> = cursor.wrapped_leaf(scope, TAG)?;
-        let Held { inner } = held;
-        Ok(inner)
+        read_wrapped(scope, TAG, cursor)
     }
 
     #[inline(always)]
     fn read_field<'b>(scope: &Scope<'b, A>, cursor: &mut Cursor<'b, A>) -> Step<K, A> {
-        let held: Held<K> = cursor.leaf(scope, TAG)?;
-        let Held { inner } = held;
-        Ok(inner)
+        read_leaf_field(scope, TAG, cursor)
     }
 
     #[inline(always)]
@@ -367,22 +363,3 @@ pub type Leaf<K, const TAG: u32> = One<LeafItem<K, TAG>>;
 
 /// A part that is such a leaf, or absent.
 pub type MaybeLeaf<K, const TAG: u32> = Maybe<LeafItem<K, TAG>, TAG>;
-
-/// An element, as the reader takes it.
-#[derive(Drop)]
-pub struct AsElement<E> {
-    kind: PhantomData<E>,
-}
-
-impl<E: Element<A>, A: Allocator + Copy> reader::Element<A> for AsElement<E> {
-    type Read = E::Holds;
-
-    ghost form = { E.form };
-
-    ghost value = { E.value };
-
-    #[inline(always)]
-    fn read_one<'b>(scope: &Scope<'b, A>, cursor: &mut Cursor<'b, A>) -> Step<E::Holds, A> {
-        E::read_one(scope, cursor)
-    }
-}

@@ -1,16 +1,19 @@
 //! The types of Rust whose values leaves are, both ways.
 
-ghost use Rattle.std.specs.Prelude.{◌≡◌, ◌↔◌, ◌<◌, ◌^◌, ◌%◌, true, refl, None, Some, length, FitsSigned, IfOk, IsTrue, string_bytes};
+ghost use Rattle.std.specs.Prelude.{◌≡◌, ◌↔◌, ◌+◌, ◌<◌, ◌≤◌, ◌^◌, ◌%◌, true, refl, None, Some, length, FitsSigned, IfOk, IsTrue, string_bytes};
 ghost use Rattle.std.specs.Int.{w32, w64};
 ghost use Rattle.kmip_ttlv_types.specs.declared.typ.TtlvType.TheVariants as types;
 ghost use Rattle.kmip_ttlv_types.specs.Leaves.{is_valid};
-ghost use Rattle.kmip_ttlv_base.specs.Values.{Value, i32_value, i64_value, boolean_value, u32_value, interval_value, date_time_value, text_value, bytes_value, big_integer_value};
+ghost use Rattle.kmip_ttlv_base.specs.Values.{Value, newtype_value, i32_value, i64_value, boolean_value, u32_value, interval_value, date_time_value, text_value, bytes_value, big_integer_value};
 ghost use Rattle.kmip_ttlv_base.specs.Visits.{leaf_value};
 ghost use Rattle.kmip_ttlv_reader.specs.declared.leaf.Leaf.{Leaf};
 ghost use Rattle.kmip_ttlv_reader.specs.declared.leaf.Leaf.TheVariants as leaves;
 ghost use Rattle.kmip_ttlv_reader.specs.LeafForms.{form_of_leaf};
 ghost use Rattle.kmip_ttlv_reader.specs.Reads.{takes, decoded_leaf};
-ghost use Rattle.kmip_ttlv_reader.specs.Spots.{by_bits};
+ghost use Rattle.kmip_ttlv_types.specs.Digits.{tag_text};
+ghost use Rattle.kmip_ttlv_base.specs.Tags.{wrapper_name};
+ghost use Rattle.kmip_ttlv_reader.specs.Outcomes.{field_outcome, outcome};
+ghost use Rattle.kmip_ttlv_reader.specs.Spots.{IsReadTo, IsWithin, at, by_bits, wrapped_leaf};
 ghost use Rattle.kmip_ttlv_parts.specs.Returns.{as_boolean, as_interval, as_number, as_octets, as_text, text_of_number};
 ghost use Rattle.kmip_ttlv_parts.proofs.MessageParts.{as_date_time_by_bits, as_int32_by_bits, as_int64_by_bits, as_whole, text_is_utf8};
 ghost use Rattle.kmip_ttlv_parts.proofs.MessageRules.{number_stored, text_stored};
@@ -21,9 +24,9 @@ use kmip_ttlv_base::types::TtlvType;
 use kmip_ttlv_base::types::numbers::{number_of_eight, number_of_four};
 use kmip_ttlv_base::visit;
 use kmip_ttlv_parts::laws::{Sound, is_whole};
-use kmip_ttlv_reader::leaf::{Leaf, LeafValue, text_of};
-use kmip_ttlv_reader::reader::{DateTime, Interval};
-use std::alloc::{AllocError, Allocator, Global};
+use kmip_ttlv_reader::leaf::{Leaf, text_of};
+use kmip_ttlv_reader::reader::{BigNumber, Cursor, DateTime, Interval, Scope, Step};
+use std::alloc::{AllocError, Allocator};
 
 /// A type of Rust whose values are encoded as leaves of one type, and decoded from them.
 pub trait LeafKind<A: Allocator>: Sized + Drop {
@@ -375,15 +378,7 @@ impl<A: Allocator> LeafKind<A> for Interval {
     }
 }
 
-/// A Big Integer: its bytes, the highest first. Encoding extends its sign to a multiple of eight bytes, so one is sound that has such
-/// a number of them.
-#[derive(Drop)]
-#[derive_where(Debug, PartialEq)]
-pub struct BigNumber<A: Allocator = Global> {
-    /// The bytes of the number, in two's complement.
-    pub bytes: Vec<u8, A>,
-}
-
+/// A Big Integer. Encoding extends its sign to a multiple of eight bytes, so one is sound that has such a number of them.
 impl<A: Allocator> LeafKind<A> for BigNumber<A> {
     ghost leaf = { leaves.BigInteger };
 
@@ -424,26 +419,40 @@ impl<A: Allocator> LeafKind<A> for BigNumber<A> {
     }
 }
 
-/// A leaf as the reader takes it.
-#[derive(Drop)]
-pub struct Held<K> {
-    /// What it is read as.
-    pub inner: K,
+/// The next item, a leaf under the wrapper of this tag, whatever the item's own tag.
+#[inline(always)]
+pub fn read_wrapped<'b, K: LeafKind<A>, A: Allocator + Copy>(
+    scope: &Scope<'b, A>,
+    tag: u32,
+    cursor: &mut Cursor<'b, A>,
+) -> Step<K, A>
+    requires within { IsWithin scope.now cursor.old }
+    ensures read { IsReadTo (λ x. newtype_value (wrapper_name tag) (K.value x)) cursor.new
+        (at (outcome (wrapped_leaf tag (form_of_leaf K.leaf))) scope.now cursor.old) result }
+    ensures within { IfOk result (λ _. IsWithin scope.now cursor.new) }
+    ensures further { IfOk result (λ _. cursor.old.pos + 8 ≤ cursor.new.pos) }
+{
+    match cursor.wrapped_leaf(scope, tag, K::shape()) {
+        Ok(content) => Ok(K::decode(scope.alloc, content.typ, content.bytes)?),
+        Err(failure) => Err(failure),
+    }
 }
 
-impl<K: LeafKind<A>, A: Allocator> LeafValue<A> for Held<K> {
-    ghost leaf = { K.leaf };
-
-    ghost value = { λ x. K.value x.inner };
-
-    #[inline(always)]
-    fn leaf() -> Leaf {
-        K::shape()
-    }
-
-    #[inline(always)]
-    fn decode(alloc: A, typ: TtlvType, content: &[u8]) -> Result<Held<K>, AllocError> {
-        let inner = K::decode(alloc, typ, content)?;
-        Ok(Held { inner })
+/// The next field, a leaf of this tag.
+#[inline(always)]
+pub fn read_leaf_field<'b, K: LeafKind<A>, A: Allocator + Copy>(
+    scope: &Scope<'b, A>,
+    tag: u32,
+    cursor: &mut Cursor<'b, A>,
+) -> Step<K, A>
+    requires within { IsWithin scope.now cursor.old }
+    ensures read { IsReadTo (λ x. newtype_value (wrapper_name tag) (K.value x)) cursor.new
+        (at (field_outcome (tag_text tag) (wrapped_leaf tag (form_of_leaf K.leaf)) (outcome (wrapped_leaf tag (form_of_leaf K.leaf))))
+        scope.now cursor.old) result }
+    ensures within { IfOk result (λ _. IsWithin scope.now cursor.new) }
+{
+    match cursor.leaf(scope, tag, K::shape()) {
+        Ok(content) => Ok(K::decode(scope.alloc, content.typ, content.bytes)?),
+        Err(failure) => Err(failure),
     }
 }

@@ -22,6 +22,7 @@
 mod choices;
 mod counts;
 mod elements;
+mod fields;
 mod laws;
 mod leaves;
 mod listed;
@@ -30,19 +31,15 @@ mod reading;
 mod structure;
 mod walks;
 
-pub use crate::choices::{
-    Case, Choice, ChoiceElement, MaybeOneOf, OneOf, is_choice_whole, texts_in,
-};
-pub use crate::counts::{Any, AsField, Maybe, One, Part, Several};
-pub use crate::elements::{
-    AsElement, Element, InBox, Inside, Leaf, LeafItem, MaybeLeaf, Of, Under,
-};
+pub use crate::choices::{Choice, MaybeOneOf, OneOf, is_choice_whole, read_choice};
+pub use crate::counts::{Any, Maybe, One, Part, Several};
+pub use crate::elements::{Element, InBox, Inside, Leaf, LeafItem, MaybeLeaf, Of, Under};
 pub use crate::laws::{
     equal_choices, equal_structures, structures_are_read_back, structures_come_back,
 };
-pub use crate::leaves::{BigNumber, Held, LeafKind};
+pub use crate::leaves::LeafKind;
 pub use crate::listed::{Listed, ListedItem};
-pub use crate::lists::{Alone, AsFields, Four, Holds, PartList};
+pub use crate::lists::{Alone, Four, Holds, PartList};
 pub use crate::reading::{decode_structure, read_structure};
 pub use crate::structure::{FromParts, Structure, Wrapper, is_structure_whole, visit_structure};
 pub use crate::walks::{Decided, Judges, Visits, Walk};

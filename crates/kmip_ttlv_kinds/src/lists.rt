@@ -9,9 +9,9 @@ ghost use Rattle.kmip_ttlv_reader.specs.Outcomes.{fields_outcome};
 ghost use Rattle.kmip_ttlv_reader.specs.Spots.{IsReadTo, IsWithin, at};
 ghost use Rattle.kmip_ttlv_kinds.specs.Parts.{AreFour, AreThree, AreTwo, are_four, are_more, are_three, are_two, block, blocks, four_of, in_blocks, is_one, last, more_of, of, then, three_of, two_of};
 
-use crate::counts::{AsField, Part};
+use crate::counts::Part;
 use kmip_ttlv_base::types::TtlvTag;
-use kmip_ttlv_reader::reader::{self, Cursor, FieldList, Scope, Step};
+use kmip_ttlv_reader::reader::{Cursor, Scope, Step};
 use std::alloc::Allocator;
 use std::marker::PhantomData;
 
@@ -51,6 +51,98 @@ pub trait PartList<A: Allocator + Copy> {
         ensures within { IfOk result (λ _. IsWithin scope.now cursor.new) };
 }
 
+// Parts that are read one after the other: what tuples are read by.
+trait Run<A: Allocator + Copy> {
+    ghost use Rattle.kmip_ttlv_base.specs.Forms.{Fields};
+    ghost use Rattle.kmip_ttlv_base.specs.Values.{Values};
+
+    // The types of Rust that hold them, each in a pair with those of the later ones.
+    type Holds: Drop;
+
+    // The parts' names and forms.
+    ghost fields: { Fields };
+
+    // The values that they are read as.
+    ghost values: { Self.Holds → Values };
+
+    // Whether the tag is that of a part.
+    fn is_part(tag: TtlvTag) -> bool
+        ensures { result ≡ names_tag fields tag };
+
+    // The parts, from the cursor on.
+    fn read<'b>(scope: &Scope<'b, A>, cursor: &mut Cursor<'b, A>) -> Step<Self::Holds, A>
+        requires within { IsWithin scope.now cursor.old }
+        ensures read { IsReadTo values cursor.new (at (fields_outcome fields) scope.now cursor.old) result }
+        ensures within { IfOk result (λ _. IsWithin scope.now cursor.new) };
+}
+
+impl<A: Allocator + Copy> Run<A> for () {
+    type Holds = ();
+
+    ghost fields = { no_fields };
+
+    ghost values = { λ _. no_values };
+
+    fn is_part(_tag: TtlvTag) -> bool {
+        false
+    }
+
+    #[tactic(auto, unfolding(kmip_ttlv_reader::specs::Outcomes::fields_outcome))]
+    #[inline(always)]
+    fn read<'b>(_scope: &Scope<'b, A>, _cursor: &mut Cursor<'b, A>) -> Step<(), A> {
+        Ok(())
+    }
+}
+
+// A list, as what is read behind other parts.
+#[derive(Drop)]
+struct Behind<L> {
+    kind: PhantomData<L>,
+}
+
+impl<L: PartList<A>, A: Allocator + Copy> Run<A> for Behind<L> {
+    type Holds = L::Holds;
+
+    ghost fields = { L.fields };
+
+    ghost values = { L.values };
+
+    fn is_part(tag: TtlvTag) -> bool {
+        L::is_part(tag)
+    }
+
+    #[inline(always)]
+    fn read<'b>(scope: &Scope<'b, A>, cursor: &mut Cursor<'b, A>) -> Step<L::Holds, A> {
+        L::read_list(scope, cursor)
+    }
+}
+
+// A part, and others after it.
+#[derive(Drop)]
+struct Then<P, R> {
+    kind: PhantomData<(P, R)>,
+}
+
+impl<P: Part<A>, R: Run<A>, A: Allocator + Copy> Run<A> for Then<P, R> {
+    type Holds = (P::Holds, R::Holds);
+
+    ghost fields = { field (tag_text P.rules.tag) P.form R.fields };
+
+    ghost values = { λ x. value (P.value x.0) (R.values x.1) };
+
+    fn is_part(tag: TtlvTag) -> bool {
+        P::has_tag(tag) || R::is_part(tag)
+    }
+
+    #[tactic(auto, unfolding(kmip_ttlv_reader::specs::Outcomes::fields_outcome), using(kmip_ttlv_reader::proofs::Steps::failure_then))]
+    #[inline(always)]
+    fn read<'b>(scope: &Scope<'b, A>, cursor: &mut Cursor<'b, A>) -> Step<(P::Holds, R::Holds), A> {
+        let first = P::read(scope, cursor)?;
+        let others = R::read(scope, cursor)?;
+        Ok((first, others))
+    }
+}
+
 /// One part alone.
 #[derive(Drop)]
 pub struct Alone<P> {
@@ -71,13 +163,13 @@ impl<P: Part<A>, A: Allocator + Copy> PartList<A> for Alone<P> {
     }
 
     fn is_part(tag: TtlvTag) -> bool {
-        <(AsField<P>,) as FieldList<A>>::is_field(tag)
+        P::has_tag(tag)
     }
 
     #[inline(always)]
     fn read_list<'b>(scope: &Scope<'b, A>, cursor: &mut Cursor<'b, A>) -> Step<P::Holds, A> {
-        match <(AsField<P>,) as FieldList<A>>::read(scope, cursor) {
-            Ok(read) => Ok(read.0),
+        match <Then<P, ()> as Run<A>>::read(scope, cursor) {
+            Ok((first, ())) => Ok(first),
             Err(failure) => Err(failure),
         }
     }
@@ -99,7 +191,7 @@ impl<P: Part<A>, Q: Part<A>, A: Allocator + Copy> PartList<A> for (P, Q) {
     }
 
     fn is_part(tag: TtlvTag) -> bool {
-        <(AsField<P>, AsField<Q>) as FieldList<A>>::is_field(tag)
+        <Then<P, Then<Q, ()>> as Run<A>>::is_part(tag)
     }
 
     #[inline(always)]
@@ -107,7 +199,13 @@ impl<P: Part<A>, Q: Part<A>, A: Allocator + Copy> PartList<A> for (P, Q) {
         scope: &Scope<'b, A>,
         cursor: &mut Cursor<'b, A>,
     ) -> Step<(P::Holds, Q::Holds), A> {
-        <(AsField<P>, AsField<Q>) as FieldList<A>>::read(scope, cursor)
+        match <Then<P, Then<Q, ()>> as Run<A>>::read(scope, cursor) {
+            Ok(parts) => {
+                let (first, (second, ())) = parts;
+                Ok((first, second))
+            }
+            Err(failure) => Err(failure),
+        }
     }
 }
 
@@ -127,7 +225,7 @@ impl<P: Part<A>, Q: Part<A>, R: Part<A>, A: Allocator + Copy> PartList<A> for (P
     }
 
     fn is_part(tag: TtlvTag) -> bool {
-        <(AsField<P>, AsField<Q>, AsField<R>) as FieldList<A>>::is_field(tag)
+        <Then<P, Then<Q, Then<R, ()>>> as Run<A>>::is_part(tag)
     }
 
     #[inline(always)]
@@ -135,7 +233,13 @@ impl<P: Part<A>, Q: Part<A>, R: Part<A>, A: Allocator + Copy> PartList<A> for (P
         scope: &Scope<'b, A>,
         cursor: &mut Cursor<'b, A>,
     ) -> Step<(P::Holds, Q::Holds, R::Holds), A> {
-        <(AsField<P>, AsField<Q>, AsField<R>) as FieldList<A>>::read(scope, cursor)
+        match <Then<P, Then<Q, Then<R, ()>>> as Run<A>>::read(scope, cursor) {
+            Ok(parts) => {
+                let (first, (second, (third, ()))) = parts;
+                Ok((first, second, third))
+            }
+            Err(failure) => Err(failure),
+        }
     }
 }
 
@@ -156,7 +260,7 @@ impl<P: Part<A>, Q: Part<A>, R: Part<A>, S: Part<A>, A: Allocator + Copy> PartLi
     }
 
     fn is_part(tag: TtlvTag) -> bool {
-        <(AsField<P>, AsField<Q>, AsField<R>, AsField<S>) as FieldList<A>>::is_field(tag)
+        <Then<P, Then<Q, Then<R, Then<S, ()>>>> as Run<A>>::is_part(tag)
     }
 
     #[inline(always)]
@@ -164,7 +268,13 @@ impl<P: Part<A>, Q: Part<A>, R: Part<A>, S: Part<A>, A: Allocator + Copy> PartLi
         scope: &Scope<'b, A>,
         cursor: &mut Cursor<'b, A>,
     ) -> Step<(P::Holds, Q::Holds, R::Holds, S::Holds), A> {
-        <(AsField<P>, AsField<Q>, AsField<R>, AsField<S>) as FieldList<A>>::read(scope, cursor)
+        match <Then<P, Then<Q, Then<R, Then<S, ()>>>> as Run<A>>::read(scope, cursor) {
+            Ok(parts) => {
+                let (first, (second, (third, (fourth, ())))) = parts;
+                Ok((first, second, third, fourth))
+            }
+            Err(failure) => Err(failure),
+        }
     }
 }
 
@@ -193,9 +303,7 @@ impl<P: Part<A>, Q: Part<A>, R: Part<A>, S: Part<A>, L: PartList<A>, A: Allocato
     }
 
     fn is_part(tag: TtlvTag) -> bool {
-        <reader::Four<AsField<P>, AsField<Q>, AsField<R>, AsField<S>, AsFields<L>> as FieldList<
-            A,
-        >>::is_field(tag)
+        <Then<P, Then<Q, Then<R, Then<S, Behind<L>>>>> as Run<A>>::is_part(tag)
     }
 
     #[inline(always)]
@@ -203,35 +311,12 @@ impl<P: Part<A>, Q: Part<A>, R: Part<A>, S: Part<A>, L: PartList<A>, A: Allocato
         scope: &Scope<'b, A>,
         cursor: &mut Cursor<'b, A>,
     ) -> Step<(P::Holds, Q::Holds, R::Holds, S::Holds, L::Holds), A> {
-        <reader::Four<AsField<P>, AsField<Q>, AsField<R>, AsField<S>, AsFields<L>> as FieldList<
-            A,
-        >>::read(scope, cursor)
-    }
-}
-
-/// A list of parts, as the reader takes it.
-#[derive(Drop)]
-pub struct AsFields<L> {
-    kind: PhantomData<L>,
-}
-
-impl<L: PartList<A>, A: Allocator + Copy> FieldList<A> for AsFields<L> {
-    type Read = L::Holds;
-
-    ghost fields = { L.fields };
-
-    ghost values = { L.values };
-
-    fn has_fields() -> bool {
-        L::has_parts()
-    }
-
-    fn is_field(tag: TtlvTag) -> bool {
-        L::is_part(tag)
-    }
-
-    #[inline(always)]
-    fn read<'b>(scope: &Scope<'b, A>, cursor: &mut Cursor<'b, A>) -> Step<L::Holds, A> {
-        L::read_list(scope, cursor)
+        match <Then<P, Then<Q, Then<R, Then<S, Behind<L>>>>> as Run<A>>::read(scope, cursor) {
+            Ok(parts) => {
+                let (first, (second, (third, (fourth, others)))) = parts;
+                Ok((first, second, third, fourth, others))
+            }
+            Err(failure) => Err(failure),
+        }
     }
 }

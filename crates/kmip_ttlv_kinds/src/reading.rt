@@ -1,9 +1,12 @@
 //! Reading a structure's parts: its header, the parts, what follows them, and the end.
 
-ghost use Rattle.std.specs.Prelude.{◌≡◌, suc, ◌+◌, ◌≤◌, length, IfOk};
+ghost use Rattle.std.specs.Prelude.{◌≡◌, suc, ◌+◌, ◌≤◌, length, IfErr, IfOk};
+ghost use Rattle.kmip_ttlv_base.specs.Values.{Value};
 ghost use Rattle.kmip_ttlv_types.specs.Digits.{tag_text};
 ghost use Rattle.kmip_ttlv_reader.specs.Outcomes.{all_outcome, fields_outcome, first_outcome, ignored, opened, outcome, rest_outcome, root_outcome, struct_outcome};
-ghost use Rattle.kmip_ttlv_reader.specs.ReadResults.{IsReadAs};
+ghost use Rattle.kmip_ttlv_reader.specs.ReadResults.{ErrorStands, IsReadAs, early_end, sort_of};
+ghost use Rattle.kmip_ttlv_reader.specs.Reads.{Begins};
+ghost use Rattle.kmip_ttlv_reader.specs.Wholes.{BeginsWhole};
 ghost use Rattle.kmip_ttlv_reader.specs.Results.{IsStep};
 ghost use Rattle.kmip_ttlv_kinds.specs.Parts.{within};
 ghost use Rattle.kmip_ttlv_reader.specs.Spots.{IsReadTo, IsWithin, at, structure_form, structure_value};
@@ -190,9 +193,9 @@ fn read_first<L: PartList<A>, T: FromParts<A, L>, A: Allocator + Copy>(
     }
 }
 
-/// The structure of this tag and these parts with which the bytes begin, for a `decode`. It has the errors of `from_slice`.
+// What a message is read as.
 #[tactic(auto, unfolding(crate::specs::Parts::within))]
-pub fn decode_structure<L: PartList<A>, T: FromParts<A, L>, A: Allocator + Copy>(
+fn decode_root<L: PartList<A>, T: FromParts<A, L>, A: Allocator + Copy>(
     alloc: A,
     tag: u32,
     closed: bool,
@@ -205,4 +208,25 @@ pub fn decode_structure<L: PartList<A>, T: FromParts<A, L>, A: Allocator + Copy>
         Ok(structure) => Ok(structure),
         Err(failure) => Err(error(failure)),
     }
+}
+
+/// The structure of this tag and these parts with which the bytes begin, for a `decode`. It has the errors of `from_slice`.
+pub fn decode_structure<L: PartList<A>, T: FromParts<A, L>, A: Allocator + Copy>(
+    alloc: A,
+    tag: u32,
+    closed: bool,
+    bytes: &[u8],
+) -> Result<T, Error<A>>
+    // Which value comes, or which error and where: unless memory runs out, what the form reads the bytes as.
+    ensures equals { IsReadAs (λ v x. v ≡ structure_value tag (within (λ y. L.values (T.parts y))) x)
+        (root_outcome (structure_form tag L.fields closed) bytes.now) result }
+    // What is returned is the value with which the bytes begin.
+    ensures found { IfOk result (λ x. (v : Value) × Begins (structure_form tag L.fields closed) bytes.now v
+        × (v ≡ structure_value tag (within (λ y. L.values (T.parts y))) x)) }
+    // Bytes with an error begin with no value; but for an early end, whatever bytes follow.
+    ensures refused { IfErr result (λ e. ErrorStands (structure_form tag L.fields closed) bytes.now e) }
+    // A Structure that is split into items at every depth never ends too early.
+    ensures whole { IfErr result (λ e. BeginsWhole bytes.now → sort_of e ≡ early_end → ⊥) }
+{
+    decode_root::<L, T, A>(alloc, tag, closed, bytes)
 }
