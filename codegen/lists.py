@@ -9,11 +9,11 @@ CLAIM = "Written by codegen from types.table: change that, and run codegen/codeg
 # What a module imports, by its path, if it names it.
 RUST_NAMES = {
     "kmip_ttlv::error": "Error",
-    "kmip_ttlv_kinds": "Alone Any AsElement BigNumber Case Choice ChoiceElement Decided Element Four FromParts Holds InBox Inside Leaf LeafItem Listed ListedItem Maybe MaybeLeaf MaybeOneOf Of One OneOf"
-    " PartList Several Structure Under Walk Wrapper decode_structure is_structure_whole read_structure structures_come_back texts_in visit_structure",
+    "kmip_ttlv_kinds": "Alone Any Choice Decided Element Four FromParts Holds InBox Inside Leaf LeafItem Listed ListedItem Maybe MaybeLeaf MaybeOneOf Of One OneOf"
+    " PartList Several Structure Under Walk Wrapper decode_structure is_structure_whole read_choice read_structure structures_come_back visit_structure",
     "kmip_ttlv_parts": "Boxed Enumeration",
     "kmip_ttlv_parts::laws": "Message Sound is_none_of",
-    "kmip_ttlv_parts::reader": "ChoiceValue Cursor DateTime Interval Rule RuleParts Scope Step Variant VariantList VariantOf",
+    "kmip_ttlv_parts::reader": "BigNumber Cursor DateTime Interval RuleParts Scope Step",
     "kmip_ttlv_parts::shape": "Decode Serialize",
     "kmip_ttlv_parts::types": "TtlvType",
     "kmip_ttlv_parts::visit": "Visitor",
@@ -100,13 +100,12 @@ def names_of(t):
     names += [name for name in listed if name != t.name] + [snake(name) for name in listed if name != t.name]
     for name in map(snake, listed):
         names += [name.upper(), *(f"{name}_{word}" for word in ("variants", "number", "is_unit", "rows", "found", "same", "contract"))]
-    names += [f"{t.name}{v.name}Rule" for v in t.variants if v.is_deciding]
     if t.kind == "choice":
         names += [f"{t.name}{word}" for word in ("Cases", "Items")] + [f"{t.snake}_{word}" for word in ("variants", "cases", "case", "by", "same", "choice")]
         names += [f"{t.snake}_chosen_by"] if t.is_by_numbers else [f"Chooses{t.name}"] if t.rule_tag else []
         names += [f"{t.snake}_typ"] if t.has_heads else []
         names += [f"{t.snake}_names", f"{t.snake}_unnamed", f"{t.screaming}_NAMES", f"is_no_{t.snake}"] if t.is_mixed else []
-        names += [v.rule_type for v in t.variants] + [f"{t.name}Later{at}" for at, _ in t.chunks[1:]]
+        names += [f"{t.screaming}_RULES"]
     return names
 
 
@@ -207,6 +206,9 @@ class Kinds:
         return [parts[at : at + 4] for at in range(0, len(parts), 4)]
 
 
+# Numbers with a sign, of which a proof has to find that their bits are those of a number that fits.
+SIGNED = ("i32", "i64")
+
 COUNT = {1: "one", 2: "two", 3: "three", 4: "four"}
 ORDER = ["First", "Second", "Third", "Fourth", "Fifth"]
 
@@ -229,6 +231,7 @@ class Writer:
             folder = f"proofs/{t.module.name}" if t.module.is_own else ""
             if folder and t.kind == "choice":
                 files[f"{folder}/{self.impl_of(t, 'Choice')}/tell_held/Answers.antt"] = self.held_told(t)
+                files[f"{folder}/{self.impl_of(t, 'Choice')}/read_held/Answers.antt"] = self.held_read(t)
             if folder and t.kind in ("structure", "message") and (t.choices or t.one_ofs or len(t.parts) > 4):
                 files[f"{folder}/{self.impl_of(t, 'Structure')}/tell_parts/Answers.antt"] = self.parts_told(t)
         return {path: f"{'//' if path.endswith('.rt') else '--'} {CLAIM}\n{text}" for path, text in files.items()}
@@ -319,17 +322,10 @@ class Writer:
         for t in self.table.types:
             if t not in types and re.search(rf"\b{t.name}\b", body):
                 uses.setdefault(f"{'crate' if t.module.is_own else t.module.crate}::{t.module.name}", []).append(t.name)
-        for t in self.table.types:
-            if t.is_open and t not in types:
-                rules = [f"{t.name}{row.name}Rule" for row in t.variants if row.is_deciding and re.search(rf"\b{t.name}{row.name}Rule\b", body)]
-                uses.setdefault(f"{'crate' if t.module.is_own else t.module.crate}::{t.module.name}", []).extend(rules)
-        uses = {path: names for path, names in uses.items() if names}
         if any(t.kind == "message" for t in types):
             uses = {path.replace("kmip_ttlv_parts::", "kmip_ttlv::") if path.endswith(("laws", "shape")) else path: names for path, names in uses.items()}
         for path, names in sorted(uses.items()):
             lines.append(f"use {path}::{names[0]};" if len(names) == 1 else f"use {path}::{{{', '.join(sorted(names))}}};")
-        if re.search(r"\breader::(Choice|read_choice|Element|Listed)\b", body):
-            lines.append("use kmip_ttlv_parts::reader;")
         text = "\n".join(lines) + "\n" + body.rstrip() + "\n"
         return text
 
@@ -347,7 +343,7 @@ class Writer:
         return (
             f"\n/// {t.doc}\npub type {t.name} = Enumeration<0x{t.tag}>;\n\n/// The numbers of `{t.name}` that have a name.\npub mod {t.snake} {{\n"
             f"    use super::{t.name};\n\n{rows}}}\n"
-        ) + "".join(self.rule(f"{t.name}{v.name}Rule", f"{t.name}::{v.name}", f"if 0x{t.tag}==0x{v.number}", t.tag, [f"0x{v.number}"]) for v in t.variants if v.is_deciding)
+        )
 
     def enumeration(self, t):
         return self.listed(t.name, t.doc, t.tag, [(v.name, v.number, v.doc) for v in t.variants], False)
@@ -363,11 +359,9 @@ class Writer:
         return (
             f"\n/// {doc}\n#[derive(Clone, Copy, {'' if is_constant else 'Debug, '}PartialEq, Eq)]\npub enum {name} {{\n{variants}}}\n"
             f"\n// Each number, and what it stands for.\nconst {table}: [(&str, {name}); {len(rows)}] = [{numbers}];\n"
-            f"\nimpl reader::Listed for {name} {{\n    ghost own = {{ tag_text 0x{tag} }};\n\n    ghost variants = {{ {called}_variants }};\n\n"
-            f"    ghost value = {{ λ x. unit_variant_value (tag_text 0x{tag}) ({called}_number x) }};\n}}\n"
             f"\nimpl Listed for {name} {{\n    ghost tag = {{ 0x{tag} }};\n\n    ghost variants = {{ {called}_variants }};\n\n"
             f"    ghost rules = {{ record {{\n      number = {called}_number;\n      units = {called}_is_unit;\n      eq = {equal};\n      same = {same};\n    }} }};\n\n"
-            f"    fn read_listed<'b, A: Allocator + Copy>(scope: &Scope<'b, A>, cursor: &mut Cursor<'b, A>) -> Step<Self, A> {{\n        cursor.listed(scope, &{table})\n    }}\n\n"
+            f"    fn table() -> &'static [(&'static str, Self)] {{\n        &{table}\n    }}\n\n"
             f"    fn tag() -> u32 {{\n        0x{tag}\n    }}\n\n    #[tactic(auto, unfolding(kmip_ttlv_types::specs::Digits::six_digits))]\n    fn name() -> &'static str {{\n        \"0x{tag}\"\n    }}\n\n"
             f"    fn number_text(self) -> &'static str {{\n        match self {{\n{arms}        }}\n    }}\n}}\n"
         )
@@ -561,77 +555,32 @@ class Writer:
         for v in t.variants:
             told = "inner.tell_held::<W>(state)" if v.inner else f"W::item::<{self.element(t, v)}>(state, inner)"
             arms += f"            {t.name}::{v.name}{'' if v.number else '(inner)'} => {told.replace('inner', f'&{v.constant}::Only') if v.number else told},\n"
-        text += (
-            f"\nimpl<A: Allocator + Copy> Choice<A> for {t.name}{a} {{\n    ghost chosen = {{ {t.snake}_choice {eq} record {{\n        {lines};\n      }} }};\n\n"
-            f"    fn read_chosen<'b>(scope: &Scope<'b, A>, cursor: &mut Cursor<'b, A>) -> Step<Self, A> {{\n        reader::read_choice(scope, cursor)\n    }}\n\n"
-            f"    fn tell_held<W: Walk<A>>(&self, state: &mut W::State) -> Result<(), AllocError> {{\n        match self {{\n{arms}        }}\n    }}\n\n    ghost plain = {{ (refl, refl) }};\n}}\n"
-        )
-        for v in t.variants:
-            text += self.variant(t, v)
-        for at, end in t.chunks[1:]:
-            text += self.later(t, at, end)
-        text += (
-            f"\nimpl{bound.replace('Allocator', 'Allocator + Copy')} ChoiceValue for {t.name}{a} {{\n    ghost own = {{ codes \"{t.shape_name}\" }};\n\n"
-            f"    ghost value = {{ ⟦<{t.name}{a} as Choice<{'A' if t.owns else 'Global'}>>⟧.chosen.value }};\n}}\n"
-            f"\nimpl<A: Allocator + Copy> reader::Choice<A> for {t.name}{a} {{\n    ghost form = {{ ⟦<{t.name}{a} as Choice<A>>⟧.chosen.form }};\n\n"
-            f"    type Variants = {self.variants(t, *t.chunks[0])};\n\n    fn has_form() {{}}\n}}\n"
-        )
-        return text
-
-    def variants(self, t, at, end):
-        behind = f"{t.name}Later{end}" if end < len(t.variants) else "()"
-        items = [f"Variant<{self.rule_type(v)}, {self.as_element(t, v)}>" if v.inner else f"Case<{self.rule_type(v)}, {self.element(t, v)}>" for v in t.variants[at:end]]
-        return "".join(f"({item}, " for item in items) + behind + ")" * len(items)
-
-    def as_element(self, t, v):
-        return f"ChoiceElement<{self.element(t, v)}>" if v.inner else f"AsElement<{self.element(t, v)}>"
-
-    def later(self, t, at, end):
-        a = Kinds.a(t)
-        listed = self.variants(t, at, end)
-        quoted = f"<{listed} as VariantList<{t.name}{a}, A>>"
-        kind = f"\n/// The variants of `{t.name}` from `{t.variants[at].name}` on.\npub struct {t.name}Later{at};\n"
-        return (
-            f"{kind}\nimpl<A: Allocator + Copy> VariantList<{t.name}{a}, A> for {t.name}Later{at} {{\n    ghost variants = {{ ⟦{quoted}⟧.variants }};\n\n"
-            f"    fn read_chosen<'b>(scope: &Scope<'b, A>, cursor: &mut Cursor<'b, A>, typ: TtlvType) -> Step<Option<{t.name}{a}>, A> {{\n"
-            f"        {quoted}::read_chosen(scope, cursor, typ)\n    }}\n\n    ghost ruled = {{ λ content. refl }};\n}}\n"
-        )
-
-    def decider(self, v):
-        """The rule of a variant that an Enumeration has, if one has it."""
-        tag, texts = v.rule_parts or ("", [])
-        rows = [(t, row) for t in self.table.types if t.is_open and t.tag == tag for row in t.variants]
-        return next((f"{t.name}{row.name}Rule" for t, row in rows if row.is_deciding and f"0x{row.number}" == texts[0]), "")
-
-    def rule_type(self, v):
-        return self.decider(v) or v.rule_type
-
-    def rule(self, name, chosen, rule, tag, texts):
-        """The type of a rule by the text of a tag; without one, by the type of the item."""
-        if tag:
-            listed = ", ".join(f'"{text}"' for text in texts)
-            unfolded, parts = "parts_of", f"texts_in(0x{tag}, &[{listed}])"
-        else:
-            unfolded, parts = "equal_sides", f"Some(RuleParts::Type(TtlvType::{texts[0]}))"
-        return (
-            f"\n/// The rule that chooses `{chosen}`.\npub struct {name};\n\nimpl Rule for {name} {{\n    ghost condition = {{ codes \"{rule.removeprefix('if ')}\" }};\n\n"
-            f"    fn name() -> &'static str {{\n        \"{rule}\"\n    }}\n\n    #[tactic(auto, unfolding(kmip_ttlv_reader::specs::RuleParts::{unfolded}))]\n"
-            f"    fn parts() -> Option<RuleParts> {{\n        {parts}\n    }}\n}}\n"
-        )
-
-    def variant(self, t, v):
-        """How a variant is made of what is read, and its rule, unless an Enumeration has that."""
-        a, name = Kinds.a(t), self.rule_type(v)
-        tag, texts = v.rule_parts or ("", [v.chosen_type])
-        text = "" if self.decider(v) else self.rule(name, f"{t.name}::{v.name}", v.rule, tag, texts)
+        rules = ", ".join(self.rule(v) for v in t.variants)
+        unfolded = ", ".join(f"kmip_ttlv_reader::specs::RuleParts::{word}" for word in ("parts_of", "equal_sides"))
+        reading = "".join(f"            {place} => Ok({self.made(t, v)}),\n" for place, v in enumerate(t.variants))
         return text + (
-            f"\nimpl<A: Allocator + Copy> VariantOf<{self.as_element(t, v)}, {t.name}{a}, A> for {name} {{\n"
-            f"    #[tactic(auto, unfolding(crate::specs::Choices::{t.snake}_by))]\n    fn from_content(inner: {self.inside(v)}) -> {t.name}{a} {{\n        {self.made(t, v)}\n    }}\n}}\n"
+            f"\n// The rules of the variants, in their order.\nconst {t.screaming}_RULES: [RuleParts; {len(t.variants)}] = [{rules}];\n"
+            f"\nimpl<A: Allocator + Copy> Choice<A> for {t.name}{a} {{\n    ghost chosen = {{ {t.snake}_choice {eq} record {{\n        {lines};\n      }} }};\n\n"
+            f"    #[tactic(auto, unfolding({unfolded}))]\n    fn variant_rules() -> &'static [RuleParts] {{\n        &{t.screaming}_RULES\n    }}\n\n"
+            f"    fn read_held<'b>(scope: &Scope<'b, A>, cursor: &mut Cursor<'b, A>, place: usize) -> Step<Self, A> {{\n"
+            f"        match place {{\n{reading}            _ => unreachable!(),\n        }}\n    }}\n\n"
+            f"    fn tell_held<W: Walk<A>>(&self, state: &mut W::State) -> Result<(), AllocError> {{\n        match self {{\n{arms}        }}\n    }}\n}}\n"
         )
+
+    def rule(self, v):
+        """The rule of a variant in parts: by the text of a tag, or else by the type of the item."""
+        if not v.rule_parts:
+            return f"RuleParts::Type(TtlvType::{v.chosen_type})"
+        tag, texts = v.rule_parts
+        listed = ", ".join(f'"{text}"' for text in texts)
+        return f"RuleParts::Texts {{ tag: 0x{tag}, texts: &[{listed}] }}"
 
     def made(self, t, v):
         """A variant, of what is read."""
-        return f"match inner {{ {v.constant}::Only => {t.name}::{v.name} }}" if v.number else f"{t.name}::{v.name}(inner)"
+        if v.inner:
+            return f"{t.name}::{v.name}(read_choice(scope, cursor)?)"
+        read = f"<{self.element(t, v)} as Element<A>>::read_one(scope, cursor)?"
+        return f"match {read} {{ {v.constant}::Only => {t.name}::{v.name} }}" if v.number else f"{t.name}::{v.name}({read})"
 
     def tests(self, t, a, bound):
         """What decides whether a text or a number chooses what is held."""
@@ -660,8 +609,8 @@ class Writer:
     # ---- answers
 
     def impl_of(self, t, trait):
-        """What the prover calls the impl of a trait for a type: in full where a type has that name, or the reader a trait of it."""
-        is_taken = trait == "Choice" or any(other.name == f"{t.name}{trait}" for other in self.table.types)
+        """What the prover calls the impl of a trait for a type: in full where a type has that name."""
+        is_taken = any(other.name == f"{t.name}{trait}" for other in self.table.types)
         return f"{t.name}{'Any' * t.owns}{trait}Any" if is_taken else f"{t.name}{trait}"
 
     def answers(self, t, trait, function, imports, rows):
@@ -680,6 +629,23 @@ class Writer:
             )
         return self.answers(t, "Choice", "tell_held", [
             "use Rattle.std.specs.Prelude.{OnOk}", "use Rattle.kmip_ttlv_kinds.specs.Choices.{told_as}", f"use Rattle.{self.table.crate}.specs.Choices.{{{t.snake}_by}}",
+        ], rows)  # fmt: skip
+
+    def held_read(self, t):
+        rows, met, several = "", set(), len(t.variants) > 1
+        for place, v in enumerate(t.variants):
+            name = "read_choice" if v.inner else "read_one"
+            at = f"{name}-in-{place}" if several else name
+            residual = f"from_residual-in_err-{at}" if place else "from_residual"
+            means = "(search rules)" if v.number or v.leaf and v.leaf.rust in SIGNED else "refl"
+            rows += (
+                f"\npub returns-in_err-{at}-clause-read : goal.returns-in_err-{at}-clause-read\n"
+                f"returns-in_err-{at}-clause-read g c =\n    is_failed_at _ _ _ _ _ _ c.in_err-{at}.ensures.read c.{residual}.ensures.1 c.in-{place}.is refl\n"
+                f"\npub returns-in_ok-{at}-clause-read : goal.returns-in_ok-{at}-clause-read\nunfolding {t.snake}_by\n"
+                f"returns-in_ok-{at}-clause-read g c = is_held_at _ _ _ _ _ c.in_ok-{at}.ensures.read c.in-{place}.is refl {means}\n"
+            )
+        return self.answers(t, "Choice", "read_held", [
+            f"use Rattle.std.proofs.Common.{{refl{', rules' * ('rules' in rows)}}}", "use Rattle.kmip_ttlv_kinds.specs.Choices.{is_failed_at, is_held_at}", f"use Rattle.{self.table.crate}.specs.Choices.{{{t.snake}_by}}",
         ], rows)  # fmt: skip
 
     def parts_told(self, t):
@@ -726,7 +692,7 @@ class Writer:
             if re.search(rf"\b{word}\b(?! →  *types)", re.sub(r"types\.\w+|codes \"[^\"]*\"", "", body)):
                 lines.append(f"use Rattle.kmip_ttlv_reader.specs.declared.values.{word}.{{{word}}}")
         if "BigNumber" in body:
-            lines.append("use Rattle.kmip_ttlv_kinds.specs.declared.leaves.BigNumber.{BigNumber}")
+            lines.append("use Rattle.kmip_ttlv_reader.specs.declared.values.BigNumber.{BigNumber}")
         for t in [*types, *groups.values(), *held.values()]:
             path = f"Rattle.{self.crate(t)}.specs.declared.{t.module.name}.{t.name}"
             if re.search(rf"\b{t.name}\b", body):

@@ -205,7 +205,6 @@ class Variant:
     is_broken: bool = False
     owner: str = ""  # the type that it is a variant of, as a name of definitions
     is_boxed: bool = False  # of a group, whether the part that it lends stands on the heap
-    is_deciding: bool = False  # whether its Enumeration has the rule by which choices of other tables go
     leaf: Leaf = None  # the kind of leaf that it holds
 
     @property
@@ -223,11 +222,6 @@ class Variant:
         """The type of item that its rule asks for, if it asks for one."""
         asked = re.fullmatch(r"if type==(\w+)", self.rule)
         return asked[1] if asked else ""
-
-    @property
-    def rule_type(self):
-        """The type that names its rule."""
-        return f"{camel(self.owner)}{self.name}Rule"
 
     @property
     def inner(self):
@@ -393,12 +387,6 @@ class Type:
     def has_heads(self):
         """Whether it is a choice whose variants are items of several types."""
         return self.kind == "choice" and len({variant.typ for variant in self.variants}) > 1
-
-    @property
-    def chunks(self):
-        """Of a choice, where its lists of variants begin and end. Each variant more in a list takes the prover twice as long, so a list has
-        up to four, and those behind them are another."""
-        return [(at, min(at + 4, len(self.variants))) for at in range(0, len(self.variants), 4)] if self.kind == "choice" else []
 
     def keeps(self, tag):
         """Whether a text of this tag may be kept of what is in its item."""
@@ -731,7 +719,6 @@ class Reader:
             raise Bad(f"'{name}' is a variant of this type already")
         if owner.is_enumeration:
             variant.number = words.number()
-            variant.is_deciding = owner.is_open and bool(words.next_is("deciding"))
             if variant.number in [other.number for other in owner.variants[:-1]]:
                 raise Bad(f"the number {variant.number} is that of another variant")
         elif owner.kind == "group":

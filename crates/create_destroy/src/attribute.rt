@@ -1,9 +1,7 @@
 // Written by codegen from types.table: change that, and run codegen/codegen.
 //! Attributes of a key, and the template that has them (KMIP 1.0, sections 2.1.1 and 2.1.8).
 
-ghost use Rattle.std.specs.Prelude.{◌↔◌, ◌+◌, IsTrue, codes, false, refl, string_bytes, true};
-ghost use Rattle.kmip_ttlv_parts.specs.Digits.{tag_text};
-ghost use Rattle.kmip_ttlv_parts.specs.Values.{unit_variant_value};
+ghost use Rattle.std.specs.Prelude.{◌↔◌, ◌+◌, IsTrue, false, refl, string_bytes, true};
 ghost use Rattle.kmip_ttlv_kinds.specs.Parts.{structure, structure_where};
 ghost use Rattle.kmip_ttlv_kinds.specs.Choices.{held};
 ghost use Rattle.create_destroy.specs.Choices.{attribute_value_choice, ChoosesAttributeValue};
@@ -11,11 +9,10 @@ ghost use Rattle.create_destroy.specs.Listed.{attribute_value_aes_is_unit, attri
 ghost use Rattle.create_destroy.specs.declared.attribute.AttributeValueAes.TheVariants as attribute_value_aes;
 
 use kmip_ttlv_kinds::{
-    Alone, AsElement, Case, Choice, Decided, Element, FromParts, Holds, Leaf, LeafItem, Listed,
-    ListedItem, Of, OneOf, PartList, Several, Structure, Walk, Wrapper, read_structure, texts_in,
+    Alone, Choice, Decided, Element, FromParts, Holds, Leaf, LeafItem, Listed, ListedItem, Of,
+    OneOf, PartList, Several, Structure, Walk, Wrapper, read_structure,
 };
-use kmip_ttlv_parts::reader;
-use kmip_ttlv_parts::reader::{ChoiceValue, Cursor, Rule, RuleParts, Scope, Step, VariantOf};
+use kmip_ttlv_parts::reader::{Cursor, RuleParts, Scope, Step};
 use std::alloc::{AllocError, Allocator, Global};
 
 /// What an attribute says.
@@ -40,14 +37,6 @@ const ATTRIBUTE_VALUE_AES: [(&str, AttributeValueAes); 1] = [(
     AttributeValueAes::Only,
 )];
 
-impl reader::Listed for AttributeValueAes {
-    ghost own = { tag_text 0x42000B };
-
-    ghost variants = { attribute_value_aes_variants };
-
-    ghost value = { λ x. unit_variant_value (tag_text 0x42000B) (attribute_value_aes_number x) };
-}
-
 impl Listed for AttributeValueAes {
     ghost tag = { 0x42000B };
 
@@ -60,11 +49,8 @@ impl Listed for AttributeValueAes {
       same = λ x y e. refl;
     } };
 
-    fn read_listed<'b, A: Allocator + Copy>(
-        scope: &Scope<'b, A>,
-        cursor: &mut Cursor<'b, A>,
-    ) -> Step<Self, A> {
-        cursor.listed(scope, &ATTRIBUTE_VALUE_AES)
+    fn table() -> &'static [(&'static str, Self)] {
+        &ATTRIBUTE_VALUE_AES
     }
 
     fn tag() -> u32 {
@@ -96,14 +82,45 @@ impl AttributeValue {
     }
 }
 
+// The rules of the variants, in their order.
+const ATTRIBUTE_VALUE_RULES: [RuleParts; 2] = [
+    RuleParts::Texts {
+        tag: 0x42000A,
+        texts: &["Cryptographic Algorithm"],
+    },
+    RuleParts::Texts {
+        tag: 0x42000A,
+        texts: &["Cryptographic Length", "Cryptographic Usage Mask"],
+    },
+];
+
 impl<A: Allocator + Copy> Choice<A> for AttributeValue {
     ghost chosen = { attribute_value_choice ⟦<AttributeValue as PartialEq>⟧.eq record {
       aes = held ⟦<ListedItem<AttributeValueAes> as Element<A>>⟧.rules refl refl (λ x y e. refl);
       integer = held ⟦<LeafItem<i32, 0x42000B> as Element<A>>⟧.rules refl refl (λ x y e. e);
     } };
 
-    fn read_chosen<'b>(scope: &Scope<'b, A>, cursor: &mut Cursor<'b, A>) -> Step<Self, A> {
-        reader::read_choice(scope, cursor)
+    #[tactic(auto, unfolding(kmip_ttlv_reader::specs::RuleParts::parts_of, kmip_ttlv_reader::specs::RuleParts::equal_sides))]
+    fn variant_rules() -> &'static [RuleParts] {
+        &ATTRIBUTE_VALUE_RULES
+    }
+
+    fn read_held<'b>(
+        scope: &Scope<'b, A>,
+        cursor: &mut Cursor<'b, A>,
+        place: usize,
+    ) -> Step<Self, A> {
+        match place {
+            0 => Ok(
+                match <ListedItem<AttributeValueAes> as Element<A>>::read_one(scope, cursor)? {
+                    AttributeValueAes::Only => AttributeValue::Aes
+                },
+            ),
+            1 => Ok(AttributeValue::Integer(<LeafItem<i32, 0x42000B> as Element<A>>::read_one(
+                scope, cursor,
+            )?)),
+            _ => unreachable!(),
+        }
     }
 
     fn tell_held<W: Walk<A>>(&self, state: &mut W::State) -> Result<(), AllocError> {
@@ -115,78 +132,6 @@ impl<A: Allocator + Copy> Choice<A> for AttributeValue {
             AttributeValue::Integer(inner) => W::item::<LeafItem<i32, 0x42000B>>(state, inner),
         }
     }
-
-    ghost plain = { (refl, refl) };
-}
-
-/// The rule that chooses `AttributeValue::Aes`.
-pub struct AttributeValueAesRule;
-
-impl Rule for AttributeValueAesRule {
-    ghost condition = { codes "0x42000A==Cryptographic Algorithm" };
-
-    fn name() -> &'static str {
-        "if 0x42000A==Cryptographic Algorithm"
-    }
-
-    #[tactic(auto, unfolding(kmip_ttlv_reader::specs::RuleParts::parts_of))]
-    fn parts() -> Option<RuleParts> {
-        texts_in(0x42000A, &["Cryptographic Algorithm"])
-    }
-}
-
-impl<A: Allocator + Copy> VariantOf<AsElement<ListedItem<AttributeValueAes>>, AttributeValue, A>
-    for AttributeValueAesRule {
-    #[tactic(auto, unfolding(crate::specs::Choices::attribute_value_by))]
-    fn from_content(inner: AttributeValueAes) -> AttributeValue {
-        match inner {
-            AttributeValueAes::Only => AttributeValue::Aes
-        }
-    }
-}
-
-/// The rule that chooses `AttributeValue::Integer`.
-pub struct AttributeValueIntegerRule;
-
-impl Rule for AttributeValueIntegerRule {
-    ghost condition = { codes "0x42000A in [Cryptographic Length, Cryptographic Usage Mask]" };
-
-    fn name() -> &'static str {
-        "if 0x42000A in [Cryptographic Length, Cryptographic Usage Mask]"
-    }
-
-    #[tactic(auto, unfolding(kmip_ttlv_reader::specs::RuleParts::parts_of))]
-    fn parts() -> Option<RuleParts> {
-        texts_in(
-            0x42000A,
-            &["Cryptographic Length", "Cryptographic Usage Mask"],
-        )
-    }
-}
-
-impl<A: Allocator + Copy> VariantOf<AsElement<LeafItem<i32, 0x42000B>>, AttributeValue, A>
-    for AttributeValueIntegerRule {
-    #[tactic(auto, unfolding(crate::specs::Choices::attribute_value_by))]
-    fn from_content(inner: i32) -> AttributeValue {
-        AttributeValue::Integer(inner)
-    }
-}
-
-impl ChoiceValue for AttributeValue {
-    ghost own = { codes "value" };
-
-    ghost value = { ⟦<AttributeValue as Choice<Global>>⟧.chosen.value };
-}
-
-impl<A: Allocator + Copy> reader::Choice<A> for AttributeValue {
-    ghost form = { ⟦<AttributeValue as Choice<A>>⟧.chosen.form };
-
-    type Variants = (
-        Case<AttributeValueAesRule, ListedItem<AttributeValueAes>>,
-        (Case<AttributeValueIntegerRule, LeafItem<i32, 0x42000B>>, ()),
-    );
-
-    fn has_form() {}
 }
 
 /// What is known of a key, by its name.

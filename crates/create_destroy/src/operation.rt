@@ -2,15 +2,10 @@
 //! What an item asks for.
 
 ghost use denote.Enum.Bare.{true_same};
-ghost use Rattle.kmip_ttlv_parts.specs.Digits.{tag_text};
-ghost use Rattle.kmip_ttlv_parts.specs.Values.{unit_variant_value};
 ghost use Rattle.create_destroy.specs.Listed.{operation_is_unit, operation_number, operation_same, operation_variants};
 ghost use Rattle.create_destroy.specs.contracts.operation.Operation as operation_contract;
 
 use kmip_ttlv_kinds::Listed;
-use kmip_ttlv_parts::reader;
-use kmip_ttlv_parts::reader::{Cursor, Scope, Step};
-use std::alloc::Allocator;
 
 /// What an item asks for (KMIP 1.0, section 9.1.3.2.26).
 #[derive(Clone, Copy, Debug, PartialEq, Eq)]
@@ -27,14 +22,6 @@ const OPERATION: [(&str, Operation); 2] = [
     ("0x00000014", Operation::Destroy),
 ];
 
-impl reader::Listed for Operation {
-    ghost own = { tag_text 0x42005C };
-
-    ghost variants = { operation_variants };
-
-    ghost value = { λ x. unit_variant_value (tag_text 0x42005C) (operation_number x) };
-}
-
 impl Listed for Operation {
     ghost tag = { 0x42005C };
 
@@ -47,11 +34,8 @@ impl Listed for Operation {
       same = λ x y e. true_same operation_contract.the_type x y (operation_same x y e);
     } };
 
-    fn read_listed<'b, A: Allocator + Copy>(
-        scope: &Scope<'b, A>,
-        cursor: &mut Cursor<'b, A>,
-    ) -> Step<Self, A> {
-        cursor.listed(scope, &OPERATION)
+    fn table() -> &'static [(&'static str, Self)] {
+        &OPERATION
     }
 
     fn tag() -> u32 {

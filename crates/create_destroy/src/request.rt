@@ -1,9 +1,7 @@
 // Written by codegen from types.table: change that, and run codegen/codegen.
 //! Requests to create and destroy symmetric keys.
 
-ghost use Rattle.std.specs.Prelude.{◌↔◌, ◌+◌, IsTrue, codes, false, refl, true};
-ghost use Rattle.kmip_ttlv_parts.specs.Digits.{tag_text};
-ghost use Rattle.kmip_ttlv_parts.specs.Values.{unit_variant_value};
+ghost use Rattle.std.specs.Prelude.{◌↔◌, ◌+◌, IsTrue, false, refl, true};
 ghost use Rattle.kmip_ttlv_kinds.specs.Parts.{structure, structure_where};
 ghost use Rattle.kmip_ttlv_kinds.specs.Choices.{held};
 ghost use Rattle.create_destroy.specs.Choices.{request_payload_choice, ChoosesRequestPayload};
@@ -14,11 +12,10 @@ ghost use Rattle.create_destroy.specs.declared.request.CreatePayloadObjectType.T
 use crate::attribute::{Attribute, Template};
 use crate::operation::Operation;
 use kmip_ttlv_kinds::{
-    Alone, AsElement, Case, Choice, Decided, Element, FromParts, Holds, Inside, Leaf, Listed,
-    ListedItem, One, OneOf, PartList, Structure, Walk, Wrapper, read_structure, texts_in,
+    Alone, Choice, Decided, Element, FromParts, Holds, Inside, Leaf, Listed, ListedItem, One,
+    OneOf, PartList, Structure, Walk, Wrapper, read_structure,
 };
-use kmip_ttlv_parts::reader;
-use kmip_ttlv_parts::reader::{ChoiceValue, Cursor, Rule, RuleParts, Scope, Step, VariantOf};
+use kmip_ttlv_parts::reader::{Cursor, RuleParts, Scope, Step};
 use std::alloc::{AllocError, Allocator, Global};
 
 /// The payload that asks for a key.
@@ -42,14 +39,6 @@ const CREATE_PAYLOAD_OBJECT_TYPE: [(&str, CreatePayloadObjectType); 1] = [(
     CreatePayloadObjectType::Only,
 )];
 
-impl reader::Listed for CreatePayloadObjectType {
-    ghost own = { tag_text 0x420057 };
-
-    ghost variants = { create_payload_object_type_variants };
-
-    ghost value = { λ x. unit_variant_value (tag_text 0x420057) (create_payload_object_type_number x) };
-}
-
 impl Listed for CreatePayloadObjectType {
     ghost tag = { 0x420057 };
 
@@ -62,11 +51,8 @@ impl Listed for CreatePayloadObjectType {
       same = λ x y e. refl;
     } };
 
-    fn read_listed<'b, A: Allocator + Copy>(
-        scope: &Scope<'b, A>,
-        cursor: &mut Cursor<'b, A>,
-    ) -> Step<Self, A> {
-        cursor.listed(scope, &CREATE_PAYLOAD_OBJECT_TYPE)
+    fn table() -> &'static [(&'static str, Self)] {
+        &CREATE_PAYLOAD_OBJECT_TYPE
     }
 
     fn tag() -> u32 {
@@ -192,14 +178,47 @@ impl<A: Allocator> RequestPayload<A> {
     }
 }
 
+// The rules of the variants, in their order.
+const REQUEST_PAYLOAD_RULES: [RuleParts; 2] = [
+    RuleParts::Texts {
+        tag: 0x42005C,
+        texts: &["0x00000001"],
+    },
+    RuleParts::Texts {
+        tag: 0x42005C,
+        texts: &["0x00000014"],
+    },
+];
+
 impl<A: Allocator + Copy> Choice<A> for RequestPayload<A> {
     ghost chosen = { request_payload_choice ⟦<RequestPayload<A> as PartialEq>⟧.eq record {
       create = held ⟦<Inside<CreatePayload<A>, Vec<Attribute<A>, A>, 0x420079> as Element<A>>⟧.rules refl refl (λ x y e. e);
       destroy = held ⟦<Inside<DestroyPayload<A>, String<A>, 0x420079> as Element<A>>⟧.rules refl refl (λ x y e. e);
     } };
 
-    fn read_chosen<'b>(scope: &Scope<'b, A>, cursor: &mut Cursor<'b, A>) -> Step<Self, A> {
-        reader::read_choice(scope, cursor)
+    #[tactic(auto, unfolding(kmip_ttlv_reader::specs::RuleParts::parts_of, kmip_ttlv_reader::specs::RuleParts::equal_sides))]
+    fn variant_rules() -> &'static [RuleParts] {
+        &REQUEST_PAYLOAD_RULES
+    }
+
+    fn read_held<'b>(
+        scope: &Scope<'b, A>,
+        cursor: &mut Cursor<'b, A>,
+        place: usize,
+    ) -> Step<Self, A> {
+        match place {
+            0 => Ok(RequestPayload::Create(<Inside<
+                CreatePayload<A>,
+                Vec<Attribute<A>, A>,
+                0x420079,
+            > as Element<A>>::read_one(scope, cursor)?)),
+            1 => Ok(RequestPayload::Destroy(<Inside<
+                DestroyPayload<A>,
+                String<A>,
+                0x420079,
+            > as Element<A>>::read_one(scope, cursor)?)),
+            _ => unreachable!(),
+        }
     }
 
     fn tell_held<W: Walk<A>>(&self, state: &mut W::State) -> Result<(), AllocError> {
@@ -212,82 +231,6 @@ impl<A: Allocator + Copy> Choice<A> for RequestPayload<A> {
             >(state, inner),
         }
     }
-
-    ghost plain = { (refl, refl) };
-}
-
-/// The rule that chooses `RequestPayload::Create`.
-pub struct RequestPayloadCreateRule;
-
-impl Rule for RequestPayloadCreateRule {
-    ghost condition = { codes "0x42005C==0x00000001" };
-
-    fn name() -> &'static str {
-        "if 0x42005C==0x00000001"
-    }
-
-    #[tactic(auto, unfolding(kmip_ttlv_reader::specs::RuleParts::parts_of))]
-    fn parts() -> Option<RuleParts> {
-        texts_in(0x42005C, &["0x00000001"])
-    }
-}
-
-impl<A: Allocator + Copy> VariantOf<
-    AsElement<Inside<CreatePayload<A>, Vec<Attribute<A>, A>, 0x420079>>,
-    RequestPayload<A>,
-    A,
-> for RequestPayloadCreateRule {
-    #[tactic(auto, unfolding(crate::specs::Choices::request_payload_by))]
-    fn from_content(inner: Vec<Attribute<A>, A>) -> RequestPayload<A> {
-        RequestPayload::Create(inner)
-    }
-}
-
-/// The rule that chooses `RequestPayload::Destroy`.
-pub struct RequestPayloadDestroyRule;
-
-impl Rule for RequestPayloadDestroyRule {
-    ghost condition = { codes "0x42005C==0x00000014" };
-
-    fn name() -> &'static str {
-        "if 0x42005C==0x00000014"
-    }
-
-    #[tactic(auto, unfolding(kmip_ttlv_reader::specs::RuleParts::parts_of))]
-    fn parts() -> Option<RuleParts> {
-        texts_in(0x42005C, &["0x00000014"])
-    }
-}
-
-impl<A: Allocator + Copy> VariantOf<
-    AsElement<Inside<DestroyPayload<A>, String<A>, 0x420079>>,
-    RequestPayload<A>,
-    A,
-> for RequestPayloadDestroyRule {
-    #[tactic(auto, unfolding(crate::specs::Choices::request_payload_by))]
-    fn from_content(inner: String<A>) -> RequestPayload<A> {
-        RequestPayload::Destroy(inner)
-    }
-}
-
-impl<A: Allocator + Copy> ChoiceValue for RequestPayload<A> {
-    ghost own = { codes "payload" };
-
-    ghost value = { ⟦<RequestPayload<A> as Choice<A>>⟧.chosen.value };
-}
-
-impl<A: Allocator + Copy> reader::Choice<A> for RequestPayload<A> {
-    ghost form = { ⟦<RequestPayload<A> as Choice<A>>⟧.chosen.form };
-
-    type Variants = (
-        Case<RequestPayloadCreateRule, Inside<CreatePayload<A>, Vec<Attribute<A>, A>, 0x420079>>,
-        (
-            Case<RequestPayloadDestroyRule, Inside<DestroyPayload<A>, String<A>, 0x420079>>,
-            (),
-        ),
-    );
-
-    fn has_form() {}
 }
 
 /// One thing that is asked for.

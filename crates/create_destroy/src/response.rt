@@ -1,9 +1,7 @@
 // Written by codegen from types.table: change that, and run codegen/codegen.
 //! Responses on symmetric keys that were created or destroyed.
 
-ghost use Rattle.std.specs.Prelude.{◌↔◌, ◌+◌, IsTrue, codes, false, refl, true};
-ghost use Rattle.kmip_ttlv_parts.specs.Digits.{tag_text};
-ghost use Rattle.kmip_ttlv_parts.specs.Values.{unit_variant_value};
+ghost use Rattle.std.specs.Prelude.{◌↔◌, ◌+◌, IsTrue, false, refl, true};
 ghost use Rattle.kmip_ttlv_kinds.specs.Parts.{structure, structure_where};
 ghost use Rattle.kmip_ttlv_kinds.specs.Choices.{held};
 ghost use Rattle.create_destroy.specs.Choices.{response_payload_choice, ChoosesResponsePayload};
@@ -15,11 +13,10 @@ ghost use Rattle.create_destroy.specs.declared.response.ResponseItemResultStatus
 
 use crate::operation::Operation;
 use kmip_ttlv_kinds::{
-    Alone, AsElement, Case, Choice, Decided, Element, FromParts, Holds, Inside, Leaf, Listed,
-    ListedItem, One, OneOf, PartList, Structure, Walk, Wrapper, read_structure, texts_in,
+    Alone, Choice, Decided, Element, FromParts, Holds, Inside, Leaf, Listed, ListedItem, One,
+    OneOf, PartList, Structure, Walk, Wrapper, read_structure,
 };
-use kmip_ttlv_parts::reader;
-use kmip_ttlv_parts::reader::{ChoiceValue, Cursor, Rule, RuleParts, Scope, Step, VariantOf};
+use kmip_ttlv_parts::reader::{Cursor, RuleParts, Scope, Step};
 use std::alloc::{AllocError, Allocator, Global};
 
 /// The payload on a key that was made.
@@ -43,14 +40,6 @@ const CREATED_OBJECT_TYPE: [(&str, CreatedObjectType); 1] = [(
     CreatedObjectType::Only,
 )];
 
-impl reader::Listed for CreatedObjectType {
-    ghost own = { tag_text 0x420057 };
-
-    ghost variants = { created_object_type_variants };
-
-    ghost value = { λ x. unit_variant_value (tag_text 0x420057) (created_object_type_number x) };
-}
-
 impl Listed for CreatedObjectType {
     ghost tag = { 0x420057 };
 
@@ -63,11 +52,8 @@ impl Listed for CreatedObjectType {
       same = λ x y e. refl;
     } };
 
-    fn read_listed<'b, A: Allocator + Copy>(
-        scope: &Scope<'b, A>,
-        cursor: &mut Cursor<'b, A>,
-    ) -> Step<Self, A> {
-        cursor.listed(scope, &CREATED_OBJECT_TYPE)
+    fn table() -> &'static [(&'static str, Self)] {
+        &CREATED_OBJECT_TYPE
     }
 
     fn tag() -> u32 {
@@ -191,14 +177,43 @@ impl<A: Allocator> ResponsePayload<A> {
     }
 }
 
+// The rules of the variants, in their order.
+const RESPONSE_PAYLOAD_RULES: [RuleParts; 2] = [
+    RuleParts::Texts {
+        tag: 0x42005C,
+        texts: &["0x00000001"],
+    },
+    RuleParts::Texts {
+        tag: 0x42005C,
+        texts: &["0x00000014"],
+    },
+];
+
 impl<A: Allocator + Copy> Choice<A> for ResponsePayload<A> {
     ghost chosen = { response_payload_choice ⟦<ResponsePayload<A> as PartialEq>⟧.eq record {
       create = held ⟦<Inside<Created<A>, String<A>, 0x42007C> as Element<A>>⟧.rules refl refl (λ x y e. e);
       destroy = held ⟦<Inside<Destroyed<A>, String<A>, 0x42007C> as Element<A>>⟧.rules refl refl (λ x y e. e);
     } };
 
-    fn read_chosen<'b>(scope: &Scope<'b, A>, cursor: &mut Cursor<'b, A>) -> Step<Self, A> {
-        reader::read_choice(scope, cursor)
+    #[tactic(auto, unfolding(kmip_ttlv_reader::specs::RuleParts::parts_of, kmip_ttlv_reader::specs::RuleParts::equal_sides))]
+    fn variant_rules() -> &'static [RuleParts] {
+        &RESPONSE_PAYLOAD_RULES
+    }
+
+    fn read_held<'b>(
+        scope: &Scope<'b, A>,
+        cursor: &mut Cursor<'b, A>,
+        place: usize,
+    ) -> Step<Self, A> {
+        match place {
+            0 => Ok(ResponsePayload::Create(<Inside<Created<A>, String<A>, 0x42007C> as Element<
+                A,
+            >>::read_one(scope, cursor)?)),
+            1 => Ok(ResponsePayload::Destroy(<Inside<Destroyed<A>, String<A>, 0x42007C> as Element<
+                A,
+            >>::read_one(scope, cursor)?)),
+            _ => unreachable!(),
+        }
     }
 
     fn tell_held<W: Walk<A>>(&self, state: &mut W::State) -> Result<(), AllocError> {
@@ -211,82 +226,6 @@ impl<A: Allocator + Copy> Choice<A> for ResponsePayload<A> {
             ),
         }
     }
-
-    ghost plain = { (refl, refl) };
-}
-
-/// The rule that chooses `ResponsePayload::Create`.
-pub struct ResponsePayloadCreateRule;
-
-impl Rule for ResponsePayloadCreateRule {
-    ghost condition = { codes "0x42005C==0x00000001" };
-
-    fn name() -> &'static str {
-        "if 0x42005C==0x00000001"
-    }
-
-    #[tactic(auto, unfolding(kmip_ttlv_reader::specs::RuleParts::parts_of))]
-    fn parts() -> Option<RuleParts> {
-        texts_in(0x42005C, &["0x00000001"])
-    }
-}
-
-impl<A: Allocator + Copy> VariantOf<
-    AsElement<Inside<Created<A>, String<A>, 0x42007C>>,
-    ResponsePayload<A>,
-    A,
-> for ResponsePayloadCreateRule {
-    #[tactic(auto, unfolding(crate::specs::Choices::response_payload_by))]
-    fn from_content(inner: String<A>) -> ResponsePayload<A> {
-        ResponsePayload::Create(inner)
-    }
-}
-
-/// The rule that chooses `ResponsePayload::Destroy`.
-pub struct ResponsePayloadDestroyRule;
-
-impl Rule for ResponsePayloadDestroyRule {
-    ghost condition = { codes "0x42005C==0x00000014" };
-
-    fn name() -> &'static str {
-        "if 0x42005C==0x00000014"
-    }
-
-    #[tactic(auto, unfolding(kmip_ttlv_reader::specs::RuleParts::parts_of))]
-    fn parts() -> Option<RuleParts> {
-        texts_in(0x42005C, &["0x00000014"])
-    }
-}
-
-impl<A: Allocator + Copy> VariantOf<
-    AsElement<Inside<Destroyed<A>, String<A>, 0x42007C>>,
-    ResponsePayload<A>,
-    A,
-> for ResponsePayloadDestroyRule {
-    #[tactic(auto, unfolding(crate::specs::Choices::response_payload_by))]
-    fn from_content(inner: String<A>) -> ResponsePayload<A> {
-        ResponsePayload::Destroy(inner)
-    }
-}
-
-impl<A: Allocator + Copy> ChoiceValue for ResponsePayload<A> {
-    ghost own = { codes "payload" };
-
-    ghost value = { ⟦<ResponsePayload<A> as Choice<A>>⟧.chosen.value };
-}
-
-impl<A: Allocator + Copy> reader::Choice<A> for ResponsePayload<A> {
-    ghost form = { ⟦<ResponsePayload<A> as Choice<A>>⟧.chosen.form };
-
-    type Variants = (
-        Case<ResponsePayloadCreateRule, Inside<Created<A>, String<A>, 0x42007C>>,
-        (
-            Case<ResponsePayloadDestroyRule, Inside<Destroyed<A>, String<A>, 0x42007C>>,
-            (),
-        ),
-    );
-
-    fn has_form() {}
 }
 
 /// One thing that was done.
@@ -312,14 +251,6 @@ const RESPONSE_ITEM_RESULT_STATUS: [(&str, ResponseItemResultStatus); 1] = [(
     ResponseItemResultStatus::Only,
 )];
 
-impl reader::Listed for ResponseItemResultStatus {
-    ghost own = { tag_text 0x42007F };
-
-    ghost variants = { response_item_result_status_variants };
-
-    ghost value = { λ x. unit_variant_value (tag_text 0x42007F) (response_item_result_status_number x) };
-}
-
 impl Listed for ResponseItemResultStatus {
     ghost tag = { 0x42007F };
 
@@ -332,11 +263,8 @@ impl Listed for ResponseItemResultStatus {
       same = λ x y e. refl;
     } };
 
-    fn read_listed<'b, A: Allocator + Copy>(
-        scope: &Scope<'b, A>,
-        cursor: &mut Cursor<'b, A>,
-    ) -> Step<Self, A> {
-        cursor.listed(scope, &RESPONSE_ITEM_RESULT_STATUS)
+    fn table() -> &'static [(&'static str, Self)] {
+        &RESPONSE_ITEM_RESULT_STATUS
     }
 
     fn tag() -> u32 {

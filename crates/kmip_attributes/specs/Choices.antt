@@ -21,7 +21,7 @@ use Rattle.std.proofs.Common.{String, Vec}
 use Rattle.std.proofs.Common.{ℤ}
 use Rattle.kmip_ttlv_reader.specs.declared.values.DateTime.{DateTime}
 use Rattle.kmip_ttlv_reader.specs.declared.values.Interval.{Interval}
-use Rattle.kmip_ttlv_kinds.specs.declared.leaves.BigNumber.{BigNumber}
+use Rattle.kmip_ttlv_reader.specs.declared.values.BigNumber.{BigNumber}
 use Rattle.kmip_attributes.specs.declared.attribute.AttributeStructure.{AttributeStructure}
 use Rattle.kmip_attributes.specs.declared.attribute.AttributeStructure.TheVariants as attribute_structure
 use Rattle.kmip_attributes.specs.declared.attribute.AttributeValue.{AttributeValue}

@@ -1,7 +1,7 @@
 // Written by codegen from types.table: change that, and run codegen/codegen.
 //! An attribute: its name, its index and what it says (KMIP 1.0, section 2.1.1).
 
-ghost use Rattle.std.specs.Prelude.{◌↔◌, ◌+◌, IsTrue, Some, codes, refl, string_bytes, true};
+ghost use Rattle.std.specs.Prelude.{◌↔◌, ◌+◌, IsTrue, refl, string_bytes, true};
 ghost use Rattle.kmip_ttlv_parts.specs.Returns.{IsNoneOf};
 ghost use Rattle.kmip_ttlv_kinds.specs.Parts.{structure, structure_where};
 ghost use Rattle.kmip_ttlv_kinds.specs.Choices.{held, held_choice};
@@ -14,16 +14,13 @@ use crate::structures::{
 };
 use crate::values::{CertificateType, CryptographicAlgorithm, ObjectType, State};
 use kmip_ttlv_kinds::{
-    AsElement, BigNumber, Case, Choice, ChoiceElement, Decided, Element, FromParts, Holds, Leaf,
-    LeafItem, MaybeLeaf, Of, OneOf, PartList, Structure, Under, Walk, read_structure, texts_in,
+    Choice, Decided, Element, FromParts, Holds, Leaf, LeafItem, MaybeLeaf, Of, OneOf, PartList,
+    Structure, Under, Walk, read_choice, read_structure,
 };
+use kmip_ttlv_parts::Enumeration;
 use kmip_ttlv_parts::laws::is_none_of;
-use kmip_ttlv_parts::reader::{
-    ChoiceValue, Cursor, DateTime, Interval, Rule, RuleParts, Scope, Step, Variant, VariantList,
-    VariantOf,
-};
+use kmip_ttlv_parts::reader::{BigNumber, Cursor, DateTime, Interval, RuleParts, Scope, Step};
 use kmip_ttlv_parts::types::TtlvType;
-use kmip_ttlv_parts::{Enumeration, reader};
 use std::alloc::{AllocError, Allocator, Global};
 
 /// What an attribute that is a structure says, by its name.
@@ -77,6 +74,54 @@ impl<A: Allocator> AttributeStructure<A> {
     }
 }
 
+// The rules of the variants, in their order.
+const ATTRIBUTE_STRUCTURE_RULES: [RuleParts; 11] = [
+    RuleParts::Texts {
+        tag: 0x42000A,
+        texts: &["Name"],
+    },
+    RuleParts::Texts {
+        tag: 0x42000A,
+        texts: &["Cryptographic Parameters"],
+    },
+    RuleParts::Texts {
+        tag: 0x42000A,
+        texts: &["Cryptographic Domain Parameters"],
+    },
+    RuleParts::Texts {
+        tag: 0x42000A,
+        texts: &["Certificate Identifier"],
+    },
+    RuleParts::Texts {
+        tag: 0x42000A,
+        texts: &["Certificate Subject"],
+    },
+    RuleParts::Texts {
+        tag: 0x42000A,
+        texts: &["Certificate Issuer"],
+    },
+    RuleParts::Texts {
+        tag: 0x42000A,
+        texts: &["Digest"],
+    },
+    RuleParts::Texts {
+        tag: 0x42000A,
+        texts: &["Usage Limits"],
+    },
+    RuleParts::Texts {
+        tag: 0x42000A,
+        texts: &["Revocation Reason"],
+    },
+    RuleParts::Texts {
+        tag: 0x42000A,
+        texts: &["Link"],
+    },
+    RuleParts::Texts {
+        tag: 0x42000A,
+        texts: &["Application Specific Information"],
+    },
+];
+
 impl<A: Allocator + Copy> Choice<A> for AttributeStructure<A> {
     ghost chosen = { attribute_structure_choice ⟦<AttributeStructure<A> as PartialEq>⟧.eq record {
       name = held ⟦<Of<Name<A>, 0x42000B> as Element<A>>⟧.rules refl refl (λ x y e. e);
@@ -92,8 +137,59 @@ impl<A: Allocator + Copy> Choice<A> for AttributeStructure<A> {
       application_specific_information = held ⟦<Of<ApplicationSpecificInformation<A>, 0x42000B> as Element<A>>⟧.rules refl refl (λ x y e. e);
     } };
 
-    fn read_chosen<'b>(scope: &Scope<'b, A>, cursor: &mut Cursor<'b, A>) -> Step<Self, A> {
-        reader::read_choice(scope, cursor)
+    #[tactic(auto, unfolding(kmip_ttlv_reader::specs::RuleParts::parts_of, kmip_ttlv_reader::specs::RuleParts::equal_sides))]
+    fn variant_rules() -> &'static [RuleParts] {
+        &ATTRIBUTE_STRUCTURE_RULES
+    }
+
+    fn read_held<'b>(
+        scope: &Scope<'b, A>,
+        cursor: &mut Cursor<'b, A>,
+        place: usize,
+    ) -> Step<Self, A> {
+        match place {
+            0 => Ok(AttributeStructure::Name(<Of<Name<A>, 0x42000B> as Element<A>>::read_one(
+                scope, cursor,
+            )?)),
+            1 => Ok(AttributeStructure::CryptographicParameters(<Of<
+                CryptographicParameters,
+                0x42000B,
+            > as Element<A>>::read_one(scope, cursor)?)),
+            2 => Ok(AttributeStructure::CryptographicDomainParameters(<Of<
+                CryptographicDomainParameters,
+                0x42000B,
+            > as Element<A>>::read_one(scope, cursor)?)),
+            3 => Ok(AttributeStructure::CertificateIdentifier(<Of<
+                CertificateIdentifier<A>,
+                0x42000B,
+            > as Element<A>>::read_one(scope, cursor)?)),
+            4 => Ok(AttributeStructure::CertificateSubject(<Of<
+                CertificateSubject<A>,
+                0x42000B,
+            > as Element<A>>::read_one(scope, cursor)?)),
+            5 => Ok(AttributeStructure::CertificateIssuer(<Of<
+                CertificateIssuer<A>,
+                0x42000B,
+            > as Element<A>>::read_one(scope, cursor)?)),
+            6 => Ok(AttributeStructure::Digest(<Of<Digest<A>, 0x42000B> as Element<A>>::read_one(
+                scope, cursor,
+            )?)),
+            7 => Ok(AttributeStructure::UsageLimits(<Of<UsageLimits, 0x42000B> as Element<
+                A,
+            >>::read_one(scope, cursor)?)),
+            8 => Ok(AttributeStructure::RevocationReason(<Of<
+                RevocationReason<A>,
+                0x42000B,
+            > as Element<A>>::read_one(scope, cursor)?)),
+            9 => Ok(AttributeStructure::Link(<Of<Link<A>, 0x42000B> as Element<A>>::read_one(
+                scope, cursor,
+            )?)),
+            10 => Ok(AttributeStructure::ApplicationSpecificInformation(<Of<
+                ApplicationSpecificInformation<A>,
+                0x42000B,
+            > as Element<A>>::read_one(scope, cursor)?)),
+            _ => unreachable!(),
+        }
     }
 
     fn tell_held<W: Walk<A>>(&self, state: &mut W::State) -> Result<(), AllocError> {
@@ -127,386 +223,6 @@ impl<A: Allocator + Copy> Choice<A> for AttributeStructure<A> {
             >(state, inner),
         }
     }
-
-    ghost plain = { (refl, refl) };
-}
-
-/// The rule that chooses `AttributeStructure::Name`.
-pub struct AttributeStructureNameRule;
-
-impl Rule for AttributeStructureNameRule {
-    ghost condition = { codes "0x42000A==Name" };
-
-    fn name() -> &'static str {
-        "if 0x42000A==Name"
-    }
-
-    #[tactic(auto, unfolding(kmip_ttlv_reader::specs::RuleParts::parts_of))]
-    fn parts() -> Option<RuleParts> {
-        texts_in(0x42000A, &["Name"])
-    }
-}
-
-impl<A: Allocator + Copy> VariantOf<AsElement<Of<Name<A>, 0x42000B>>, AttributeStructure<A>, A>
-    for AttributeStructureNameRule {
-    #[tactic(auto, unfolding(crate::specs::Choices::attribute_structure_by))]
-    fn from_content(inner: Name<A>) -> AttributeStructure<A> {
-        AttributeStructure::Name(inner)
-    }
-}
-
-/// The rule that chooses `AttributeStructure::CryptographicParameters`.
-pub struct AttributeStructureCryptographicParametersRule;
-
-impl Rule for AttributeStructureCryptographicParametersRule {
-    ghost condition = { codes "0x42000A==Cryptographic Parameters" };
-
-    fn name() -> &'static str {
-        "if 0x42000A==Cryptographic Parameters"
-    }
-
-    #[tactic(auto, unfolding(kmip_ttlv_reader::specs::RuleParts::parts_of))]
-    fn parts() -> Option<RuleParts> {
-        texts_in(0x42000A, &["Cryptographic Parameters"])
-    }
-}
-
-impl<A: Allocator + Copy> VariantOf<
-    AsElement<Of<CryptographicParameters, 0x42000B>>,
-    AttributeStructure<A>,
-    A,
-> for AttributeStructureCryptographicParametersRule {
-    #[tactic(auto, unfolding(crate::specs::Choices::attribute_structure_by))]
-    fn from_content(inner: CryptographicParameters) -> AttributeStructure<A> {
-        AttributeStructure::CryptographicParameters(inner)
-    }
-}
-
-/// The rule that chooses `AttributeStructure::CryptographicDomainParameters`.
-pub struct AttributeStructureCryptographicDomainParametersRule;
-
-impl Rule for AttributeStructureCryptographicDomainParametersRule {
-    ghost condition = { codes "0x42000A==Cryptographic Domain Parameters" };
-
-    fn name() -> &'static str {
-        "if 0x42000A==Cryptographic Domain Parameters"
-    }
-
-    #[tactic(auto, unfolding(kmip_ttlv_reader::specs::RuleParts::parts_of))]
-    fn parts() -> Option<RuleParts> {
-        texts_in(0x42000A, &["Cryptographic Domain Parameters"])
-    }
-}
-
-impl<A: Allocator + Copy> VariantOf<
-    AsElement<Of<CryptographicDomainParameters, 0x42000B>>,
-    AttributeStructure<A>,
-    A,
-> for AttributeStructureCryptographicDomainParametersRule {
-    #[tactic(auto, unfolding(crate::specs::Choices::attribute_structure_by))]
-    fn from_content(inner: CryptographicDomainParameters) -> AttributeStructure<A> {
-        AttributeStructure::CryptographicDomainParameters(inner)
-    }
-}
-
-/// The rule that chooses `AttributeStructure::CertificateIdentifier`.
-pub struct AttributeStructureCertificateIdentifierRule;
-
-impl Rule for AttributeStructureCertificateIdentifierRule {
-    ghost condition = { codes "0x42000A==Certificate Identifier" };
-
-    fn name() -> &'static str {
-        "if 0x42000A==Certificate Identifier"
-    }
-
-    #[tactic(auto, unfolding(kmip_ttlv_reader::specs::RuleParts::parts_of))]
-    fn parts() -> Option<RuleParts> {
-        texts_in(0x42000A, &["Certificate Identifier"])
-    }
-}
-
-impl<A: Allocator + Copy> VariantOf<
-    AsElement<Of<CertificateIdentifier<A>, 0x42000B>>,
-    AttributeStructure<A>,
-    A,
-> for AttributeStructureCertificateIdentifierRule {
-    #[tactic(auto, unfolding(crate::specs::Choices::attribute_structure_by))]
-    fn from_content(inner: CertificateIdentifier<A>) -> AttributeStructure<A> {
-        AttributeStructure::CertificateIdentifier(inner)
-    }
-}
-
-/// The rule that chooses `AttributeStructure::CertificateSubject`.
-pub struct AttributeStructureCertificateSubjectRule;
-
-impl Rule for AttributeStructureCertificateSubjectRule {
-    ghost condition = { codes "0x42000A==Certificate Subject" };
-
-    fn name() -> &'static str {
-        "if 0x42000A==Certificate Subject"
-    }
-
-    #[tactic(auto, unfolding(kmip_ttlv_reader::specs::RuleParts::parts_of))]
-    fn parts() -> Option<RuleParts> {
-        texts_in(0x42000A, &["Certificate Subject"])
-    }
-}
-
-impl<A: Allocator + Copy> VariantOf<
-    AsElement<Of<CertificateSubject<A>, 0x42000B>>,
-    AttributeStructure<A>,
-    A,
-> for AttributeStructureCertificateSubjectRule {
-    #[tactic(auto, unfolding(crate::specs::Choices::attribute_structure_by))]
-    fn from_content(inner: CertificateSubject<A>) -> AttributeStructure<A> {
-        AttributeStructure::CertificateSubject(inner)
-    }
-}
-
-/// The rule that chooses `AttributeStructure::CertificateIssuer`.
-pub struct AttributeStructureCertificateIssuerRule;
-
-impl Rule for AttributeStructureCertificateIssuerRule {
-    ghost condition = { codes "0x42000A==Certificate Issuer" };
-
-    fn name() -> &'static str {
-        "if 0x42000A==Certificate Issuer"
-    }
-
-    #[tactic(auto, unfolding(kmip_ttlv_reader::specs::RuleParts::parts_of))]
-    fn parts() -> Option<RuleParts> {
-        texts_in(0x42000A, &["Certificate Issuer"])
-    }
-}
-
-impl<A: Allocator + Copy> VariantOf<
-    AsElement<Of<CertificateIssuer<A>, 0x42000B>>,
-    AttributeStructure<A>,
-    A,
-> for AttributeStructureCertificateIssuerRule {
-    #[tactic(auto, unfolding(crate::specs::Choices::attribute_structure_by))]
-    fn from_content(inner: CertificateIssuer<A>) -> AttributeStructure<A> {
-        AttributeStructure::CertificateIssuer(inner)
-    }
-}
-
-/// The rule that chooses `AttributeStructure::Digest`.
-pub struct AttributeStructureDigestRule;
-
-impl Rule for AttributeStructureDigestRule {
-    ghost condition = { codes "0x42000A==Digest" };
-
-    fn name() -> &'static str {
-        "if 0x42000A==Digest"
-    }
-
-    #[tactic(auto, unfolding(kmip_ttlv_reader::specs::RuleParts::parts_of))]
-    fn parts() -> Option<RuleParts> {
-        texts_in(0x42000A, &["Digest"])
-    }
-}
-
-impl<A: Allocator + Copy> VariantOf<AsElement<Of<Digest<A>, 0x42000B>>, AttributeStructure<A>, A>
-    for AttributeStructureDigestRule {
-    #[tactic(auto, unfolding(crate::specs::Choices::attribute_structure_by))]
-    fn from_content(inner: Digest<A>) -> AttributeStructure<A> {
-        AttributeStructure::Digest(inner)
-    }
-}
-
-/// The rule that chooses `AttributeStructure::UsageLimits`.
-pub struct AttributeStructureUsageLimitsRule;
-
-impl Rule for AttributeStructureUsageLimitsRule {
-    ghost condition = { codes "0x42000A==Usage Limits" };
-
-    fn name() -> &'static str {
-        "if 0x42000A==Usage Limits"
-    }
-
-    #[tactic(auto, unfolding(kmip_ttlv_reader::specs::RuleParts::parts_of))]
-    fn parts() -> Option<RuleParts> {
-        texts_in(0x42000A, &["Usage Limits"])
-    }
-}
-
-impl<A: Allocator + Copy> VariantOf<AsElement<Of<UsageLimits, 0x42000B>>, AttributeStructure<A>, A>
-    for AttributeStructureUsageLimitsRule {
-    #[tactic(auto, unfolding(crate::specs::Choices::attribute_structure_by))]
-    fn from_content(inner: UsageLimits) -> AttributeStructure<A> {
-        AttributeStructure::UsageLimits(inner)
-    }
-}
-
-/// The rule that chooses `AttributeStructure::RevocationReason`.
-pub struct AttributeStructureRevocationReasonRule;
-
-impl Rule for AttributeStructureRevocationReasonRule {
-    ghost condition = { codes "0x42000A==Revocation Reason" };
-
-    fn name() -> &'static str {
-        "if 0x42000A==Revocation Reason"
-    }
-
-    #[tactic(auto, unfolding(kmip_ttlv_reader::specs::RuleParts::parts_of))]
-    fn parts() -> Option<RuleParts> {
-        texts_in(0x42000A, &["Revocation Reason"])
-    }
-}
-
-impl<A: Allocator + Copy> VariantOf<
-    AsElement<Of<RevocationReason<A>, 0x42000B>>,
-    AttributeStructure<A>,
-    A,
-> for AttributeStructureRevocationReasonRule {
-    #[tactic(auto, unfolding(crate::specs::Choices::attribute_structure_by))]
-    fn from_content(inner: RevocationReason<A>) -> AttributeStructure<A> {
-        AttributeStructure::RevocationReason(inner)
-    }
-}
-
-/// The rule that chooses `AttributeStructure::Link`.
-pub struct AttributeStructureLinkRule;
-
-impl Rule for AttributeStructureLinkRule {
-    ghost condition = { codes "0x42000A==Link" };
-
-    fn name() -> &'static str {
-        "if 0x42000A==Link"
-    }
-
-    #[tactic(auto, unfolding(kmip_ttlv_reader::specs::RuleParts::parts_of))]
-    fn parts() -> Option<RuleParts> {
-        texts_in(0x42000A, &["Link"])
-    }
-}
-
-impl<A: Allocator + Copy> VariantOf<AsElement<Of<Link<A>, 0x42000B>>, AttributeStructure<A>, A>
-    for AttributeStructureLinkRule {
-    #[tactic(auto, unfolding(crate::specs::Choices::attribute_structure_by))]
-    fn from_content(inner: Link<A>) -> AttributeStructure<A> {
-        AttributeStructure::Link(inner)
-    }
-}
-
-/// The rule that chooses `AttributeStructure::ApplicationSpecificInformation`.
-pub struct AttributeStructureApplicationSpecificInformationRule;
-
-impl Rule for AttributeStructureApplicationSpecificInformationRule {
-    ghost condition = { codes "0x42000A==Application Specific Information" };
-
-    fn name() -> &'static str {
-        "if 0x42000A==Application Specific Information"
-    }
-
-    #[tactic(auto, unfolding(kmip_ttlv_reader::specs::RuleParts::parts_of))]
-    fn parts() -> Option<RuleParts> {
-        texts_in(0x42000A, &["Application Specific Information"])
-    }
-}
-
-impl<A: Allocator + Copy> VariantOf<
-    AsElement<Of<ApplicationSpecificInformation<A>, 0x42000B>>,
-    AttributeStructure<A>,
-    A,
-> for AttributeStructureApplicationSpecificInformationRule {
-    #[tactic(auto, unfolding(crate::specs::Choices::attribute_structure_by))]
-    fn from_content(inner: ApplicationSpecificInformation<A>) -> AttributeStructure<A> {
-        AttributeStructure::ApplicationSpecificInformation(inner)
-    }
-}
-
-/// The variants of `AttributeStructure` from `CertificateSubject` on.
-pub struct AttributeStructureLater4;
-
-impl<A: Allocator + Copy> VariantList<AttributeStructure<A>, A> for AttributeStructureLater4 {
-    ghost variants = { ⟦<(Case<AttributeStructureCertificateSubjectRule, Of<CertificateSubject<A>, 0x42000B>>, (Case<AttributeStructureCertificateIssuerRule, Of<CertificateIssuer<A>, 0x42000B>>, (Case<AttributeStructureDigestRule, Of<Digest<A>, 0x42000B>>, (Case<AttributeStructureUsageLimitsRule, Of<UsageLimits, 0x42000B>>, AttributeStructureLater8)))) as VariantList<AttributeStructure<A>, A>>⟧.variants };
-
-    fn read_chosen<'b>(
-        scope: &Scope<'b, A>,
-        cursor: &mut Cursor<'b, A>,
-        typ: TtlvType,
-    ) -> Step<Option<AttributeStructure<A>>, A> {
-        <(
-            Case<AttributeStructureCertificateSubjectRule, Of<CertificateSubject<A>, 0x42000B>>,
-            (
-                Case<AttributeStructureCertificateIssuerRule, Of<CertificateIssuer<A>, 0x42000B>>,
-                (
-                    Case<AttributeStructureDigestRule, Of<Digest<A>, 0x42000B>>,
-                    (
-                        Case<AttributeStructureUsageLimitsRule, Of<UsageLimits, 0x42000B>>,
-                        AttributeStructureLater8,
-                    ),
-                ),
-            ),
-        ) as VariantList<AttributeStructure<A>, A>>::read_chosen(scope, cursor, typ)
-    }
-
-    ghost ruled = { λ content. refl };
-}
-
-/// The variants of `AttributeStructure` from `RevocationReason` on.
-pub struct AttributeStructureLater8;
-
-impl<A: Allocator + Copy> VariantList<AttributeStructure<A>, A> for AttributeStructureLater8 {
-    ghost variants = { ⟦<(Case<AttributeStructureRevocationReasonRule, Of<RevocationReason<A>, 0x42000B>>, (Case<AttributeStructureLinkRule, Of<Link<A>, 0x42000B>>, (Case<AttributeStructureApplicationSpecificInformationRule, Of<ApplicationSpecificInformation<A>, 0x42000B>>, ()))) as VariantList<AttributeStructure<A>, A>>⟧.variants };
-
-    fn read_chosen<'b>(
-        scope: &Scope<'b, A>,
-        cursor: &mut Cursor<'b, A>,
-        typ: TtlvType,
-    ) -> Step<Option<AttributeStructure<A>>, A> {
-        <(
-            Case<AttributeStructureRevocationReasonRule, Of<RevocationReason<A>, 0x42000B>>,
-            (
-                Case<AttributeStructureLinkRule, Of<Link<A>, 0x42000B>>,
-                (
-                    Case<
-                        AttributeStructureApplicationSpecificInformationRule,
-                        Of<ApplicationSpecificInformation<A>, 0x42000B>,
-                    >,
-                    (),
-                ),
-            ),
-        ) as VariantList<AttributeStructure<A>, A>>::read_chosen(scope, cursor, typ)
-    }
-
-    ghost ruled = { λ content. refl };
-}
-
-impl<A: Allocator + Copy> ChoiceValue for AttributeStructure<A> {
-    ghost own = { codes "structure" };
-
-    ghost value = { ⟦<AttributeStructure<A> as Choice<A>>⟧.chosen.value };
-}
-
-impl<A: Allocator + Copy> reader::Choice<A> for AttributeStructure<A> {
-    ghost form = { ⟦<AttributeStructure<A> as Choice<A>>⟧.chosen.form };
-
-    type Variants = (
-        Case<AttributeStructureNameRule, Of<Name<A>, 0x42000B>>,
-        (
-            Case<
-                AttributeStructureCryptographicParametersRule,
-                Of<CryptographicParameters, 0x42000B>,
-            >,
-            (
-                Case<
-                    AttributeStructureCryptographicDomainParametersRule,
-                    Of<CryptographicDomainParameters, 0x42000B>,
-                >,
-                (
-                    Case<
-                        AttributeStructureCertificateIdentifierRule,
-                        Of<CertificateIdentifier<A>, 0x42000B>,
-                    >,
-                    AttributeStructureLater4,
-                ),
-            ),
-        ),
-    );
-
-    fn has_form() {}
 }
 
 /// What an attribute says: by its name, or else by the type of its item.
@@ -583,6 +299,36 @@ impl<A: Allocator> AttributeValue<A> {
     }
 }
 
+// The rules of the variants, in their order.
+const ATTRIBUTE_VALUE_RULES: [RuleParts; 14] = [
+    RuleParts::Texts {
+        tag: 0x42000A,
+        texts: &["Object Type"],
+    },
+    RuleParts::Texts {
+        tag: 0x42000A,
+        texts: &["Cryptographic Algorithm"],
+    },
+    RuleParts::Texts {
+        tag: 0x42000A,
+        texts: &["Certificate Type"],
+    },
+    RuleParts::Texts {
+        tag: 0x42000A,
+        texts: &["State"],
+    },
+    RuleParts::Type(TtlvType::Integer),
+    RuleParts::Type(TtlvType::LongInteger),
+    RuleParts::Type(TtlvType::BigInteger),
+    RuleParts::Type(TtlvType::Enumeration),
+    RuleParts::Type(TtlvType::Boolean),
+    RuleParts::Type(TtlvType::TextString),
+    RuleParts::Type(TtlvType::ByteString),
+    RuleParts::Type(TtlvType::DateTime),
+    RuleParts::Type(TtlvType::Interval),
+    RuleParts::Type(TtlvType::Structure),
+];
+
 impl<A: Allocator + Copy> Choice<A> for AttributeValue<A> {
     ghost chosen = { attribute_value_choice ⟦<AttributeValue<A> as PartialEq>⟧.eq record {
       object_type = held ⟦<Under<ObjectType, 0x42000B> as Element<A>>⟧.rules refl refl (λ x y e. e);
@@ -601,8 +347,60 @@ impl<A: Allocator + Copy> Choice<A> for AttributeValue<A> {
       structure = held_choice ⟦<AttributeStructure<A> as Choice<A>>⟧.chosen refl (λ x. refl) (λ x said c. c) (λ x y e. e);
     } };
 
-    fn read_chosen<'b>(scope: &Scope<'b, A>, cursor: &mut Cursor<'b, A>) -> Step<Self, A> {
-        reader::read_choice(scope, cursor)
+    #[tactic(auto, unfolding(kmip_ttlv_reader::specs::RuleParts::parts_of, kmip_ttlv_reader::specs::RuleParts::equal_sides))]
+    fn variant_rules() -> &'static [RuleParts] {
+        &ATTRIBUTE_VALUE_RULES
+    }
+
+    fn read_held<'b>(
+        scope: &Scope<'b, A>,
+        cursor: &mut Cursor<'b, A>,
+        place: usize,
+    ) -> Step<Self, A> {
+        match place {
+            0 => Ok(AttributeValue::ObjectType(<Under<ObjectType, 0x42000B> as Element<
+                A,
+            >>::read_one(scope, cursor)?)),
+            1 => Ok(AttributeValue::CryptographicAlgorithm(<Under<
+                CryptographicAlgorithm,
+                0x42000B,
+            > as Element<A>>::read_one(scope, cursor)?)),
+            2 => Ok(AttributeValue::CertificateType(<Under<CertificateType, 0x42000B> as Element<
+                A,
+            >>::read_one(scope, cursor)?)),
+            3 => Ok(AttributeValue::State(<Under<State, 0x42000B> as Element<A>>::read_one(
+                scope, cursor,
+            )?)),
+            4 => Ok(AttributeValue::Integer(<LeafItem<i32, 0x42000B> as Element<A>>::read_one(
+                scope, cursor,
+            )?)),
+            5 => Ok(AttributeValue::LongInteger(<LeafItem<i64, 0x42000B> as Element<A>>::read_one(
+                scope, cursor,
+            )?)),
+            6 => Ok(AttributeValue::BigInteger(<LeafItem<BigNumber<A>, 0x42000B> as Element<
+                A,
+            >>::read_one(scope, cursor)?)),
+            7 => Ok(AttributeValue::Enumeration(<LeafItem<u32, 0x42000B> as Element<A>>::read_one(
+                scope, cursor,
+            )?)),
+            8 => Ok(AttributeValue::Boolean(<LeafItem<bool, 0x42000B> as Element<A>>::read_one(
+                scope, cursor,
+            )?)),
+            9 => Ok(AttributeValue::TextString(<LeafItem<String<A>, 0x42000B> as Element<
+                A,
+            >>::read_one(scope, cursor)?)),
+            10 => Ok(AttributeValue::ByteString(<LeafItem<Vec<u8, A>, 0x42000B> as Element<
+                A,
+            >>::read_one(scope, cursor)?)),
+            11 => Ok(AttributeValue::DateTime(<LeafItem<DateTime, 0x42000B> as Element<
+                A,
+            >>::read_one(scope, cursor)?)),
+            12 => Ok(AttributeValue::Interval(<LeafItem<Interval, 0x42000B> as Element<
+                A,
+            >>::read_one(scope, cursor)?)),
+            13 => Ok(AttributeValue::Structure(read_choice(scope, cursor)?)),
+            _ => unreachable!(),
+        }
     }
 
     fn tell_held<W: Walk<A>>(&self, state: &mut W::State) -> Result<(), AllocError> {
@@ -639,460 +437,6 @@ impl<A: Allocator + Copy> Choice<A> for AttributeValue<A> {
             AttributeValue::Structure(inner) => inner.tell_held::<W>(state),
         }
     }
-
-    ghost plain = { (refl, refl) };
-}
-
-/// The rule that chooses `AttributeValue::ObjectType`.
-pub struct AttributeValueObjectTypeRule;
-
-impl Rule for AttributeValueObjectTypeRule {
-    ghost condition = { codes "0x42000A==Object Type" };
-
-    fn name() -> &'static str {
-        "if 0x42000A==Object Type"
-    }
-
-    #[tactic(auto, unfolding(kmip_ttlv_reader::specs::RuleParts::parts_of))]
-    fn parts() -> Option<RuleParts> {
-        texts_in(0x42000A, &["Object Type"])
-    }
-}
-
-impl<A: Allocator + Copy> VariantOf<AsElement<Under<ObjectType, 0x42000B>>, AttributeValue<A>, A>
-    for AttributeValueObjectTypeRule {
-    #[tactic(auto, unfolding(crate::specs::Choices::attribute_value_by))]
-    fn from_content(inner: ObjectType) -> AttributeValue<A> {
-        AttributeValue::ObjectType(inner)
-    }
-}
-
-/// The rule that chooses `AttributeValue::CryptographicAlgorithm`.
-pub struct AttributeValueCryptographicAlgorithmRule;
-
-impl Rule for AttributeValueCryptographicAlgorithmRule {
-    ghost condition = { codes "0x42000A==Cryptographic Algorithm" };
-
-    fn name() -> &'static str {
-        "if 0x42000A==Cryptographic Algorithm"
-    }
-
-    #[tactic(auto, unfolding(kmip_ttlv_reader::specs::RuleParts::parts_of))]
-    fn parts() -> Option<RuleParts> {
-        texts_in(0x42000A, &["Cryptographic Algorithm"])
-    }
-}
-
-impl<A: Allocator + Copy> VariantOf<
-    AsElement<Under<CryptographicAlgorithm, 0x42000B>>,
-    AttributeValue<A>,
-    A,
-> for AttributeValueCryptographicAlgorithmRule {
-    #[tactic(auto, unfolding(crate::specs::Choices::attribute_value_by))]
-    fn from_content(inner: CryptographicAlgorithm) -> AttributeValue<A> {
-        AttributeValue::CryptographicAlgorithm(inner)
-    }
-}
-
-/// The rule that chooses `AttributeValue::CertificateType`.
-pub struct AttributeValueCertificateTypeRule;
-
-impl Rule for AttributeValueCertificateTypeRule {
-    ghost condition = { codes "0x42000A==Certificate Type" };
-
-    fn name() -> &'static str {
-        "if 0x42000A==Certificate Type"
-    }
-
-    #[tactic(auto, unfolding(kmip_ttlv_reader::specs::RuleParts::parts_of))]
-    fn parts() -> Option<RuleParts> {
-        texts_in(0x42000A, &["Certificate Type"])
-    }
-}
-
-impl<A: Allocator + Copy> VariantOf<
-    AsElement<Under<CertificateType, 0x42000B>>,
-    AttributeValue<A>,
-    A,
-> for AttributeValueCertificateTypeRule {
-    #[tactic(auto, unfolding(crate::specs::Choices::attribute_value_by))]
-    fn from_content(inner: CertificateType) -> AttributeValue<A> {
-        AttributeValue::CertificateType(inner)
-    }
-}
-
-/// The rule that chooses `AttributeValue::State`.
-pub struct AttributeValueStateRule;
-
-impl Rule for AttributeValueStateRule {
-    ghost condition = { codes "0x42000A==State" };
-
-    fn name() -> &'static str {
-        "if 0x42000A==State"
-    }
-
-    #[tactic(auto, unfolding(kmip_ttlv_reader::specs::RuleParts::parts_of))]
-    fn parts() -> Option<RuleParts> {
-        texts_in(0x42000A, &["State"])
-    }
-}
-
-impl<A: Allocator + Copy> VariantOf<AsElement<Under<State, 0x42000B>>, AttributeValue<A>, A>
-    for AttributeValueStateRule {
-    #[tactic(auto, unfolding(crate::specs::Choices::attribute_value_by))]
-    fn from_content(inner: State) -> AttributeValue<A> {
-        AttributeValue::State(inner)
-    }
-}
-
-/// The rule that chooses `AttributeValue::Integer`.
-pub struct AttributeValueIntegerRule;
-
-impl Rule for AttributeValueIntegerRule {
-    ghost condition = { codes "type==Integer" };
-
-    fn name() -> &'static str {
-        "if type==Integer"
-    }
-
-    #[tactic(auto, unfolding(kmip_ttlv_reader::specs::RuleParts::equal_sides))]
-    fn parts() -> Option<RuleParts> {
-        Some(RuleParts::Type(TtlvType::Integer))
-    }
-}
-
-impl<A: Allocator + Copy> VariantOf<AsElement<LeafItem<i32, 0x42000B>>, AttributeValue<A>, A>
-    for AttributeValueIntegerRule {
-    #[tactic(auto, unfolding(crate::specs::Choices::attribute_value_by))]
-    fn from_content(inner: i32) -> AttributeValue<A> {
-        AttributeValue::Integer(inner)
-    }
-}
-
-/// The rule that chooses `AttributeValue::LongInteger`.
-pub struct AttributeValueLongIntegerRule;
-
-impl Rule for AttributeValueLongIntegerRule {
-    ghost condition = { codes "type==LongInteger" };
-
-    fn name() -> &'static str {
-        "if type==LongInteger"
-    }
-
-    #[tactic(auto, unfolding(kmip_ttlv_reader::specs::RuleParts::equal_sides))]
-    fn parts() -> Option<RuleParts> {
-        Some(RuleParts::Type(TtlvType::LongInteger))
-    }
-}
-
-impl<A: Allocator + Copy> VariantOf<AsElement<LeafItem<i64, 0x42000B>>, AttributeValue<A>, A>
-    for AttributeValueLongIntegerRule {
-    #[tactic(auto, unfolding(crate::specs::Choices::attribute_value_by))]
-    fn from_content(inner: i64) -> AttributeValue<A> {
-        AttributeValue::LongInteger(inner)
-    }
-}
-
-/// The rule that chooses `AttributeValue::BigInteger`.
-pub struct AttributeValueBigIntegerRule;
-
-impl Rule for AttributeValueBigIntegerRule {
-    ghost condition = { codes "type==BigInteger" };
-
-    fn name() -> &'static str {
-        "if type==BigInteger"
-    }
-
-    #[tactic(auto, unfolding(kmip_ttlv_reader::specs::RuleParts::equal_sides))]
-    fn parts() -> Option<RuleParts> {
-        Some(RuleParts::Type(TtlvType::BigInteger))
-    }
-}
-
-impl<A: Allocator + Copy> VariantOf<
-    AsElement<LeafItem<BigNumber<A>, 0x42000B>>,
-    AttributeValue<A>,
-    A,
-> for AttributeValueBigIntegerRule {
-    #[tactic(auto, unfolding(crate::specs::Choices::attribute_value_by))]
-    fn from_content(inner: BigNumber<A>) -> AttributeValue<A> {
-        AttributeValue::BigInteger(inner)
-    }
-}
-
-/// The rule that chooses `AttributeValue::Enumeration`.
-pub struct AttributeValueEnumerationRule;
-
-impl Rule for AttributeValueEnumerationRule {
-    ghost condition = { codes "type==Enumeration" };
-
-    fn name() -> &'static str {
-        "if type==Enumeration"
-    }
-
-    #[tactic(auto, unfolding(kmip_ttlv_reader::specs::RuleParts::equal_sides))]
-    fn parts() -> Option<RuleParts> {
-        Some(RuleParts::Type(TtlvType::Enumeration))
-    }
-}
-
-impl<A: Allocator + Copy> VariantOf<AsElement<LeafItem<u32, 0x42000B>>, AttributeValue<A>, A>
-    for AttributeValueEnumerationRule {
-    #[tactic(auto, unfolding(crate::specs::Choices::attribute_value_by))]
-    fn from_content(inner: u32) -> AttributeValue<A> {
-        AttributeValue::Enumeration(inner)
-    }
-}
-
-/// The rule that chooses `AttributeValue::Boolean`.
-pub struct AttributeValueBooleanRule;
-
-impl Rule for AttributeValueBooleanRule {
-    ghost condition = { codes "type==Boolean" };
-
-    fn name() -> &'static str {
-        "if type==Boolean"
-    }
-
-    #[tactic(auto, unfolding(kmip_ttlv_reader::specs::RuleParts::equal_sides))]
-    fn parts() -> Option<RuleParts> {
-        Some(RuleParts::Type(TtlvType::Boolean))
-    }
-}
-
-impl<A: Allocator + Copy> VariantOf<AsElement<LeafItem<bool, 0x42000B>>, AttributeValue<A>, A>
-    for AttributeValueBooleanRule {
-    #[tactic(auto, unfolding(crate::specs::Choices::attribute_value_by))]
-    fn from_content(inner: bool) -> AttributeValue<A> {
-        AttributeValue::Boolean(inner)
-    }
-}
-
-/// The rule that chooses `AttributeValue::TextString`.
-pub struct AttributeValueTextStringRule;
-
-impl Rule for AttributeValueTextStringRule {
-    ghost condition = { codes "type==TextString" };
-
-    fn name() -> &'static str {
-        "if type==TextString"
-    }
-
-    #[tactic(auto, unfolding(kmip_ttlv_reader::specs::RuleParts::equal_sides))]
-    fn parts() -> Option<RuleParts> {
-        Some(RuleParts::Type(TtlvType::TextString))
-    }
-}
-
-impl<A: Allocator + Copy> VariantOf<AsElement<LeafItem<String<A>, 0x42000B>>, AttributeValue<A>, A>
-    for AttributeValueTextStringRule {
-    #[tactic(auto, unfolding(crate::specs::Choices::attribute_value_by))]
-    fn from_content(inner: String<A>) -> AttributeValue<A> {
-        AttributeValue::TextString(inner)
-    }
-}
-
-/// The rule that chooses `AttributeValue::ByteString`.
-pub struct AttributeValueByteStringRule;
-
-impl Rule for AttributeValueByteStringRule {
-    ghost condition = { codes "type==ByteString" };
-
-    fn name() -> &'static str {
-        "if type==ByteString"
-    }
-
-    #[tactic(auto, unfolding(kmip_ttlv_reader::specs::RuleParts::equal_sides))]
-    fn parts() -> Option<RuleParts> {
-        Some(RuleParts::Type(TtlvType::ByteString))
-    }
-}
-
-impl<A: Allocator + Copy> VariantOf<AsElement<LeafItem<Vec<u8, A>, 0x42000B>>, AttributeValue<A>, A>
-    for AttributeValueByteStringRule {
-    #[tactic(auto, unfolding(crate::specs::Choices::attribute_value_by))]
-    fn from_content(inner: Vec<u8, A>) -> AttributeValue<A> {
-        AttributeValue::ByteString(inner)
-    }
-}
-
-/// The rule that chooses `AttributeValue::DateTime`.
-pub struct AttributeValueDateTimeRule;
-
-impl Rule for AttributeValueDateTimeRule {
-    ghost condition = { codes "type==DateTime" };
-
-    fn name() -> &'static str {
-        "if type==DateTime"
-    }
-
-    #[tactic(auto, unfolding(kmip_ttlv_reader::specs::RuleParts::equal_sides))]
-    fn parts() -> Option<RuleParts> {
-        Some(RuleParts::Type(TtlvType::DateTime))
-    }
-}
-
-impl<A: Allocator + Copy> VariantOf<AsElement<LeafItem<DateTime, 0x42000B>>, AttributeValue<A>, A>
-    for AttributeValueDateTimeRule {
-    #[tactic(auto, unfolding(crate::specs::Choices::attribute_value_by))]
-    fn from_content(inner: DateTime) -> AttributeValue<A> {
-        AttributeValue::DateTime(inner)
-    }
-}
-
-/// The rule that chooses `AttributeValue::Interval`.
-pub struct AttributeValueIntervalRule;
-
-impl Rule for AttributeValueIntervalRule {
-    ghost condition = { codes "type==Interval" };
-
-    fn name() -> &'static str {
-        "if type==Interval"
-    }
-
-    #[tactic(auto, unfolding(kmip_ttlv_reader::specs::RuleParts::equal_sides))]
-    fn parts() -> Option<RuleParts> {
-        Some(RuleParts::Type(TtlvType::Interval))
-    }
-}
-
-impl<A: Allocator + Copy> VariantOf<AsElement<LeafItem<Interval, 0x42000B>>, AttributeValue<A>, A>
-    for AttributeValueIntervalRule {
-    #[tactic(auto, unfolding(crate::specs::Choices::attribute_value_by))]
-    fn from_content(inner: Interval) -> AttributeValue<A> {
-        AttributeValue::Interval(inner)
-    }
-}
-
-/// The rule that chooses `AttributeValue::Structure`.
-pub struct AttributeValueStructureRule;
-
-impl Rule for AttributeValueStructureRule {
-    ghost condition = { codes "type==Structure" };
-
-    fn name() -> &'static str {
-        "if type==Structure"
-    }
-
-    #[tactic(auto, unfolding(kmip_ttlv_reader::specs::RuleParts::equal_sides))]
-    fn parts() -> Option<RuleParts> {
-        Some(RuleParts::Type(TtlvType::Structure))
-    }
-}
-
-impl<A: Allocator + Copy> VariantOf<ChoiceElement<AttributeStructure<A>>, AttributeValue<A>, A>
-    for AttributeValueStructureRule {
-    #[tactic(auto, unfolding(crate::specs::Choices::attribute_value_by))]
-    fn from_content(inner: AttributeStructure<A>) -> AttributeValue<A> {
-        AttributeValue::Structure(inner)
-    }
-}
-
-/// The variants of `AttributeValue` from `Integer` on.
-pub struct AttributeValueLater4;
-
-impl<A: Allocator + Copy> VariantList<AttributeValue<A>, A> for AttributeValueLater4 {
-    ghost variants = { ⟦<(Case<AttributeValueIntegerRule, LeafItem<i32, 0x42000B>>, (Case<AttributeValueLongIntegerRule, LeafItem<i64, 0x42000B>>, (Case<AttributeValueBigIntegerRule, LeafItem<BigNumber<A>, 0x42000B>>, (Case<AttributeValueEnumerationRule, LeafItem<u32, 0x42000B>>, AttributeValueLater8)))) as VariantList<AttributeValue<A>, A>>⟧.variants };
-
-    fn read_chosen<'b>(
-        scope: &Scope<'b, A>,
-        cursor: &mut Cursor<'b, A>,
-        typ: TtlvType,
-    ) -> Step<Option<AttributeValue<A>>, A> {
-        <(
-            Case<AttributeValueIntegerRule, LeafItem<i32, 0x42000B>>,
-            (
-                Case<AttributeValueLongIntegerRule, LeafItem<i64, 0x42000B>>,
-                (
-                    Case<AttributeValueBigIntegerRule, LeafItem<BigNumber<A>, 0x42000B>>,
-                    (
-                        Case<AttributeValueEnumerationRule, LeafItem<u32, 0x42000B>>,
-                        AttributeValueLater8,
-                    ),
-                ),
-            ),
-        ) as VariantList<AttributeValue<A>, A>>::read_chosen(scope, cursor, typ)
-    }
-
-    ghost ruled = { λ content. refl };
-}
-
-/// The variants of `AttributeValue` from `Boolean` on.
-pub struct AttributeValueLater8;
-
-impl<A: Allocator + Copy> VariantList<AttributeValue<A>, A> for AttributeValueLater8 {
-    ghost variants = { ⟦<(Case<AttributeValueBooleanRule, LeafItem<bool, 0x42000B>>, (Case<AttributeValueTextStringRule, LeafItem<String<A>, 0x42000B>>, (Case<AttributeValueByteStringRule, LeafItem<Vec<u8, A>, 0x42000B>>, (Case<AttributeValueDateTimeRule, LeafItem<DateTime, 0x42000B>>, AttributeValueLater12)))) as VariantList<AttributeValue<A>, A>>⟧.variants };
-
-    fn read_chosen<'b>(
-        scope: &Scope<'b, A>,
-        cursor: &mut Cursor<'b, A>,
-        typ: TtlvType,
-    ) -> Step<Option<AttributeValue<A>>, A> {
-        <(
-            Case<AttributeValueBooleanRule, LeafItem<bool, 0x42000B>>,
-            (
-                Case<AttributeValueTextStringRule, LeafItem<String<A>, 0x42000B>>,
-                (
-                    Case<AttributeValueByteStringRule, LeafItem<Vec<u8, A>, 0x42000B>>,
-                    (
-                        Case<AttributeValueDateTimeRule, LeafItem<DateTime, 0x42000B>>,
-                        AttributeValueLater12,
-                    ),
-                ),
-            ),
-        ) as VariantList<AttributeValue<A>, A>>::read_chosen(scope, cursor, typ)
-    }
-
-    ghost ruled = { λ content. refl };
-}
-
-/// The variants of `AttributeValue` from `Interval` on.
-pub struct AttributeValueLater12;
-
-impl<A: Allocator + Copy> VariantList<AttributeValue<A>, A> for AttributeValueLater12 {
-    ghost variants = { ⟦<(Case<AttributeValueIntervalRule, LeafItem<Interval, 0x42000B>>, (Variant<AttributeValueStructureRule, ChoiceElement<AttributeStructure<A>>>, ())) as VariantList<AttributeValue<A>, A>>⟧.variants };
-
-    fn read_chosen<'b>(
-        scope: &Scope<'b, A>,
-        cursor: &mut Cursor<'b, A>,
-        typ: TtlvType,
-    ) -> Step<Option<AttributeValue<A>>, A> {
-        <(
-            Case<AttributeValueIntervalRule, LeafItem<Interval, 0x42000B>>,
-            (
-                Variant<AttributeValueStructureRule, ChoiceElement<AttributeStructure<A>>>,
-                (),
-            ),
-        ) as VariantList<AttributeValue<A>, A>>::read_chosen(scope, cursor, typ)
-    }
-
-    ghost ruled = { λ content. refl };
-}
-
-impl<A: Allocator + Copy> ChoiceValue for AttributeValue<A> {
-    ghost own = { codes "value" };
-
-    ghost value = { ⟦<AttributeValue<A> as Choice<A>>⟧.chosen.value };
-}
-
-impl<A: Allocator + Copy> reader::Choice<A> for AttributeValue<A> {
-    ghost form = { ⟦<AttributeValue<A> as Choice<A>>⟧.chosen.form };
-
-    type Variants = (
-        Case<AttributeValueObjectTypeRule, Under<ObjectType, 0x42000B>>,
-        (
-            Case<AttributeValueCryptographicAlgorithmRule, Under<CryptographicAlgorithm, 0x42000B>>,
-            (
-                Case<AttributeValueCertificateTypeRule, Under<CertificateType, 0x42000B>>,
-                (
-                    Case<AttributeValueStateRule, Under<State, 0x42000B>>,
-                    AttributeValueLater4,
-                ),
-            ),
-        ),
-    );
-
-    fn has_form() {}
 }
 
 /// What is known of an object.

@@ -1,7 +1,7 @@
 // Written by codegen from types.table: change that, and run codegen/codegen.
 //! What messages begin with (KMIP 1.0, section 6).
 
-ghost use Rattle.std.specs.Prelude.{◌≡◌, ◌+◌, codes, false, refl, true};
+ghost use Rattle.std.specs.Prelude.{◌≡◌, ◌+◌, false, refl, true};
 ghost use Rattle.std.proofs.Common.{ap};
 ghost use Rattle.kmip_ttlv_parts.specs.Returns.{text_of_number};
 ghost use Rattle.kmip_ttlv_kinds.specs.Parts.{structure, structure_where};
@@ -9,13 +9,11 @@ ghost use Rattle.kmip_ttlv_kinds.specs.Choices.{held};
 ghost use Rattle.kmip_headers.specs.Choices.{credential_value_choice, credential_value_chosen_by};
 
 use kmip_ttlv_kinds::{
-    Alone, AsElement, Case, Choice, Decided, Element, Four, FromParts, Holds, Leaf, Maybe,
-    MaybeLeaf, Of, One, OneOf, PartList, Several, Structure, Walk, read_structure, texts_in,
+    Alone, Choice, Decided, Element, Four, FromParts, Holds, Leaf, Maybe, MaybeLeaf, Of, One,
+    OneOf, PartList, Several, Structure, Walk, read_structure,
 };
-use kmip_ttlv_parts::reader::{
-    ChoiceValue, Cursor, DateTime, Rule, RuleParts, Scope, Step, VariantOf,
-};
-use kmip_ttlv_parts::{Enumeration, reader};
+use kmip_ttlv_parts::Enumeration;
+use kmip_ttlv_parts::reader::{Cursor, DateTime, RuleParts, Scope, Step};
 use std::alloc::{AllocError, Allocator, Global};
 
 /// The version of the protocol (section 6.1).
@@ -204,14 +202,44 @@ impl<A: Allocator> CredentialValue<A> {
     }
 }
 
+// The rules of the variants, in their order.
+const CREDENTIAL_VALUE_RULES: [RuleParts; 2] = [
+    RuleParts::Texts {
+        tag: 0x420024,
+        texts: &["0x00000001"],
+    },
+    RuleParts::Texts {
+        tag: 0x420024,
+        texts: &["0x00000002"],
+    },
+];
+
 impl<A: Allocator + Copy> Choice<A> for CredentialValue<A> {
     ghost chosen = { credential_value_choice ⟦<CredentialValue<A> as PartialEq>⟧.eq record {
       username_and_password = held ⟦<Of<UsernameAndPassword<A>, 0x420025> as Element<A>>⟧.rules refl refl (λ x y e. e);
       device = held ⟦<Of<Device<A>, 0x420025> as Element<A>>⟧.rules refl refl (λ x y e. e);
     } };
 
-    fn read_chosen<'b>(scope: &Scope<'b, A>, cursor: &mut Cursor<'b, A>) -> Step<Self, A> {
-        reader::read_choice(scope, cursor)
+    #[tactic(auto, unfolding(kmip_ttlv_reader::specs::RuleParts::parts_of, kmip_ttlv_reader::specs::RuleParts::equal_sides))]
+    fn variant_rules() -> &'static [RuleParts] {
+        &CREDENTIAL_VALUE_RULES
+    }
+
+    fn read_held<'b>(
+        scope: &Scope<'b, A>,
+        cursor: &mut Cursor<'b, A>,
+        place: usize,
+    ) -> Step<Self, A> {
+        match place {
+            0 => Ok(CredentialValue::UsernameAndPassword(<Of<
+                UsernameAndPassword<A>,
+                0x420025,
+            > as Element<A>>::read_one(scope, cursor)?)),
+            1 => Ok(CredentialValue::Device(<Of<Device<A>, 0x420025> as Element<A>>::read_one(
+                scope, cursor,
+            )?)),
+            _ => unreachable!(),
+        }
     }
 
     fn tell_held<W: Walk<A>>(&self, state: &mut W::State) -> Result<(), AllocError> {
@@ -222,76 +250,6 @@ impl<A: Allocator + Copy> Choice<A> for CredentialValue<A> {
             CredentialValue::Device(inner) => W::item::<Of<Device<A>, 0x420025>>(state, inner),
         }
     }
-
-    ghost plain = { (refl, refl) };
-}
-
-/// The rule that chooses `CredentialValue::UsernameAndPassword`.
-pub struct CredentialValueUsernameAndPasswordRule;
-
-impl Rule for CredentialValueUsernameAndPasswordRule {
-    ghost condition = { codes "0x420024==0x00000001" };
-
-    fn name() -> &'static str {
-        "if 0x420024==0x00000001"
-    }
-
-    #[tactic(auto, unfolding(kmip_ttlv_reader::specs::RuleParts::parts_of))]
-    fn parts() -> Option<RuleParts> {
-        texts_in(0x420024, &["0x00000001"])
-    }
-}
-
-impl<A: Allocator + Copy> VariantOf<
-    AsElement<Of<UsernameAndPassword<A>, 0x420025>>,
-    CredentialValue<A>,
-    A,
-> for CredentialValueUsernameAndPasswordRule {
-    #[tactic(auto, unfolding(crate::specs::Choices::credential_value_by))]
-    fn from_content(inner: UsernameAndPassword<A>) -> CredentialValue<A> {
-        CredentialValue::UsernameAndPassword(inner)
-    }
-}
-
-/// The rule that chooses `CredentialValue::Device`.
-pub struct CredentialValueDeviceRule;
-
-impl Rule for CredentialValueDeviceRule {
-    ghost condition = { codes "0x420024==0x00000002" };
-
-    fn name() -> &'static str {
-        "if 0x420024==0x00000002"
-    }
-
-    #[tactic(auto, unfolding(kmip_ttlv_reader::specs::RuleParts::parts_of))]
-    fn parts() -> Option<RuleParts> {
-        texts_in(0x420024, &["0x00000002"])
-    }
-}
-
-impl<A: Allocator + Copy> VariantOf<AsElement<Of<Device<A>, 0x420025>>, CredentialValue<A>, A>
-    for CredentialValueDeviceRule {
-    #[tactic(auto, unfolding(crate::specs::Choices::credential_value_by))]
-    fn from_content(inner: Device<A>) -> CredentialValue<A> {
-        CredentialValue::Device(inner)
-    }
-}
-
-impl<A: Allocator + Copy> ChoiceValue for CredentialValue<A> {
-    ghost own = { codes "credential" };
-
-    ghost value = { ⟦<CredentialValue<A> as Choice<A>>⟧.chosen.value };
-}
-
-impl<A: Allocator + Copy> reader::Choice<A> for CredentialValue<A> {
-    ghost form = { ⟦<CredentialValue<A> as Choice<A>>⟧.chosen.form };
-
-    type Variants = (
-        Case<CredentialValueUsernameAndPasswordRule, Of<UsernameAndPassword<A>, 0x420025>>,
-        (Case<CredentialValueDeviceRule, Of<Device<A>, 0x420025>>, ()),
-    );
-
-    fn has_form() {}
 }
 
 /// Who a client is (section 2.1.2).
@@ -604,246 +562,6 @@ pub mod operation {
     pub const PUT: Operation = Operation { number: 0x0000001C };
     /// To say which versions the server has (KMIP 1.1).
     pub const DISCOVER_VERSIONS: Operation = Operation { number: 0x0000001E };
-}
-
-/// The rule that chooses `Operation::Create`.
-pub struct OperationCreateRule;
-
-impl Rule for OperationCreateRule {
-    ghost condition = { codes "0x42005C==0x00000001" };
-
-    fn name() -> &'static str {
-        "if 0x42005C==0x00000001"
-    }
-
-    #[tactic(auto, unfolding(kmip_ttlv_reader::specs::RuleParts::parts_of))]
-    fn parts() -> Option<RuleParts> {
-        texts_in(0x42005C, &["0x00000001"])
-    }
-}
-
-/// The rule that chooses `Operation::CreateKeyPair`.
-pub struct OperationCreateKeyPairRule;
-
-impl Rule for OperationCreateKeyPairRule {
-    ghost condition = { codes "0x42005C==0x00000002" };
-
-    fn name() -> &'static str {
-        "if 0x42005C==0x00000002"
-    }
-
-    #[tactic(auto, unfolding(kmip_ttlv_reader::specs::RuleParts::parts_of))]
-    fn parts() -> Option<RuleParts> {
-        texts_in(0x42005C, &["0x00000002"])
-    }
-}
-
-/// The rule that chooses `Operation::Register`.
-pub struct OperationRegisterRule;
-
-impl Rule for OperationRegisterRule {
-    ghost condition = { codes "0x42005C==0x00000003" };
-
-    fn name() -> &'static str {
-        "if 0x42005C==0x00000003"
-    }
-
-    #[tactic(auto, unfolding(kmip_ttlv_reader::specs::RuleParts::parts_of))]
-    fn parts() -> Option<RuleParts> {
-        texts_in(0x42005C, &["0x00000003"])
-    }
-}
-
-/// The rule that chooses `Operation::Locate`.
-pub struct OperationLocateRule;
-
-impl Rule for OperationLocateRule {
-    ghost condition = { codes "0x42005C==0x00000008" };
-
-    fn name() -> &'static str {
-        "if 0x42005C==0x00000008"
-    }
-
-    #[tactic(auto, unfolding(kmip_ttlv_reader::specs::RuleParts::parts_of))]
-    fn parts() -> Option<RuleParts> {
-        texts_in(0x42005C, &["0x00000008"])
-    }
-}
-
-/// The rule that chooses `Operation::Get`.
-pub struct OperationGetRule;
-
-impl Rule for OperationGetRule {
-    ghost condition = { codes "0x42005C==0x0000000A" };
-
-    fn name() -> &'static str {
-        "if 0x42005C==0x0000000A"
-    }
-
-    #[tactic(auto, unfolding(kmip_ttlv_reader::specs::RuleParts::parts_of))]
-    fn parts() -> Option<RuleParts> {
-        texts_in(0x42005C, &["0x0000000A"])
-    }
-}
-
-/// The rule that chooses `Operation::GetAttributes`.
-pub struct OperationGetAttributesRule;
-
-impl Rule for OperationGetAttributesRule {
-    ghost condition = { codes "0x42005C==0x0000000B" };
-
-    fn name() -> &'static str {
-        "if 0x42005C==0x0000000B"
-    }
-
-    #[tactic(auto, unfolding(kmip_ttlv_reader::specs::RuleParts::parts_of))]
-    fn parts() -> Option<RuleParts> {
-        texts_in(0x42005C, &["0x0000000B"])
-    }
-}
-
-/// The rule that chooses `Operation::GetAttributeList`.
-pub struct OperationGetAttributeListRule;
-
-impl Rule for OperationGetAttributeListRule {
-    ghost condition = { codes "0x42005C==0x0000000C" };
-
-    fn name() -> &'static str {
-        "if 0x42005C==0x0000000C"
-    }
-
-    #[tactic(auto, unfolding(kmip_ttlv_reader::specs::RuleParts::parts_of))]
-    fn parts() -> Option<RuleParts> {
-        texts_in(0x42005C, &["0x0000000C"])
-    }
-}
-
-/// The rule that chooses `Operation::AddAttribute`.
-pub struct OperationAddAttributeRule;
-
-impl Rule for OperationAddAttributeRule {
-    ghost condition = { codes "0x42005C==0x0000000D" };
-
-    fn name() -> &'static str {
-        "if 0x42005C==0x0000000D"
-    }
-
-    #[tactic(auto, unfolding(kmip_ttlv_reader::specs::RuleParts::parts_of))]
-    fn parts() -> Option<RuleParts> {
-        texts_in(0x42005C, &["0x0000000D"])
-    }
-}
-
-/// The rule that chooses `Operation::ModifyAttribute`.
-pub struct OperationModifyAttributeRule;
-
-impl Rule for OperationModifyAttributeRule {
-    ghost condition = { codes "0x42005C==0x0000000E" };
-
-    fn name() -> &'static str {
-        "if 0x42005C==0x0000000E"
-    }
-
-    #[tactic(auto, unfolding(kmip_ttlv_reader::specs::RuleParts::parts_of))]
-    fn parts() -> Option<RuleParts> {
-        texts_in(0x42005C, &["0x0000000E"])
-    }
-}
-
-/// The rule that chooses `Operation::DeleteAttribute`.
-pub struct OperationDeleteAttributeRule;
-
-impl Rule for OperationDeleteAttributeRule {
-    ghost condition = { codes "0x42005C==0x0000000F" };
-
-    fn name() -> &'static str {
-        "if 0x42005C==0x0000000F"
-    }
-
-    #[tactic(auto, unfolding(kmip_ttlv_reader::specs::RuleParts::parts_of))]
-    fn parts() -> Option<RuleParts> {
-        texts_in(0x42005C, &["0x0000000F"])
-    }
-}
-
-/// The rule that chooses `Operation::Activate`.
-pub struct OperationActivateRule;
-
-impl Rule for OperationActivateRule {
-    ghost condition = { codes "0x42005C==0x00000012" };
-
-    fn name() -> &'static str {
-        "if 0x42005C==0x00000012"
-    }
-
-    #[tactic(auto, unfolding(kmip_ttlv_reader::specs::RuleParts::parts_of))]
-    fn parts() -> Option<RuleParts> {
-        texts_in(0x42005C, &["0x00000012"])
-    }
-}
-
-/// The rule that chooses `Operation::Revoke`.
-pub struct OperationRevokeRule;
-
-impl Rule for OperationRevokeRule {
-    ghost condition = { codes "0x42005C==0x00000013" };
-
-    fn name() -> &'static str {
-        "if 0x42005C==0x00000013"
-    }
-
-    #[tactic(auto, unfolding(kmip_ttlv_reader::specs::RuleParts::parts_of))]
-    fn parts() -> Option<RuleParts> {
-        texts_in(0x42005C, &["0x00000013"])
-    }
-}
-
-/// The rule that chooses `Operation::Destroy`.
-pub struct OperationDestroyRule;
-
-impl Rule for OperationDestroyRule {
-    ghost condition = { codes "0x42005C==0x00000014" };
-
-    fn name() -> &'static str {
-        "if 0x42005C==0x00000014"
-    }
-
-    #[tactic(auto, unfolding(kmip_ttlv_reader::specs::RuleParts::parts_of))]
-    fn parts() -> Option<RuleParts> {
-        texts_in(0x42005C, &["0x00000014"])
-    }
-}
-
-/// The rule that chooses `Operation::Query`.
-pub struct OperationQueryRule;
-
-impl Rule for OperationQueryRule {
-    ghost condition = { codes "0x42005C==0x00000018" };
-
-    fn name() -> &'static str {
-        "if 0x42005C==0x00000018"
-    }
-
-    #[tactic(auto, unfolding(kmip_ttlv_reader::specs::RuleParts::parts_of))]
-    fn parts() -> Option<RuleParts> {
-        texts_in(0x42005C, &["0x00000018"])
-    }
-}
-
-/// The rule that chooses `Operation::DiscoverVersions`.
-pub struct OperationDiscoverVersionsRule;
-
-impl Rule for OperationDiscoverVersionsRule {
-    ghost condition = { codes "0x42005C==0x0000001E" };
-
-    fn name() -> &'static str {
-        "if 0x42005C==0x0000001E"
-    }
-
-    #[tactic(auto, unfolding(kmip_ttlv_reader::specs::RuleParts::parts_of))]
-    fn parts() -> Option<RuleParts> {
-        texts_in(0x42005C, &["0x0000001E"])
-    }
 }
 
 /// What a vendor adds (section 6.16). Its Vendor Extension is ignored, and lost when it is encoded again.

@@ -1,7 +1,7 @@
 // Written by codegen from types.table: change that, and run codegen/codegen.
 //! A key: its bytes, and how they are wrapped (KMIP 1.0, sections 2.1.3 to 2.1.5).
 
-ghost use Rattle.std.specs.Prelude.{codes, refl, true};
+ghost use Rattle.std.specs.Prelude.{refl, true};
 ghost use Rattle.kmip_ttlv_kinds.specs.Parts.{structure};
 ghost use Rattle.kmip_ttlv_kinds.specs.Choices.{held};
 ghost use Rattle.kmip_objects.specs.Choices.{key_material_choice, key_value_choice};
@@ -12,12 +12,12 @@ use kmip_attributes::values::{
     PaddingMethod, State,
 };
 use kmip_ttlv_kinds::{
-    Alone, Any, AsElement, Case, Choice, Element, Four, FromParts, Holds, InBox, Leaf, LeafItem,
-    Maybe, MaybeLeaf, Of, One, OneOf, PartList, Structure, Walk, read_structure,
+    Alone, Any, Choice, Element, Four, FromParts, Holds, InBox, Leaf, LeafItem, Maybe, MaybeLeaf,
+    Of, One, OneOf, PartList, Structure, Walk, read_structure,
 };
-use kmip_ttlv_parts::reader::{ChoiceValue, Cursor, Rule, RuleParts, Scope, Step, VariantOf};
+use kmip_ttlv_parts::reader::{Cursor, RuleParts, Scope, Step};
 use kmip_ttlv_parts::types::TtlvType;
-use kmip_ttlv_parts::{Boxed, Enumeration, reader};
+use kmip_ttlv_parts::{Boxed, Enumeration};
 use std::alloc::{AllocError, Allocator, Global};
 
 /// How the point of an elliptic curve is written (KMIP 1.0, section 9.1.3.2.2).
@@ -353,14 +353,38 @@ pub enum KeyMaterial<A: Allocator = Global> {
     TransparentSymmetricKey(TransparentSymmetricKey<A>),
 }
 
+// The rules of the variants, in their order.
+const KEY_MATERIAL_RULES: [RuleParts; 2] = [
+    RuleParts::Type(TtlvType::ByteString),
+    RuleParts::Type(TtlvType::Structure),
+];
+
 impl<A: Allocator + Copy> Choice<A> for KeyMaterial<A> {
     ghost chosen = { key_material_choice ⟦<KeyMaterial<A> as PartialEq>⟧.eq record {
       bytes = held ⟦<LeafItem<Vec<u8, A>, 0x420043> as Element<A>>⟧.rules refl refl (λ x y e. e);
       transparent_symmetric_key = held ⟦<Of<TransparentSymmetricKey<A>, 0x420043> as Element<A>>⟧.rules refl refl (λ x y e. e);
     } };
 
-    fn read_chosen<'b>(scope: &Scope<'b, A>, cursor: &mut Cursor<'b, A>) -> Step<Self, A> {
-        reader::read_choice(scope, cursor)
+    #[tactic(auto, unfolding(kmip_ttlv_reader::specs::RuleParts::parts_of, kmip_ttlv_reader::specs::RuleParts::equal_sides))]
+    fn variant_rules() -> &'static [RuleParts] {
+        &KEY_MATERIAL_RULES
+    }
+
+    fn read_held<'b>(
+        scope: &Scope<'b, A>,
+        cursor: &mut Cursor<'b, A>,
+        place: usize,
+    ) -> Step<Self, A> {
+        match place {
+            0 => Ok(KeyMaterial::Bytes(<LeafItem<Vec<u8, A>, 0x420043> as Element<A>>::read_one(
+                scope, cursor,
+            )?)),
+            1 => Ok(KeyMaterial::TransparentSymmetricKey(<Of<
+                TransparentSymmetricKey<A>,
+                0x420043,
+            > as Element<A>>::read_one(scope, cursor)?)),
+            _ => unreachable!(),
+        }
     }
 
     fn tell_held<W: Walk<A>>(&self, state: &mut W::State) -> Result<(), AllocError> {
@@ -371,79 +395,6 @@ impl<A: Allocator + Copy> Choice<A> for KeyMaterial<A> {
             >(state, inner),
         }
     }
-
-    ghost plain = { (refl, refl) };
-}
-
-/// The rule that chooses `KeyMaterial::Bytes`.
-pub struct KeyMaterialBytesRule;
-
-impl Rule for KeyMaterialBytesRule {
-    ghost condition = { codes "type==ByteString" };
-
-    fn name() -> &'static str {
-        "if type==ByteString"
-    }
-
-    #[tactic(auto, unfolding(kmip_ttlv_reader::specs::RuleParts::equal_sides))]
-    fn parts() -> Option<RuleParts> {
-        Some(RuleParts::Type(TtlvType::ByteString))
-    }
-}
-
-impl<A: Allocator + Copy> VariantOf<AsElement<LeafItem<Vec<u8, A>, 0x420043>>, KeyMaterial<A>, A>
-    for KeyMaterialBytesRule {
-    #[tactic(auto, unfolding(crate::specs::Choices::key_material_by))]
-    fn from_content(inner: Vec<u8, A>) -> KeyMaterial<A> {
-        KeyMaterial::Bytes(inner)
-    }
-}
-
-/// The rule that chooses `KeyMaterial::TransparentSymmetricKey`.
-pub struct KeyMaterialTransparentSymmetricKeyRule;
-
-impl Rule for KeyMaterialTransparentSymmetricKeyRule {
-    ghost condition = { codes "type==Structure" };
-
-    fn name() -> &'static str {
-        "if type==Structure"
-    }
-
-    #[tactic(auto, unfolding(kmip_ttlv_reader::specs::RuleParts::equal_sides))]
-    fn parts() -> Option<RuleParts> {
-        Some(RuleParts::Type(TtlvType::Structure))
-    }
-}
-
-impl<A: Allocator + Copy> VariantOf<
-    AsElement<Of<TransparentSymmetricKey<A>, 0x420043>>,
-    KeyMaterial<A>,
-    A,
-> for KeyMaterialTransparentSymmetricKeyRule {
-    #[tactic(auto, unfolding(crate::specs::Choices::key_material_by))]
-    fn from_content(inner: TransparentSymmetricKey<A>) -> KeyMaterial<A> {
-        KeyMaterial::TransparentSymmetricKey(inner)
-    }
-}
-
-impl<A: Allocator + Copy> ChoiceValue for KeyMaterial<A> {
-    ghost own = { codes "material" };
-
-    ghost value = { ⟦<KeyMaterial<A> as Choice<A>>⟧.chosen.value };
-}
-
-impl<A: Allocator + Copy> reader::Choice<A> for KeyMaterial<A> {
-    ghost form = { ⟦<KeyMaterial<A> as Choice<A>>⟧.chosen.form };
-
-    type Variants = (
-        Case<KeyMaterialBytesRule, LeafItem<Vec<u8, A>, 0x420043>>,
-        (
-            Case<KeyMaterialTransparentSymmetricKeyRule, Of<TransparentSymmetricKey<A>, 0x420043>>,
-            (),
-        ),
-    );
-
-    fn has_form() {}
 }
 
 /// A key that isn't wrapped, or of which only the bytes are (KMIP 1.0, section 2.1.4).
@@ -498,14 +449,37 @@ pub enum KeyValue<A: Allocator = Global> {
     Wrapped(Vec<u8, A>),
 }
 
+// The rules of the variants, in their order.
+const KEY_VALUE_RULES: [RuleParts; 2] = [
+    RuleParts::Type(TtlvType::Structure),
+    RuleParts::Type(TtlvType::ByteString),
+];
+
 impl<A: Allocator + Copy> Choice<A> for KeyValue<A> {
     ghost chosen = { key_value_choice ⟦<KeyValue<A> as PartialEq>⟧.eq record {
       plain = held ⟦<Of<PlainKeyValue<A>, 0x420045> as Element<A>>⟧.rules refl refl (λ x y e. e);
       wrapped = held ⟦<LeafItem<Vec<u8, A>, 0x420045> as Element<A>>⟧.rules refl refl (λ x y e. e);
     } };
 
-    fn read_chosen<'b>(scope: &Scope<'b, A>, cursor: &mut Cursor<'b, A>) -> Step<Self, A> {
-        reader::read_choice(scope, cursor)
+    #[tactic(auto, unfolding(kmip_ttlv_reader::specs::RuleParts::parts_of, kmip_ttlv_reader::specs::RuleParts::equal_sides))]
+    fn variant_rules() -> &'static [RuleParts] {
+        &KEY_VALUE_RULES
+    }
+
+    fn read_held<'b>(
+        scope: &Scope<'b, A>,
+        cursor: &mut Cursor<'b, A>,
+        place: usize,
+    ) -> Step<Self, A> {
+        match place {
+            0 => Ok(KeyValue::Plain(<Of<PlainKeyValue<A>, 0x420045> as Element<A>>::read_one(
+                scope, cursor,
+            )?)),
+            1 => Ok(KeyValue::Wrapped(<LeafItem<Vec<u8, A>, 0x420045> as Element<A>>::read_one(
+                scope, cursor,
+            )?)),
+            _ => unreachable!(),
+        }
     }
 
     fn tell_held<W: Walk<A>>(&self, state: &mut W::State) -> Result<(), AllocError> {
@@ -514,76 +488,6 @@ impl<A: Allocator + Copy> Choice<A> for KeyValue<A> {
             KeyValue::Wrapped(inner) => W::item::<LeafItem<Vec<u8, A>, 0x420045>>(state, inner),
         }
     }
-
-    ghost plain = { (refl, refl) };
-}
-
-/// The rule that chooses `KeyValue::Plain`.
-pub struct KeyValuePlainRule;
-
-impl Rule for KeyValuePlainRule {
-    ghost condition = { codes "type==Structure" };
-
-    fn name() -> &'static str {
-        "if type==Structure"
-    }
-
-    #[tactic(auto, unfolding(kmip_ttlv_reader::specs::RuleParts::equal_sides))]
-    fn parts() -> Option<RuleParts> {
-        Some(RuleParts::Type(TtlvType::Structure))
-    }
-}
-
-impl<A: Allocator + Copy> VariantOf<AsElement<Of<PlainKeyValue<A>, 0x420045>>, KeyValue<A>, A>
-    for KeyValuePlainRule {
-    #[tactic(auto, unfolding(crate::specs::Choices::key_value_by))]
-    fn from_content(inner: PlainKeyValue<A>) -> KeyValue<A> {
-        KeyValue::Plain(inner)
-    }
-}
-
-/// The rule that chooses `KeyValue::Wrapped`.
-pub struct KeyValueWrappedRule;
-
-impl Rule for KeyValueWrappedRule {
-    ghost condition = { codes "type==ByteString" };
-
-    fn name() -> &'static str {
-        "if type==ByteString"
-    }
-
-    #[tactic(auto, unfolding(kmip_ttlv_reader::specs::RuleParts::equal_sides))]
-    fn parts() -> Option<RuleParts> {
-        Some(RuleParts::Type(TtlvType::ByteString))
-    }
-}
-
-impl<A: Allocator + Copy> VariantOf<AsElement<LeafItem<Vec<u8, A>, 0x420045>>, KeyValue<A>, A>
-    for KeyValueWrappedRule {
-    #[tactic(auto, unfolding(crate::specs::Choices::key_value_by))]
-    fn from_content(inner: Vec<u8, A>) -> KeyValue<A> {
-        KeyValue::Wrapped(inner)
-    }
-}
-
-impl<A: Allocator + Copy> ChoiceValue for KeyValue<A> {
-    ghost own = { codes "value" };
-
-    ghost value = { ⟦<KeyValue<A> as Choice<A>>⟧.chosen.value };
-}
-
-impl<A: Allocator + Copy> reader::Choice<A> for KeyValue<A> {
-    ghost form = { ⟦<KeyValue<A> as Choice<A>>⟧.chosen.form };
-
-    type Variants = (
-        Case<KeyValuePlainRule, Of<PlainKeyValue<A>, 0x420045>>,
-        (
-            Case<KeyValueWrappedRule, LeafItem<Vec<u8, A>, 0x420045>>,
-            (),
-        ),
-    );
-
-    fn has_form() {}
 }
 
 /// A key, and what is known of its value (KMIP 1.0, section 2.1.3).

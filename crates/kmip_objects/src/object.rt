@@ -8,11 +8,11 @@ use crate::key::KeyBlock;
 use kmip_attributes::attribute::Attribute;
 use kmip_attributes::values::{CertificateType, State};
 use kmip_ttlv_kinds::{
-    Alone, BigNumber, Four, FromParts, Holds, Leaf, MaybeLeaf, Of, One, PartList, Several,
-    Structure, Walk, read_structure,
+    Alone, Four, FromParts, Holds, Leaf, MaybeLeaf, Of, One, PartList, Several, Structure, Walk,
+    read_structure,
 };
 use kmip_ttlv_parts::Enumeration;
-use kmip_ttlv_parts::reader::{Cursor, Scope, Step};
+use kmip_ttlv_parts::reader::{BigNumber, Cursor, Scope, Step};
 use std::alloc::{AllocError, Allocator, Global};
 
 /// A certificate.

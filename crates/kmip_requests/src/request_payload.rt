@@ -1,7 +1,7 @@
 // Written by codegen from types.table: change that, and run codegen/codegen.
 //! What is asked for (KMIP 1.0, section 4).
 
-ghost use Rattle.std.specs.Prelude.{◌≡◌, ◌+◌, None, Some, codes, refl, true};
+ghost use Rattle.std.specs.Prelude.{◌≡◌, ◌+◌, None, Some, refl, true};
 ghost use Rattle.kmip_ttlv_kinds.specs.Parts.{structure, structure_where};
 ghost use Rattle.kmip_ttlv_kinds.specs.Choices.{held};
 ghost use Rattle.kmip_ttlv_parts.specs.MessageParts.{there};
@@ -9,13 +9,7 @@ ghost use Rattle.kmip_requests.specs.Choices.{IsRegisterRequestObject, request_p
 
 use kmip_attributes::attribute::Attribute;
 use kmip_attributes::values::{KeyFormatType, ObjectType, RevocationReasonCode, State};
-use kmip_headers::header::{
-    OperationActivateRule, OperationAddAttributeRule, OperationCreateKeyPairRule,
-    OperationCreateRule, OperationDeleteAttributeRule, OperationDestroyRule,
-    OperationDiscoverVersionsRule, OperationGetAttributeListRule, OperationGetAttributesRule,
-    OperationGetRule, OperationLocateRule, OperationModifyAttributeRule, OperationQueryRule,
-    OperationRegisterRule, OperationRevokeRule, ProtocolVersion,
-};
+use kmip_headers::header::ProtocolVersion;
 use kmip_objects::key::{
     EncodingOption, EncryptionKeyInformation, KeyCompressionType, MacSignatureKeyInformation,
     WrappingMethod,
@@ -29,12 +23,11 @@ use kmip_objects::template::{
     TemplateAttribute,
 };
 use kmip_ttlv_kinds::{
-    Alone, Any, AsElement, Case, Choice, Decided, Element, Four, FromParts, Holds, InBox, Leaf,
-    LeafItem, Maybe, MaybeLeaf, Of, One, PartList, Several, Structure, Walk, read_structure,
+    Alone, Any, Choice, Decided, Element, Four, FromParts, Holds, InBox, Leaf, LeafItem, Maybe,
+    MaybeLeaf, Of, One, PartList, Several, Structure, Walk, read_structure,
 };
-use kmip_ttlv_parts::reader::{ChoiceValue, Cursor, DateTime, Scope, Step, VariantList, VariantOf};
-use kmip_ttlv_parts::types::TtlvType;
-use kmip_ttlv_parts::{Boxed, Enumeration, reader};
+use kmip_ttlv_parts::reader::{Cursor, DateTime, RuleParts, Scope, Step};
+use kmip_ttlv_parts::{Boxed, Enumeration};
 use std::alloc::{AllocError, Allocator, Global};
 
 /// A symmetric key is to be made (section 4.1).
@@ -894,6 +887,70 @@ impl<A: Allocator> RequestPayload<A> {
     }
 }
 
+// The rules of the variants, in their order.
+const REQUEST_PAYLOAD_RULES: [RuleParts; 15] = [
+    RuleParts::Texts {
+        tag: 0x42005C,
+        texts: &["0x00000001"],
+    },
+    RuleParts::Texts {
+        tag: 0x42005C,
+        texts: &["0x00000002"],
+    },
+    RuleParts::Texts {
+        tag: 0x42005C,
+        texts: &["0x00000003"],
+    },
+    RuleParts::Texts {
+        tag: 0x42005C,
+        texts: &["0x00000008"],
+    },
+    RuleParts::Texts {
+        tag: 0x42005C,
+        texts: &["0x0000000A"],
+    },
+    RuleParts::Texts {
+        tag: 0x42005C,
+        texts: &["0x0000000B"],
+    },
+    RuleParts::Texts {
+        tag: 0x42005C,
+        texts: &["0x0000000C"],
+    },
+    RuleParts::Texts {
+        tag: 0x42005C,
+        texts: &["0x0000000D"],
+    },
+    RuleParts::Texts {
+        tag: 0x42005C,
+        texts: &["0x0000000E"],
+    },
+    RuleParts::Texts {
+        tag: 0x42005C,
+        texts: &["0x0000000F"],
+    },
+    RuleParts::Texts {
+        tag: 0x42005C,
+        texts: &["0x00000012"],
+    },
+    RuleParts::Texts {
+        tag: 0x42005C,
+        texts: &["0x00000013"],
+    },
+    RuleParts::Texts {
+        tag: 0x42005C,
+        texts: &["0x00000014"],
+    },
+    RuleParts::Texts {
+        tag: 0x42005C,
+        texts: &["0x00000018"],
+    },
+    RuleParts::Texts {
+        tag: 0x42005C,
+        texts: &["0x0000001E"],
+    },
+];
+
 impl<A: Allocator + Copy> Choice<A> for RequestPayload<A> {
     ghost chosen = { request_payload_choice ⟦<RequestPayload<A> as PartialEq>⟧.eq record {
       create = held ⟦<Of<CreateRequest<A>, 0x420079> as Element<A>>⟧.rules refl refl (λ x y e. e);
@@ -913,8 +970,66 @@ impl<A: Allocator + Copy> Choice<A> for RequestPayload<A> {
       discover_versions = held ⟦<Of<DiscoverVersionsRequest<A>, 0x420079> as Element<A>>⟧.rules refl refl (λ x y e. e);
     } };
 
-    fn read_chosen<'b>(scope: &Scope<'b, A>, cursor: &mut Cursor<'b, A>) -> Step<Self, A> {
-        reader::read_choice(scope, cursor)
+    #[tactic(auto, unfolding(kmip_ttlv_reader::specs::RuleParts::parts_of, kmip_ttlv_reader::specs::RuleParts::equal_sides))]
+    fn variant_rules() -> &'static [RuleParts] {
+        &REQUEST_PAYLOAD_RULES
+    }
+
+    fn read_held<'b>(
+        scope: &Scope<'b, A>,
+        cursor: &mut Cursor<'b, A>,
+        place: usize,
+    ) -> Step<Self, A> {
+        match place {
+            0 => Ok(RequestPayload::Create(<Of<CreateRequest<A>, 0x420079> as Element<A>>::read_one(
+                scope, cursor,
+            )?)),
+            1 => Ok(RequestPayload::CreateKeyPair(<Of<CreateKeyPairRequest<A>, 0x420079> as Element<
+                A,
+            >>::read_one(scope, cursor)?)),
+            2 => Ok(RequestPayload::Register(<Of<RegisterRequest<A>, 0x420079> as Element<
+                A,
+            >>::read_one(scope, cursor)?)),
+            3 => Ok(RequestPayload::Locate(<Of<LocateRequest<A>, 0x420079> as Element<A>>::read_one(
+                scope, cursor,
+            )?)),
+            4 => Ok(RequestPayload::Get(<Of<GetRequest<A>, 0x420079> as Element<A>>::read_one(
+                scope, cursor,
+            )?)),
+            5 => Ok(RequestPayload::GetAttributes(<Of<GetAttributesRequest<A>, 0x420079> as Element<
+                A,
+            >>::read_one(scope, cursor)?)),
+            6 => Ok(RequestPayload::GetAttributeList(<Of<ObjectRequest<A>, 0x420079> as Element<
+                A,
+            >>::read_one(scope, cursor)?)),
+            7 => Ok(RequestPayload::AddAttribute(<Of<AttributeRequest<A>, 0x420079> as Element<
+                A,
+            >>::read_one(scope, cursor)?)),
+            8 => Ok(RequestPayload::ModifyAttribute(<Of<AttributeRequest<A>, 0x420079> as Element<
+                A,
+            >>::read_one(scope, cursor)?)),
+            9 => Ok(RequestPayload::DeleteAttribute(<Of<
+                DeleteAttributeRequest<A>,
+                0x420079,
+            > as Element<A>>::read_one(scope, cursor)?)),
+            10 => Ok(RequestPayload::Activate(<Of<ObjectRequest<A>, 0x420079> as Element<
+                A,
+            >>::read_one(scope, cursor)?)),
+            11 => Ok(RequestPayload::Revoke(<Of<RevokeRequest<A>, 0x420079> as Element<
+                A,
+            >>::read_one(scope, cursor)?)),
+            12 => Ok(RequestPayload::Destroy(<Of<ObjectRequest<A>, 0x420079> as Element<
+                A,
+            >>::read_one(scope, cursor)?)),
+            13 => Ok(RequestPayload::Query(<Of<QueryRequest<A>, 0x420079> as Element<A>>::read_one(
+                scope, cursor,
+            )?)),
+            14 => Ok(RequestPayload::DiscoverVersions(<Of<
+                DiscoverVersionsRequest<A>,
+                0x420079,
+            > as Element<A>>::read_one(scope, cursor)?)),
+            _ => unreachable!(),
+        }
     }
 
     fn tell_held<W: Walk<A>>(&self, state: &mut W::State) -> Result<(), AllocError> {
@@ -962,257 +1077,4 @@ impl<A: Allocator + Copy> Choice<A> for RequestPayload<A> {
             >(state, inner),
         }
     }
-
-    ghost plain = { (refl, refl) };
-}
-
-impl<A: Allocator + Copy> VariantOf<AsElement<Of<CreateRequest<A>, 0x420079>>, RequestPayload<A>, A>
-    for OperationCreateRule {
-    #[tactic(auto, unfolding(crate::specs::Choices::request_payload_by))]
-    fn from_content(inner: CreateRequest<A>) -> RequestPayload<A> {
-        RequestPayload::Create(inner)
-    }
-}
-
-impl<A: Allocator + Copy> VariantOf<
-    AsElement<Of<CreateKeyPairRequest<A>, 0x420079>>,
-    RequestPayload<A>,
-    A,
-> for OperationCreateKeyPairRule {
-    #[tactic(auto, unfolding(crate::specs::Choices::request_payload_by))]
-    fn from_content(inner: CreateKeyPairRequest<A>) -> RequestPayload<A> {
-        RequestPayload::CreateKeyPair(inner)
-    }
-}
-
-impl<A: Allocator + Copy> VariantOf<
-    AsElement<Of<RegisterRequest<A>, 0x420079>>,
-    RequestPayload<A>,
-    A,
-> for OperationRegisterRule {
-    #[tactic(auto, unfolding(crate::specs::Choices::request_payload_by))]
-    fn from_content(inner: RegisterRequest<A>) -> RequestPayload<A> {
-        RequestPayload::Register(inner)
-    }
-}
-
-impl<A: Allocator + Copy> VariantOf<AsElement<Of<LocateRequest<A>, 0x420079>>, RequestPayload<A>, A>
-    for OperationLocateRule {
-    #[tactic(auto, unfolding(crate::specs::Choices::request_payload_by))]
-    fn from_content(inner: LocateRequest<A>) -> RequestPayload<A> {
-        RequestPayload::Locate(inner)
-    }
-}
-
-impl<A: Allocator + Copy> VariantOf<AsElement<Of<GetRequest<A>, 0x420079>>, RequestPayload<A>, A>
-    for OperationGetRule {
-    #[tactic(auto, unfolding(crate::specs::Choices::request_payload_by))]
-    fn from_content(inner: GetRequest<A>) -> RequestPayload<A> {
-        RequestPayload::Get(inner)
-    }
-}
-
-impl<A: Allocator + Copy> VariantOf<
-    AsElement<Of<GetAttributesRequest<A>, 0x420079>>,
-    RequestPayload<A>,
-    A,
-> for OperationGetAttributesRule {
-    #[tactic(auto, unfolding(crate::specs::Choices::request_payload_by))]
-    fn from_content(inner: GetAttributesRequest<A>) -> RequestPayload<A> {
-        RequestPayload::GetAttributes(inner)
-    }
-}
-
-impl<A: Allocator + Copy> VariantOf<AsElement<Of<ObjectRequest<A>, 0x420079>>, RequestPayload<A>, A>
-    for OperationGetAttributeListRule {
-    #[tactic(auto, unfolding(crate::specs::Choices::request_payload_by))]
-    fn from_content(inner: ObjectRequest<A>) -> RequestPayload<A> {
-        RequestPayload::GetAttributeList(inner)
-    }
-}
-
-impl<A: Allocator + Copy> VariantOf<
-    AsElement<Of<AttributeRequest<A>, 0x420079>>,
-    RequestPayload<A>,
-    A,
-> for OperationAddAttributeRule {
-    #[tactic(auto, unfolding(crate::specs::Choices::request_payload_by))]
-    fn from_content(inner: AttributeRequest<A>) -> RequestPayload<A> {
-        RequestPayload::AddAttribute(inner)
-    }
-}
-
-impl<A: Allocator + Copy> VariantOf<
-    AsElement<Of<AttributeRequest<A>, 0x420079>>,
-    RequestPayload<A>,
-    A,
-> for OperationModifyAttributeRule {
-    #[tactic(auto, unfolding(crate::specs::Choices::request_payload_by))]
-    fn from_content(inner: AttributeRequest<A>) -> RequestPayload<A> {
-        RequestPayload::ModifyAttribute(inner)
-    }
-}
-
-impl<A: Allocator + Copy> VariantOf<
-    AsElement<Of<DeleteAttributeRequest<A>, 0x420079>>,
-    RequestPayload<A>,
-    A,
-> for OperationDeleteAttributeRule {
-    #[tactic(auto, unfolding(crate::specs::Choices::request_payload_by))]
-    fn from_content(inner: DeleteAttributeRequest<A>) -> RequestPayload<A> {
-        RequestPayload::DeleteAttribute(inner)
-    }
-}
-
-impl<A: Allocator + Copy> VariantOf<AsElement<Of<ObjectRequest<A>, 0x420079>>, RequestPayload<A>, A>
-    for OperationActivateRule {
-    #[tactic(auto, unfolding(crate::specs::Choices::request_payload_by))]
-    fn from_content(inner: ObjectRequest<A>) -> RequestPayload<A> {
-        RequestPayload::Activate(inner)
-    }
-}
-
-impl<A: Allocator + Copy> VariantOf<AsElement<Of<RevokeRequest<A>, 0x420079>>, RequestPayload<A>, A>
-    for OperationRevokeRule {
-    #[tactic(auto, unfolding(crate::specs::Choices::request_payload_by))]
-    fn from_content(inner: RevokeRequest<A>) -> RequestPayload<A> {
-        RequestPayload::Revoke(inner)
-    }
-}
-
-impl<A: Allocator + Copy> VariantOf<AsElement<Of<ObjectRequest<A>, 0x420079>>, RequestPayload<A>, A>
-    for OperationDestroyRule {
-    #[tactic(auto, unfolding(crate::specs::Choices::request_payload_by))]
-    fn from_content(inner: ObjectRequest<A>) -> RequestPayload<A> {
-        RequestPayload::Destroy(inner)
-    }
-}
-
-impl<A: Allocator + Copy> VariantOf<AsElement<Of<QueryRequest<A>, 0x420079>>, RequestPayload<A>, A>
-    for OperationQueryRule {
-    #[tactic(auto, unfolding(crate::specs::Choices::request_payload_by))]
-    fn from_content(inner: QueryRequest<A>) -> RequestPayload<A> {
-        RequestPayload::Query(inner)
-    }
-}
-
-impl<A: Allocator + Copy> VariantOf<
-    AsElement<Of<DiscoverVersionsRequest<A>, 0x420079>>,
-    RequestPayload<A>,
-    A,
-> for OperationDiscoverVersionsRule {
-    #[tactic(auto, unfolding(crate::specs::Choices::request_payload_by))]
-    fn from_content(inner: DiscoverVersionsRequest<A>) -> RequestPayload<A> {
-        RequestPayload::DiscoverVersions(inner)
-    }
-}
-
-/// The variants of `RequestPayload` from `Get` on.
-pub struct RequestPayloadLater4;
-
-impl<A: Allocator + Copy> VariantList<RequestPayload<A>, A> for RequestPayloadLater4 {
-    ghost variants = { ⟦<(Case<OperationGetRule, Of<GetRequest<A>, 0x420079>>, (Case<OperationGetAttributesRule, Of<GetAttributesRequest<A>, 0x420079>>, (Case<OperationGetAttributeListRule, Of<ObjectRequest<A>, 0x420079>>, (Case<OperationAddAttributeRule, Of<AttributeRequest<A>, 0x420079>>, RequestPayloadLater8)))) as VariantList<RequestPayload<A>, A>>⟧.variants };
-
-    fn read_chosen<'b>(
-        scope: &Scope<'b, A>,
-        cursor: &mut Cursor<'b, A>,
-        typ: TtlvType,
-    ) -> Step<Option<RequestPayload<A>>, A> {
-        <(
-            Case<OperationGetRule, Of<GetRequest<A>, 0x420079>>,
-            (
-                Case<OperationGetAttributesRule, Of<GetAttributesRequest<A>, 0x420079>>,
-                (
-                    Case<OperationGetAttributeListRule, Of<ObjectRequest<A>, 0x420079>>,
-                    (
-                        Case<OperationAddAttributeRule, Of<AttributeRequest<A>, 0x420079>>,
-                        RequestPayloadLater8,
-                    ),
-                ),
-            ),
-        ) as VariantList<RequestPayload<A>, A>>::read_chosen(scope, cursor, typ)
-    }
-
-    ghost ruled = { λ content. refl };
-}
-
-/// The variants of `RequestPayload` from `ModifyAttribute` on.
-pub struct RequestPayloadLater8;
-
-impl<A: Allocator + Copy> VariantList<RequestPayload<A>, A> for RequestPayloadLater8 {
-    ghost variants = { ⟦<(Case<OperationModifyAttributeRule, Of<AttributeRequest<A>, 0x420079>>, (Case<OperationDeleteAttributeRule, Of<DeleteAttributeRequest<A>, 0x420079>>, (Case<OperationActivateRule, Of<ObjectRequest<A>, 0x420079>>, (Case<OperationRevokeRule, Of<RevokeRequest<A>, 0x420079>>, RequestPayloadLater12)))) as VariantList<RequestPayload<A>, A>>⟧.variants };
-
-    fn read_chosen<'b>(
-        scope: &Scope<'b, A>,
-        cursor: &mut Cursor<'b, A>,
-        typ: TtlvType,
-    ) -> Step<Option<RequestPayload<A>>, A> {
-        <(
-            Case<OperationModifyAttributeRule, Of<AttributeRequest<A>, 0x420079>>,
-            (
-                Case<OperationDeleteAttributeRule, Of<DeleteAttributeRequest<A>, 0x420079>>,
-                (
-                    Case<OperationActivateRule, Of<ObjectRequest<A>, 0x420079>>,
-                    (
-                        Case<OperationRevokeRule, Of<RevokeRequest<A>, 0x420079>>,
-                        RequestPayloadLater12,
-                    ),
-                ),
-            ),
-        ) as VariantList<RequestPayload<A>, A>>::read_chosen(scope, cursor, typ)
-    }
-
-    ghost ruled = { λ content. refl };
-}
-
-/// The variants of `RequestPayload` from `Destroy` on.
-pub struct RequestPayloadLater12;
-
-impl<A: Allocator + Copy> VariantList<RequestPayload<A>, A> for RequestPayloadLater12 {
-    ghost variants = { ⟦<(Case<OperationDestroyRule, Of<ObjectRequest<A>, 0x420079>>, (Case<OperationQueryRule, Of<QueryRequest<A>, 0x420079>>, (Case<OperationDiscoverVersionsRule, Of<DiscoverVersionsRequest<A>, 0x420079>>, ()))) as VariantList<RequestPayload<A>, A>>⟧.variants };
-
-    fn read_chosen<'b>(
-        scope: &Scope<'b, A>,
-        cursor: &mut Cursor<'b, A>,
-        typ: TtlvType,
-    ) -> Step<Option<RequestPayload<A>>, A> {
-        <(
-            Case<OperationDestroyRule, Of<ObjectRequest<A>, 0x420079>>,
-            (
-                Case<OperationQueryRule, Of<QueryRequest<A>, 0x420079>>,
-                (
-                    Case<OperationDiscoverVersionsRule, Of<DiscoverVersionsRequest<A>, 0x420079>>,
-                    (),
-                ),
-            ),
-        ) as VariantList<RequestPayload<A>, A>>::read_chosen(scope, cursor, typ)
-    }
-
-    ghost ruled = { λ content. refl };
-}
-
-impl<A: Allocator + Copy> ChoiceValue for RequestPayload<A> {
-    ghost own = { codes "payload" };
-
-    ghost value = { ⟦<RequestPayload<A> as Choice<A>>⟧.chosen.value };
-}
-
-impl<A: Allocator + Copy> reader::Choice<A> for RequestPayload<A> {
-    ghost form = { ⟦<RequestPayload<A> as Choice<A>>⟧.chosen.form };
-
-    type Variants = (
-        Case<OperationCreateRule, Of<CreateRequest<A>, 0x420079>>,
-        (
-            Case<OperationCreateKeyPairRule, Of<CreateKeyPairRequest<A>, 0x420079>>,
-            (
-                Case<OperationRegisterRule, Of<RegisterRequest<A>, 0x420079>>,
-                (
-                    Case<OperationLocateRule, Of<LocateRequest<A>, 0x420079>>,
-                    RequestPayloadLater4,
-                ),
-            ),
-        ),
-    );
-
-    fn has_form() {}
 }

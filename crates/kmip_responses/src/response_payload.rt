@@ -1,7 +1,7 @@
 // Written by codegen from types.table: change that, and run codegen/codegen.
 //! What was done (KMIP 1.0, section 4).
 
-ghost use Rattle.std.specs.Prelude.{◌≡◌, ◌+◌, None, Some, codes, refl, true};
+ghost use Rattle.std.specs.Prelude.{◌≡◌, ◌+◌, None, Some, refl, true};
 ghost use Rattle.kmip_ttlv_kinds.specs.Parts.{structure, structure_where};
 ghost use Rattle.kmip_ttlv_kinds.specs.Choices.{held};
 ghost use Rattle.kmip_ttlv_parts.specs.MessageParts.{there};
@@ -9,13 +9,7 @@ ghost use Rattle.kmip_responses.specs.Choices.{IsGetResponseObject, response_pay
 
 use kmip_attributes::attribute::Attribute;
 use kmip_attributes::values::{ObjectType, State};
-use kmip_headers::header::{
-    Operation, OperationActivateRule, OperationAddAttributeRule, OperationCreateKeyPairRule,
-    OperationCreateRule, OperationDeleteAttributeRule, OperationDestroyRule,
-    OperationDiscoverVersionsRule, OperationGetAttributeListRule, OperationGetAttributesRule,
-    OperationGetRule, OperationLocateRule, OperationModifyAttributeRule, OperationQueryRule,
-    OperationRegisterRule, OperationRevokeRule, ProtocolVersion,
-};
+use kmip_headers::header::{Operation, ProtocolVersion};
 use kmip_objects::object::{
     Certificate, ManagedObject, OpaqueObject, PrivateKey, PublicKey, SecretData, SplitKey,
     SymmetricKey, Template,
@@ -24,12 +18,11 @@ use kmip_objects::template::{
     PrivateKeyTemplateAttribute, PublicKeyTemplateAttribute, TemplateAttribute,
 };
 use kmip_ttlv_kinds::{
-    Alone, Any, AsElement, Case, Choice, Decided, Element, Four, FromParts, Holds, InBox, Leaf,
-    LeafItem, Maybe, MaybeLeaf, Of, One, PartList, Structure, Walk, read_structure,
+    Alone, Any, Choice, Decided, Element, Four, FromParts, Holds, InBox, Leaf, LeafItem, Maybe,
+    MaybeLeaf, Of, One, PartList, Structure, Walk, read_structure,
 };
-use kmip_ttlv_parts::reader::{ChoiceValue, Cursor, Scope, Step, VariantList, VariantOf};
-use kmip_ttlv_parts::types::TtlvType;
-use kmip_ttlv_parts::{Boxed, reader};
+use kmip_ttlv_parts::Boxed;
+use kmip_ttlv_parts::reader::{Cursor, RuleParts, Scope, Step};
 use std::alloc::{AllocError, Allocator, Global};
 
 /// A symmetric key was made (section 4.1).
@@ -706,6 +699,70 @@ impl<A: Allocator> ResponsePayload<A> {
     }
 }
 
+// The rules of the variants, in their order.
+const RESPONSE_PAYLOAD_RULES: [RuleParts; 15] = [
+    RuleParts::Texts {
+        tag: 0x42005C,
+        texts: &["0x00000001"],
+    },
+    RuleParts::Texts {
+        tag: 0x42005C,
+        texts: &["0x00000002"],
+    },
+    RuleParts::Texts {
+        tag: 0x42005C,
+        texts: &["0x00000003"],
+    },
+    RuleParts::Texts {
+        tag: 0x42005C,
+        texts: &["0x00000008"],
+    },
+    RuleParts::Texts {
+        tag: 0x42005C,
+        texts: &["0x0000000A"],
+    },
+    RuleParts::Texts {
+        tag: 0x42005C,
+        texts: &["0x0000000B"],
+    },
+    RuleParts::Texts {
+        tag: 0x42005C,
+        texts: &["0x0000000C"],
+    },
+    RuleParts::Texts {
+        tag: 0x42005C,
+        texts: &["0x0000000D"],
+    },
+    RuleParts::Texts {
+        tag: 0x42005C,
+        texts: &["0x0000000E"],
+    },
+    RuleParts::Texts {
+        tag: 0x42005C,
+        texts: &["0x0000000F"],
+    },
+    RuleParts::Texts {
+        tag: 0x42005C,
+        texts: &["0x00000012"],
+    },
+    RuleParts::Texts {
+        tag: 0x42005C,
+        texts: &["0x00000013"],
+    },
+    RuleParts::Texts {
+        tag: 0x42005C,
+        texts: &["0x00000014"],
+    },
+    RuleParts::Texts {
+        tag: 0x42005C,
+        texts: &["0x00000018"],
+    },
+    RuleParts::Texts {
+        tag: 0x42005C,
+        texts: &["0x0000001E"],
+    },
+];
+
 impl<A: Allocator + Copy> Choice<A> for ResponsePayload<A> {
     ghost chosen = { response_payload_choice ⟦<ResponsePayload<A> as PartialEq>⟧.eq record {
       create = held ⟦<Of<CreateResponse<A>, 0x42007C> as Element<A>>⟧.rules refl refl (λ x y e. e);
@@ -725,8 +782,68 @@ impl<A: Allocator + Copy> Choice<A> for ResponsePayload<A> {
       discover_versions = held ⟦<Of<DiscoverVersionsResponse<A>, 0x42007C> as Element<A>>⟧.rules refl refl (λ x y e. e);
     } };
 
-    fn read_chosen<'b>(scope: &Scope<'b, A>, cursor: &mut Cursor<'b, A>) -> Step<Self, A> {
-        reader::read_choice(scope, cursor)
+    #[tactic(auto, unfolding(kmip_ttlv_reader::specs::RuleParts::parts_of, kmip_ttlv_reader::specs::RuleParts::equal_sides))]
+    fn variant_rules() -> &'static [RuleParts] {
+        &RESPONSE_PAYLOAD_RULES
+    }
+
+    fn read_held<'b>(
+        scope: &Scope<'b, A>,
+        cursor: &mut Cursor<'b, A>,
+        place: usize,
+    ) -> Step<Self, A> {
+        match place {
+            0 => Ok(ResponsePayload::Create(<Of<CreateResponse<A>, 0x42007C> as Element<
+                A,
+            >>::read_one(scope, cursor)?)),
+            1 => Ok(ResponsePayload::CreateKeyPair(<Of<
+                CreateKeyPairResponse<A>,
+                0x42007C,
+            > as Element<A>>::read_one(scope, cursor)?)),
+            2 => Ok(ResponsePayload::Register(<Of<RegisterResponse<A>, 0x42007C> as Element<
+                A,
+            >>::read_one(scope, cursor)?)),
+            3 => Ok(ResponsePayload::Locate(<Of<LocateResponse<A>, 0x42007C> as Element<
+                A,
+            >>::read_one(scope, cursor)?)),
+            4 => Ok(ResponsePayload::Get(<Of<GetResponse<A>, 0x42007C> as Element<A>>::read_one(
+                scope, cursor,
+            )?)),
+            5 => Ok(ResponsePayload::GetAttributes(<Of<
+                GetAttributesResponse<A>,
+                0x42007C,
+            > as Element<A>>::read_one(scope, cursor)?)),
+            6 => Ok(ResponsePayload::GetAttributeList(<Of<
+                GetAttributeListResponse<A>,
+                0x42007C,
+            > as Element<A>>::read_one(scope, cursor)?)),
+            7 => Ok(ResponsePayload::AddAttribute(<Of<AttributeResponse<A>, 0x42007C> as Element<
+                A,
+            >>::read_one(scope, cursor)?)),
+            8 => Ok(ResponsePayload::ModifyAttribute(<Of<AttributeResponse<A>, 0x42007C> as Element<
+                A,
+            >>::read_one(scope, cursor)?)),
+            9 => Ok(ResponsePayload::DeleteAttribute(<Of<AttributeResponse<A>, 0x42007C> as Element<
+                A,
+            >>::read_one(scope, cursor)?)),
+            10 => Ok(ResponsePayload::Activate(<Of<ObjectResponse<A>, 0x42007C> as Element<
+                A,
+            >>::read_one(scope, cursor)?)),
+            11 => Ok(ResponsePayload::Revoke(<Of<ObjectResponse<A>, 0x42007C> as Element<
+                A,
+            >>::read_one(scope, cursor)?)),
+            12 => Ok(ResponsePayload::Destroy(<Of<ObjectResponse<A>, 0x42007C> as Element<
+                A,
+            >>::read_one(scope, cursor)?)),
+            13 => Ok(ResponsePayload::Query(<Of<QueryResponse<A>, 0x42007C> as Element<
+                A,
+            >>::read_one(scope, cursor)?)),
+            14 => Ok(ResponsePayload::DiscoverVersions(<Of<
+                DiscoverVersionsResponse<A>,
+                0x42007C,
+            > as Element<A>>::read_one(scope, cursor)?)),
+            _ => unreachable!(),
+        }
     }
 
     fn tell_held<W: Walk<A>>(&self, state: &mut W::State) -> Result<(), AllocError> {
@@ -776,278 +893,4 @@ impl<A: Allocator + Copy> Choice<A> for ResponsePayload<A> {
             >(state, inner),
         }
     }
-
-    ghost plain = { (refl, refl) };
-}
-
-impl<A: Allocator + Copy> VariantOf<
-    AsElement<Of<CreateResponse<A>, 0x42007C>>,
-    ResponsePayload<A>,
-    A,
-> for OperationCreateRule {
-    #[tactic(auto, unfolding(crate::specs::Choices::response_payload_by))]
-    fn from_content(inner: CreateResponse<A>) -> ResponsePayload<A> {
-        ResponsePayload::Create(inner)
-    }
-}
-
-impl<A: Allocator + Copy> VariantOf<
-    AsElement<Of<CreateKeyPairResponse<A>, 0x42007C>>,
-    ResponsePayload<A>,
-    A,
-> for OperationCreateKeyPairRule {
-    #[tactic(auto, unfolding(crate::specs::Choices::response_payload_by))]
-    fn from_content(inner: CreateKeyPairResponse<A>) -> ResponsePayload<A> {
-        ResponsePayload::CreateKeyPair(inner)
-    }
-}
-
-impl<A: Allocator + Copy> VariantOf<
-    AsElement<Of<RegisterResponse<A>, 0x42007C>>,
-    ResponsePayload<A>,
-    A,
-> for OperationRegisterRule {
-    #[tactic(auto, unfolding(crate::specs::Choices::response_payload_by))]
-    fn from_content(inner: RegisterResponse<A>) -> ResponsePayload<A> {
-        ResponsePayload::Register(inner)
-    }
-}
-
-impl<A: Allocator + Copy> VariantOf<
-    AsElement<Of<LocateResponse<A>, 0x42007C>>,
-    ResponsePayload<A>,
-    A,
-> for OperationLocateRule {
-    #[tactic(auto, unfolding(crate::specs::Choices::response_payload_by))]
-    fn from_content(inner: LocateResponse<A>) -> ResponsePayload<A> {
-        ResponsePayload::Locate(inner)
-    }
-}
-
-impl<A: Allocator + Copy> VariantOf<AsElement<Of<GetResponse<A>, 0x42007C>>, ResponsePayload<A>, A>
-    for OperationGetRule {
-    #[tactic(auto, unfolding(crate::specs::Choices::response_payload_by))]
-    fn from_content(inner: GetResponse<A>) -> ResponsePayload<A> {
-        ResponsePayload::Get(inner)
-    }
-}
-
-impl<A: Allocator + Copy> VariantOf<
-    AsElement<Of<GetAttributesResponse<A>, 0x42007C>>,
-    ResponsePayload<A>,
-    A,
-> for OperationGetAttributesRule {
-    #[tactic(auto, unfolding(crate::specs::Choices::response_payload_by))]
-    fn from_content(inner: GetAttributesResponse<A>) -> ResponsePayload<A> {
-        ResponsePayload::GetAttributes(inner)
-    }
-}
-
-impl<A: Allocator + Copy> VariantOf<
-    AsElement<Of<GetAttributeListResponse<A>, 0x42007C>>,
-    ResponsePayload<A>,
-    A,
-> for OperationGetAttributeListRule {
-    #[tactic(auto, unfolding(crate::specs::Choices::response_payload_by))]
-    fn from_content(inner: GetAttributeListResponse<A>) -> ResponsePayload<A> {
-        ResponsePayload::GetAttributeList(inner)
-    }
-}
-
-impl<A: Allocator + Copy> VariantOf<
-    AsElement<Of<AttributeResponse<A>, 0x42007C>>,
-    ResponsePayload<A>,
-    A,
-> for OperationAddAttributeRule {
-    #[tactic(auto, unfolding(crate::specs::Choices::response_payload_by))]
-    fn from_content(inner: AttributeResponse<A>) -> ResponsePayload<A> {
-        ResponsePayload::AddAttribute(inner)
-    }
-}
-
-impl<A: Allocator + Copy> VariantOf<
-    AsElement<Of<AttributeResponse<A>, 0x42007C>>,
-    ResponsePayload<A>,
-    A,
-> for OperationModifyAttributeRule {
-    #[tactic(auto, unfolding(crate::specs::Choices::response_payload_by))]
-    fn from_content(inner: AttributeResponse<A>) -> ResponsePayload<A> {
-        ResponsePayload::ModifyAttribute(inner)
-    }
-}
-
-impl<A: Allocator + Copy> VariantOf<
-    AsElement<Of<AttributeResponse<A>, 0x42007C>>,
-    ResponsePayload<A>,
-    A,
-> for OperationDeleteAttributeRule {
-    #[tactic(auto, unfolding(crate::specs::Choices::response_payload_by))]
-    fn from_content(inner: AttributeResponse<A>) -> ResponsePayload<A> {
-        ResponsePayload::DeleteAttribute(inner)
-    }
-}
-
-impl<A: Allocator + Copy> VariantOf<
-    AsElement<Of<ObjectResponse<A>, 0x42007C>>,
-    ResponsePayload<A>,
-    A,
-> for OperationActivateRule {
-    #[tactic(auto, unfolding(crate::specs::Choices::response_payload_by))]
-    fn from_content(inner: ObjectResponse<A>) -> ResponsePayload<A> {
-        ResponsePayload::Activate(inner)
-    }
-}
-
-impl<A: Allocator + Copy> VariantOf<
-    AsElement<Of<ObjectResponse<A>, 0x42007C>>,
-    ResponsePayload<A>,
-    A,
-> for OperationRevokeRule {
-    #[tactic(auto, unfolding(crate::specs::Choices::response_payload_by))]
-    fn from_content(inner: ObjectResponse<A>) -> ResponsePayload<A> {
-        ResponsePayload::Revoke(inner)
-    }
-}
-
-impl<A: Allocator + Copy> VariantOf<
-    AsElement<Of<ObjectResponse<A>, 0x42007C>>,
-    ResponsePayload<A>,
-    A,
-> for OperationDestroyRule {
-    #[tactic(auto, unfolding(crate::specs::Choices::response_payload_by))]
-    fn from_content(inner: ObjectResponse<A>) -> ResponsePayload<A> {
-        ResponsePayload::Destroy(inner)
-    }
-}
-
-impl<A: Allocator + Copy> VariantOf<
-    AsElement<Of<QueryResponse<A>, 0x42007C>>,
-    ResponsePayload<A>,
-    A,
-> for OperationQueryRule {
-    #[tactic(auto, unfolding(crate::specs::Choices::response_payload_by))]
-    fn from_content(inner: QueryResponse<A>) -> ResponsePayload<A> {
-        ResponsePayload::Query(inner)
-    }
-}
-
-impl<A: Allocator + Copy> VariantOf<
-    AsElement<Of<DiscoverVersionsResponse<A>, 0x42007C>>,
-    ResponsePayload<A>,
-    A,
-> for OperationDiscoverVersionsRule {
-    #[tactic(auto, unfolding(crate::specs::Choices::response_payload_by))]
-    fn from_content(inner: DiscoverVersionsResponse<A>) -> ResponsePayload<A> {
-        ResponsePayload::DiscoverVersions(inner)
-    }
-}
-
-/// The variants of `ResponsePayload` from `Get` on.
-pub struct ResponsePayloadLater4;
-
-impl<A: Allocator + Copy> VariantList<ResponsePayload<A>, A> for ResponsePayloadLater4 {
-    ghost variants = { ⟦<(Case<OperationGetRule, Of<GetResponse<A>, 0x42007C>>, (Case<OperationGetAttributesRule, Of<GetAttributesResponse<A>, 0x42007C>>, (Case<OperationGetAttributeListRule, Of<GetAttributeListResponse<A>, 0x42007C>>, (Case<OperationAddAttributeRule, Of<AttributeResponse<A>, 0x42007C>>, ResponsePayloadLater8)))) as VariantList<ResponsePayload<A>, A>>⟧.variants };
-
-    fn read_chosen<'b>(
-        scope: &Scope<'b, A>,
-        cursor: &mut Cursor<'b, A>,
-        typ: TtlvType,
-    ) -> Step<Option<ResponsePayload<A>>, A> {
-        <(
-            Case<OperationGetRule, Of<GetResponse<A>, 0x42007C>>,
-            (
-                Case<OperationGetAttributesRule, Of<GetAttributesResponse<A>, 0x42007C>>,
-                (
-                    Case<OperationGetAttributeListRule, Of<GetAttributeListResponse<A>, 0x42007C>>,
-                    (
-                        Case<OperationAddAttributeRule, Of<AttributeResponse<A>, 0x42007C>>,
-                        ResponsePayloadLater8,
-                    ),
-                ),
-            ),
-        ) as VariantList<ResponsePayload<A>, A>>::read_chosen(scope, cursor, typ)
-    }
-
-    ghost ruled = { λ content. refl };
-}
-
-/// The variants of `ResponsePayload` from `ModifyAttribute` on.
-pub struct ResponsePayloadLater8;
-
-impl<A: Allocator + Copy> VariantList<ResponsePayload<A>, A> for ResponsePayloadLater8 {
-    ghost variants = { ⟦<(Case<OperationModifyAttributeRule, Of<AttributeResponse<A>, 0x42007C>>, (Case<OperationDeleteAttributeRule, Of<AttributeResponse<A>, 0x42007C>>, (Case<OperationActivateRule, Of<ObjectResponse<A>, 0x42007C>>, (Case<OperationRevokeRule, Of<ObjectResponse<A>, 0x42007C>>, ResponsePayloadLater12)))) as VariantList<ResponsePayload<A>, A>>⟧.variants };
-
-    fn read_chosen<'b>(
-        scope: &Scope<'b, A>,
-        cursor: &mut Cursor<'b, A>,
-        typ: TtlvType,
-    ) -> Step<Option<ResponsePayload<A>>, A> {
-        <(
-            Case<OperationModifyAttributeRule, Of<AttributeResponse<A>, 0x42007C>>,
-            (
-                Case<OperationDeleteAttributeRule, Of<AttributeResponse<A>, 0x42007C>>,
-                (
-                    Case<OperationActivateRule, Of<ObjectResponse<A>, 0x42007C>>,
-                    (
-                        Case<OperationRevokeRule, Of<ObjectResponse<A>, 0x42007C>>,
-                        ResponsePayloadLater12,
-                    ),
-                ),
-            ),
-        ) as VariantList<ResponsePayload<A>, A>>::read_chosen(scope, cursor, typ)
-    }
-
-    ghost ruled = { λ content. refl };
-}
-
-/// The variants of `ResponsePayload` from `Destroy` on.
-pub struct ResponsePayloadLater12;
-
-impl<A: Allocator + Copy> VariantList<ResponsePayload<A>, A> for ResponsePayloadLater12 {
-    ghost variants = { ⟦<(Case<OperationDestroyRule, Of<ObjectResponse<A>, 0x42007C>>, (Case<OperationQueryRule, Of<QueryResponse<A>, 0x42007C>>, (Case<OperationDiscoverVersionsRule, Of<DiscoverVersionsResponse<A>, 0x42007C>>, ()))) as VariantList<ResponsePayload<A>, A>>⟧.variants };
-
-    fn read_chosen<'b>(
-        scope: &Scope<'b, A>,
-        cursor: &mut Cursor<'b, A>,
-        typ: TtlvType,
-    ) -> Step<Option<ResponsePayload<A>>, A> {
-        <(
-            Case<OperationDestroyRule, Of<ObjectResponse<A>, 0x42007C>>,
-            (
-                Case<OperationQueryRule, Of<QueryResponse<A>, 0x42007C>>,
-                (
-                    Case<OperationDiscoverVersionsRule, Of<DiscoverVersionsResponse<A>, 0x42007C>>,
-                    (),
-                ),
-            ),
-        ) as VariantList<ResponsePayload<A>, A>>::read_chosen(scope, cursor, typ)
-    }
-
-    ghost ruled = { λ content. refl };
-}
-
-impl<A: Allocator + Copy> ChoiceValue for ResponsePayload<A> {
-    ghost own = { codes "payload" };
-
-    ghost value = { ⟦<ResponsePayload<A> as Choice<A>>⟧.chosen.value };
-}
-
-impl<A: Allocator + Copy> reader::Choice<A> for ResponsePayload<A> {
-    ghost form = { ⟦<ResponsePayload<A> as Choice<A>>⟧.chosen.form };
-
-    type Variants = (
-        Case<OperationCreateRule, Of<CreateResponse<A>, 0x42007C>>,
-        (
-            Case<OperationCreateKeyPairRule, Of<CreateKeyPairResponse<A>, 0x42007C>>,
-            (
-                Case<OperationRegisterRule, Of<RegisterResponse<A>, 0x42007C>>,
-                (
-                    Case<OperationLocateRule, Of<LocateResponse<A>, 0x42007C>>,
-                    ResponsePayloadLater4,
-                ),
-            ),
-        ),
-    );
-
-    fn has_form() {}
 }

@@ -1,7 +1,7 @@
 // Written by codegen from types.table: change that, and run codegen/codegen.
 //! Choices, by the type of an item or by a word before them.
 
-ghost use Rattle.std.specs.Prelude.{◌≡◌, ◌↔◌, ◌+◌, None, IfSome, IsTrue, Some, codes, false, refl, string_bytes, true};
+ghost use Rattle.std.specs.Prelude.{◌≡◌, ◌↔◌, ◌+◌, None, IfSome, IsTrue, Some, false, refl, string_bytes, true};
 ghost use Rattle.kmip_ttlv_kinds.specs.Parts.{all_enough, structure_where};
 ghost use Rattle.kmip_ttlv_kinds.specs.Choices.{held};
 ghost use Rattle.ttlv_vectors.specs.Choices.{said_choice, more_choice, named_choice, ChoosesNamed};
@@ -10,12 +10,11 @@ use kmip_ttlv::error::Error;
 use kmip_ttlv::laws::{Message, Sound};
 use kmip_ttlv::shape::{Decode, Serialize};
 use kmip_ttlv_kinds::{
-    AsElement, Case, Choice, Decided, Element, FromParts, Holds, Leaf, LeafItem, MaybeOneOf, Of,
-    OneOf, PartList, Structure, Walk, decode_structure, is_structure_whole, read_structure,
-    structures_come_back, texts_in, visit_structure,
+    Choice, Decided, Element, FromParts, Holds, Leaf, LeafItem, MaybeOneOf, Of, OneOf, PartList,
+    Structure, Walk, decode_structure, is_structure_whole, read_structure, structures_come_back,
+    visit_structure,
 };
-use kmip_ttlv_parts::reader;
-use kmip_ttlv_parts::reader::{ChoiceValue, Cursor, Rule, RuleParts, Scope, Step, VariantOf};
+use kmip_ttlv_parts::reader::{Cursor, RuleParts, Scope, Step};
 use kmip_ttlv_parts::types::TtlvType;
 use kmip_ttlv_parts::visit::Visitor;
 use std::alloc::{AllocError, Allocator, Global};
@@ -30,14 +29,35 @@ pub enum Said<A: Allocator = Global> {
     Count(i32),
 }
 
+// The rules of the variants, in their order.
+const SAID_RULES: [RuleParts; 2] = [
+    RuleParts::Type(TtlvType::TextString),
+    RuleParts::Type(TtlvType::Integer),
+];
+
 impl<A: Allocator + Copy> Choice<A> for Said<A> {
     ghost chosen = { said_choice ⟦<Said<A> as PartialEq>⟧.eq record {
       line = held ⟦<LeafItem<String<A>, 0x540071> as Element<A>>⟧.rules refl refl (λ x y e. e);
       count = held ⟦<LeafItem<i32, 0x540071> as Element<A>>⟧.rules refl refl (λ x y e. e);
     } };
 
-    fn read_chosen<'b>(scope: &Scope<'b, A>, cursor: &mut Cursor<'b, A>) -> Step<Self, A> {
-        reader::read_choice(scope, cursor)
+    #[tactic(auto, unfolding(kmip_ttlv_reader::specs::RuleParts::parts_of, kmip_ttlv_reader::specs::RuleParts::equal_sides))]
+    fn variant_rules() -> &'static [RuleParts] {
+        &SAID_RULES
+    }
+
+    fn read_held<'b>(
+        scope: &Scope<'b, A>,
+        cursor: &mut Cursor<'b, A>,
+        place: usize,
+    ) -> Step<Self, A> {
+        match place {
+            0 => Ok(Said::Line(<LeafItem<String<A>, 0x540071> as Element<A>>::read_one(
+                scope, cursor,
+            )?)),
+            1 => Ok(Said::Count(<LeafItem<i32, 0x540071> as Element<A>>::read_one(scope, cursor)?)),
+            _ => unreachable!(),
+        }
     }
 
     fn tell_held<W: Walk<A>>(&self, state: &mut W::State) -> Result<(), AllocError> {
@@ -46,73 +66,6 @@ impl<A: Allocator + Copy> Choice<A> for Said<A> {
             Said::Count(inner) => W::item::<LeafItem<i32, 0x540071>>(state, inner),
         }
     }
-
-    ghost plain = { (refl, refl) };
-}
-
-/// The rule that chooses `Said::Line`.
-pub struct SaidLineRule;
-
-impl Rule for SaidLineRule {
-    ghost condition = { codes "type==TextString" };
-
-    fn name() -> &'static str {
-        "if type==TextString"
-    }
-
-    #[tactic(auto, unfolding(kmip_ttlv_reader::specs::RuleParts::equal_sides))]
-    fn parts() -> Option<RuleParts> {
-        Some(RuleParts::Type(TtlvType::TextString))
-    }
-}
-
-impl<A: Allocator + Copy> VariantOf<AsElement<LeafItem<String<A>, 0x540071>>, Said<A>, A>
-    for SaidLineRule {
-    #[tactic(auto, unfolding(crate::specs::Choices::said_by))]
-    fn from_content(inner: String<A>) -> Said<A> {
-        Said::Line(inner)
-    }
-}
-
-/// The rule that chooses `Said::Count`.
-pub struct SaidCountRule;
-
-impl Rule for SaidCountRule {
-    ghost condition = { codes "type==Integer" };
-
-    fn name() -> &'static str {
-        "if type==Integer"
-    }
-
-    #[tactic(auto, unfolding(kmip_ttlv_reader::specs::RuleParts::equal_sides))]
-    fn parts() -> Option<RuleParts> {
-        Some(RuleParts::Type(TtlvType::Integer))
-    }
-}
-
-impl<A: Allocator + Copy> VariantOf<AsElement<LeafItem<i32, 0x540071>>, Said<A>, A>
-    for SaidCountRule {
-    #[tactic(auto, unfolding(crate::specs::Choices::said_by))]
-    fn from_content(inner: i32) -> Said<A> {
-        Said::Count(inner)
-    }
-}
-
-impl<A: Allocator + Copy> ChoiceValue for Said<A> {
-    ghost own = { codes "said" };
-
-    ghost value = { ⟦<Said<A> as Choice<A>>⟧.chosen.value };
-}
-
-impl<A: Allocator + Copy> reader::Choice<A> for Said<A> {
-    ghost form = { ⟦<Said<A> as Choice<A>>⟧.chosen.form };
-
-    type Variants = (
-        Case<SaidLineRule, LeafItem<String<A>, 0x540071>>,
-        (Case<SaidCountRule, LeafItem<i32, 0x540071>>, ()),
-    );
-
-    fn has_form() {}
 }
 
 /// The same of what is more.
@@ -125,14 +78,35 @@ pub enum More<A: Allocator = Global> {
     Count(i32),
 }
 
+// The rules of the variants, in their order.
+const MORE_RULES: [RuleParts; 2] = [
+    RuleParts::Type(TtlvType::TextString),
+    RuleParts::Type(TtlvType::Integer),
+];
+
 impl<A: Allocator + Copy> Choice<A> for More<A> {
     ghost chosen = { more_choice ⟦<More<A> as PartialEq>⟧.eq record {
       line = held ⟦<LeafItem<String<A>, 0x540073> as Element<A>>⟧.rules refl refl (λ x y e. e);
       count = held ⟦<LeafItem<i32, 0x540073> as Element<A>>⟧.rules refl refl (λ x y e. e);
     } };
 
-    fn read_chosen<'b>(scope: &Scope<'b, A>, cursor: &mut Cursor<'b, A>) -> Step<Self, A> {
-        reader::read_choice(scope, cursor)
+    #[tactic(auto, unfolding(kmip_ttlv_reader::specs::RuleParts::parts_of, kmip_ttlv_reader::specs::RuleParts::equal_sides))]
+    fn variant_rules() -> &'static [RuleParts] {
+        &MORE_RULES
+    }
+
+    fn read_held<'b>(
+        scope: &Scope<'b, A>,
+        cursor: &mut Cursor<'b, A>,
+        place: usize,
+    ) -> Step<Self, A> {
+        match place {
+            0 => Ok(More::Line(<LeafItem<String<A>, 0x540073> as Element<A>>::read_one(
+                scope, cursor,
+            )?)),
+            1 => Ok(More::Count(<LeafItem<i32, 0x540073> as Element<A>>::read_one(scope, cursor)?)),
+            _ => unreachable!(),
+        }
     }
 
     fn tell_held<W: Walk<A>>(&self, state: &mut W::State) -> Result<(), AllocError> {
@@ -141,73 +115,6 @@ impl<A: Allocator + Copy> Choice<A> for More<A> {
             More::Count(inner) => W::item::<LeafItem<i32, 0x540073>>(state, inner),
         }
     }
-
-    ghost plain = { (refl, refl) };
-}
-
-/// The rule that chooses `More::Line`.
-pub struct MoreLineRule;
-
-impl Rule for MoreLineRule {
-    ghost condition = { codes "type==TextString" };
-
-    fn name() -> &'static str {
-        "if type==TextString"
-    }
-
-    #[tactic(auto, unfolding(kmip_ttlv_reader::specs::RuleParts::equal_sides))]
-    fn parts() -> Option<RuleParts> {
-        Some(RuleParts::Type(TtlvType::TextString))
-    }
-}
-
-impl<A: Allocator + Copy> VariantOf<AsElement<LeafItem<String<A>, 0x540073>>, More<A>, A>
-    for MoreLineRule {
-    #[tactic(auto, unfolding(crate::specs::Choices::more_by))]
-    fn from_content(inner: String<A>) -> More<A> {
-        More::Line(inner)
-    }
-}
-
-/// The rule that chooses `More::Count`.
-pub struct MoreCountRule;
-
-impl Rule for MoreCountRule {
-    ghost condition = { codes "type==Integer" };
-
-    fn name() -> &'static str {
-        "if type==Integer"
-    }
-
-    #[tactic(auto, unfolding(kmip_ttlv_reader::specs::RuleParts::equal_sides))]
-    fn parts() -> Option<RuleParts> {
-        Some(RuleParts::Type(TtlvType::Integer))
-    }
-}
-
-impl<A: Allocator + Copy> VariantOf<AsElement<LeafItem<i32, 0x540073>>, More<A>, A>
-    for MoreCountRule {
-    #[tactic(auto, unfolding(crate::specs::Choices::more_by))]
-    fn from_content(inner: i32) -> More<A> {
-        More::Count(inner)
-    }
-}
-
-impl<A: Allocator + Copy> ChoiceValue for More<A> {
-    ghost own = { codes "more" };
-
-    ghost value = { ⟦<More<A> as Choice<A>>⟧.chosen.value };
-}
-
-impl<A: Allocator + Copy> reader::Choice<A> for More<A> {
-    ghost form = { ⟦<More<A> as Choice<A>>⟧.chosen.form };
-
-    type Variants = (
-        Case<MoreLineRule, LeafItem<String<A>, 0x540073>>,
-        (Case<MoreCountRule, LeafItem<i32, 0x540073>>, ()),
-    );
-
-    fn has_form() {}
 }
 
 /// A text or a number, by a word.
@@ -232,14 +139,43 @@ impl<A: Allocator> Named<A> {
     }
 }
 
+// The rules of the variants, in their order.
+const NAMED_RULES: [RuleParts; 2] = [
+    RuleParts::Texts {
+        tag: 0x540070,
+        texts: &["Label", "Address"],
+    },
+    RuleParts::Texts {
+        tag: 0x540070,
+        texts: &["Number"],
+    },
+];
+
 impl<A: Allocator + Copy> Choice<A> for Named<A> {
     ghost chosen = { named_choice ⟦<Named<A> as PartialEq>⟧.eq record {
       line = held ⟦<LeafItem<String<A>, 0x540072> as Element<A>>⟧.rules refl refl (λ x y e. e);
       count = held ⟦<LeafItem<i32, 0x540072> as Element<A>>⟧.rules refl refl (λ x y e. e);
     } };
 
-    fn read_chosen<'b>(scope: &Scope<'b, A>, cursor: &mut Cursor<'b, A>) -> Step<Self, A> {
-        reader::read_choice(scope, cursor)
+    #[tactic(auto, unfolding(kmip_ttlv_reader::specs::RuleParts::parts_of, kmip_ttlv_reader::specs::RuleParts::equal_sides))]
+    fn variant_rules() -> &'static [RuleParts] {
+        &NAMED_RULES
+    }
+
+    fn read_held<'b>(
+        scope: &Scope<'b, A>,
+        cursor: &mut Cursor<'b, A>,
+        place: usize,
+    ) -> Step<Self, A> {
+        match place {
+            0 => Ok(Named::Line(<LeafItem<String<A>, 0x540072> as Element<A>>::read_one(
+                scope, cursor,
+            )?)),
+            1 => Ok(Named::Count(<LeafItem<i32, 0x540072> as Element<A>>::read_one(
+                scope, cursor,
+            )?)),
+            _ => unreachable!(),
+        }
     }
 
     fn tell_held<W: Walk<A>>(&self, state: &mut W::State) -> Result<(), AllocError> {
@@ -248,73 +184,6 @@ impl<A: Allocator + Copy> Choice<A> for Named<A> {
             Named::Count(inner) => W::item::<LeafItem<i32, 0x540072>>(state, inner),
         }
     }
-
-    ghost plain = { (refl, refl) };
-}
-
-/// The rule that chooses `Named::Line`.
-pub struct NamedLineRule;
-
-impl Rule for NamedLineRule {
-    ghost condition = { codes "0x540070 in [Label, Address]" };
-
-    fn name() -> &'static str {
-        "if 0x540070 in [Label, Address]"
-    }
-
-    #[tactic(auto, unfolding(kmip_ttlv_reader::specs::RuleParts::parts_of))]
-    fn parts() -> Option<RuleParts> {
-        texts_in(0x540070, &["Label", "Address"])
-    }
-}
-
-impl<A: Allocator + Copy> VariantOf<AsElement<LeafItem<String<A>, 0x540072>>, Named<A>, A>
-    for NamedLineRule {
-    #[tactic(auto, unfolding(crate::specs::Choices::named_by))]
-    fn from_content(inner: String<A>) -> Named<A> {
-        Named::Line(inner)
-    }
-}
-
-/// The rule that chooses `Named::Count`.
-pub struct NamedCountRule;
-
-impl Rule for NamedCountRule {
-    ghost condition = { codes "0x540070==Number" };
-
-    fn name() -> &'static str {
-        "if 0x540070==Number"
-    }
-
-    #[tactic(auto, unfolding(kmip_ttlv_reader::specs::RuleParts::parts_of))]
-    fn parts() -> Option<RuleParts> {
-        texts_in(0x540070, &["Number"])
-    }
-}
-
-impl<A: Allocator + Copy> VariantOf<AsElement<LeafItem<i32, 0x540072>>, Named<A>, A>
-    for NamedCountRule {
-    #[tactic(auto, unfolding(crate::specs::Choices::named_by))]
-    fn from_content(inner: i32) -> Named<A> {
-        Named::Count(inner)
-    }
-}
-
-impl<A: Allocator + Copy> ChoiceValue for Named<A> {
-    ghost own = { codes "named" };
-
-    ghost value = { ⟦<Named<A> as Choice<A>>⟧.chosen.value };
-}
-
-impl<A: Allocator + Copy> reader::Choice<A> for Named<A> {
-    ghost form = { ⟦<Named<A> as Choice<A>>⟧.chosen.form };
-
-    type Variants = (
-        Case<NamedLineRule, LeafItem<String<A>, 0x540072>>,
-        (Case<NamedCountRule, LeafItem<i32, 0x540072>>, ()),
-    );
-
-    fn has_form() {}
 }
 
 /// A word, and what it chooses, behind another choice.

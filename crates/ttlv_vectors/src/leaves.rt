@@ -3,18 +3,15 @@
 
 ghost use Rattle.std.specs.Prelude.{false, refl};
 ghost use denote.Enum.Bare.{true_same};
-ghost use Rattle.kmip_ttlv_parts.specs.Digits.{tag_text};
-ghost use Rattle.kmip_ttlv_parts.specs.Values.{unit_variant_value};
 ghost use Rattle.kmip_ttlv_kinds.specs.Parts.{structure};
 ghost use Rattle.ttlv_vectors.specs.Listed.{kind_is_unit, kind_number, kind_same, kind_variants};
 ghost use Rattle.ttlv_vectors.specs.contracts.leaves.Kind as kind_contract;
 
 use kmip_ttlv_kinds::{
-    Alone, BigNumber, Four, FromParts, Holds, Leaf, Listed, MaybeLeaf, PartList, Structure, Walk,
+    Alone, Four, FromParts, Holds, Leaf, Listed, MaybeLeaf, PartList, Structure, Walk,
     read_structure,
 };
-use kmip_ttlv_parts::reader;
-use kmip_ttlv_parts::reader::{Cursor, DateTime, Interval, Scope, Step};
+use kmip_ttlv_parts::reader::{BigNumber, Cursor, DateTime, Interval, Scope, Step};
 use std::alloc::{AllocError, Allocator, Global};
 
 /// Numbers with a sign.
@@ -208,14 +205,6 @@ pub enum Kind {
 // Each number, and what it stands for.
 const KIND: [(&str, Kind); 2] = [("0x00000001", Kind::First), ("0x00000002", Kind::Second)];
 
-impl reader::Listed for Kind {
-    ghost own = { tag_text 0x540040 };
-
-    ghost variants = { kind_variants };
-
-    ghost value = { λ x. unit_variant_value (tag_text 0x540040) (kind_number x) };
-}
-
 impl Listed for Kind {
     ghost tag = { 0x540040 };
 
@@ -228,11 +217,8 @@ impl Listed for Kind {
       same = λ x y e. true_same kind_contract.the_type x y (kind_same x y e);
     } };
 
-    fn read_listed<'b, A: Allocator + Copy>(
-        scope: &Scope<'b, A>,
-        cursor: &mut Cursor<'b, A>,
-    ) -> Step<Self, A> {
-        cursor.listed(scope, &KIND)
+    fn table() -> &'static [(&'static str, Self)] {
+        &KIND
     }
 
     fn tag() -> u32 {

@@ -6,13 +6,13 @@ ghost use Rattle.kmip_ttlv_kinds.specs.Parts.{structure};
 
 use kmip_ttlv::error::Error;
 use kmip_ttlv::laws::{Message, Sound};
-use kmip_ttlv::reader::{Cursor, DateTime, Interval, Scope, Step};
+use kmip_ttlv::reader::{BigNumber, Cursor, DateTime, Interval, Scope, Step};
 use kmip_ttlv::shape::{Decode, Serialize};
 use kmip_ttlv::visit::Visitor;
 use kmip_ttlv::{Boxed, Enumeration};
 use kmip_ttlv_kinds::{
-    Any, BigNumber, Element, Four, FromParts, Holds, InBox, Leaf, LeafItem, Maybe, MaybeLeaf, Of,
-    One, PartList, Several, Structure, Walk, decode_structure, is_structure_whole, read_structure,
+    Any, Element, Four, FromParts, Holds, InBox, Leaf, LeafItem, Maybe, MaybeLeaf, Of, One,
+    PartList, Several, Structure, Walk, decode_structure, is_structure_whole, read_structure,
     structures_come_back, visit_structure,
 };
 use std::alloc::{AllocError, Allocator, Global};

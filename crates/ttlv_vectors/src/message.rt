@@ -2,8 +2,6 @@
 //! A message with a part of every kind.
 
 ghost use Rattle.std.specs.Prelude.{◌≡◌, false, refl, true};
-ghost use Rattle.kmip_ttlv_parts.specs.Digits.{tag_text};
-ghost use Rattle.kmip_ttlv_parts.specs.Values.{unit_variant_value};
 ghost use Rattle.kmip_ttlv_kinds.specs.Parts.{structure};
 ghost use Rattle.ttlv_vectors.specs.Listed.{every_constant_is_unit, every_constant_number, every_constant_variants};
 ghost use Rattle.ttlv_vectors.specs.declared.message.EveryConstant.TheVariants as every_constant;
@@ -17,7 +15,6 @@ use kmip_ttlv_kinds::{
     Structure, Walk, decode_structure, is_structure_whole, read_structure, structures_come_back,
     visit_structure,
 };
-use kmip_ttlv_parts::reader;
 use kmip_ttlv_parts::reader::{Cursor, Scope, Step};
 use kmip_ttlv_parts::visit::Visitor;
 use std::alloc::{AllocError, Allocator, Global};
@@ -52,14 +49,6 @@ pub enum EveryConstant {
 // Each number, and what it stands for.
 const EVERY_CONSTANT: [(&str, EveryConstant); 1] = [("0x00000001", EveryConstant::Only)];
 
-impl reader::Listed for EveryConstant {
-    ghost own = { tag_text 0x540061 };
-
-    ghost variants = { every_constant_variants };
-
-    ghost value = { λ x. unit_variant_value (tag_text 0x540061) (every_constant_number x) };
-}
-
 impl Listed for EveryConstant {
     ghost tag = { 0x540061 };
 
@@ -72,11 +61,8 @@ impl Listed for EveryConstant {
       same = λ x y e. refl;
     } };
 
-    fn read_listed<'b, A: Allocator + Copy>(
-        scope: &Scope<'b, A>,
-        cursor: &mut Cursor<'b, A>,
-    ) -> Step<Self, A> {
-        cursor.listed(scope, &EVERY_CONSTANT)
+    fn table() -> &'static [(&'static str, Self)] {
+        &EVERY_CONSTANT
     }
 
     fn tag() -> u32 {

@@ -3,8 +3,6 @@
 
 ghost use Rattle.std.specs.Prelude.{◌≡◌, false, refl};
 ghost use denote.Enum.Bare.{true_same};
-ghost use Rattle.kmip_ttlv_parts.specs.Digits.{tag_text};
-ghost use Rattle.kmip_ttlv_parts.specs.Values.{unit_variant_value};
 ghost use Rattle.kmip_ttlv_kinds.specs.Parts.{structure};
 ghost use Rattle.ttlv_vectors.specs.Listed.{object_type_is_unit, object_type_number, object_type_same, object_type_variants};
 ghost use Rattle.ttlv_vectors.specs.contracts.query.ObjectType as object_type_contract;
@@ -19,9 +17,9 @@ use kmip_ttlv_kinds::{
     PartList, Structure, Walk, decode_structure, is_structure_whole, read_structure,
     structures_come_back, visit_structure,
 };
+use kmip_ttlv_parts::Enumeration;
 use kmip_ttlv_parts::reader::{Cursor, Scope, Step};
 use kmip_ttlv_parts::visit::Visitor;
-use kmip_ttlv_parts::{Enumeration, reader};
 use std::alloc::{AllocError, Allocator, Global};
 
 /// An attribute whose value is a text.
@@ -164,14 +162,6 @@ const OBJECT_TYPE: [(&str, ObjectType); 2] = [
     ("0x00000002", ObjectType::SymmetricKey),
 ];
 
-impl reader::Listed for ObjectType {
-    ghost own = { tag_text 0x420057 };
-
-    ghost variants = { object_type_variants };
-
-    ghost value = { λ x. unit_variant_value (tag_text 0x420057) (object_type_number x) };
-}
-
 impl Listed for ObjectType {
     ghost tag = { 0x420057 };
 
@@ -184,11 +174,8 @@ impl Listed for ObjectType {
       same = λ x y e. true_same object_type_contract.the_type x y (object_type_same x y e);
     } };
 
-    fn read_listed<'b, A: Allocator + Copy>(
-        scope: &Scope<'b, A>,
-        cursor: &mut Cursor<'b, A>,
-    ) -> Step<Self, A> {
-        cursor.listed(scope, &OBJECT_TYPE)
+    fn table() -> &'static [(&'static str, Self)] {
+        &OBJECT_TYPE
     }
 
     fn tag() -> u32 {
@@ -335,14 +322,6 @@ const RESULT_STATUS: [(&str, ResultStatus); 3] = [
     ("0x00000003", ResultStatus::Undone),
 ];
 
-impl reader::Listed for ResultStatus {
-    ghost own = { tag_text 0x42007F };
-
-    ghost variants = { result_status_variants };
-
-    ghost value = { λ x. unit_variant_value (tag_text 0x42007F) (result_status_number x) };
-}
-
 impl Listed for ResultStatus {
     ghost tag = { 0x42007F };
 
@@ -355,11 +334,8 @@ impl Listed for ResultStatus {
       same = λ x y e. true_same result_status_contract.the_type x y (result_status_same x y e);
     } };
 
-    fn read_listed<'b, A: Allocator + Copy>(
-        scope: &Scope<'b, A>,
-        cursor: &mut Cursor<'b, A>,
-    ) -> Step<Self, A> {
-        cursor.listed(scope, &RESULT_STATUS)
+    fn table() -> &'static [(&'static str, Self)] {
+        &RESULT_STATUS
     }
 
     fn tag() -> u32 {

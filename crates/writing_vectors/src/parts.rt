@@ -7,8 +7,7 @@ use crate::bytes::{
 };
 use kmip_ttlv::error::{ErrorKind, Result};
 use kmip_ttlv::from_slice;
-use kmip_ttlv::reader::{DateTime, Interval};
-use kmip_ttlv_kinds::BigNumber;
+use kmip_ttlv::reader::{BigNumber, DateTime, Interval};
 use kmip_ttlv_memory::BoundedAllocator;
 use std::alloc::{AllocError, Allocator, Global};
 use ttlv_vectors::choice::Choice;

@@ -1,0 +1,126 @@
+-- Written by codegen from types.table: change that, and run codegen/codegen.
+-- What it answers, by what it holds.
+use Rattle.std.proofs.Common.{refl}
+use Rattle.kmip_ttlv_kinds.specs.Choices.{is_failed_at, is_held_at}
+use Rattle.kmip_requests.specs.Choices.{request_payload_by}
+use Rattle.kmip_requests.proofs.request_payload.RequestPayloadChoice.read_held.Goals as goal
+
+pub returns-in_err-read_one-in-0-clause-read : goal.returns-in_err-read_one-in-0-clause-read
+returns-in_err-read_one-in-0-clause-read g c =
+    is_failed_at _ _ _ _ _ _ c.in_err-read_one-in-0.ensures.read c.from_residual.ensures.1 c.in-0.is refl
+
+pub returns-in_ok-read_one-in-0-clause-read : goal.returns-in_ok-read_one-in-0-clause-read
+unfolding request_payload_by
+returns-in_ok-read_one-in-0-clause-read g c = is_held_at _ _ _ _ _ c.in_ok-read_one-in-0.ensures.read c.in-0.is refl refl
+
+pub returns-in_err-read_one-in-1-clause-read : goal.returns-in_err-read_one-in-1-clause-read
+returns-in_err-read_one-in-1-clause-read g c =
+    is_failed_at _ _ _ _ _ _ c.in_err-read_one-in-1.ensures.read c.from_residual-in_err-read_one-in-1.ensures.1 c.in-1.is refl
+
+pub returns-in_ok-read_one-in-1-clause-read : goal.returns-in_ok-read_one-in-1-clause-read
+unfolding request_payload_by
+returns-in_ok-read_one-in-1-clause-read g c = is_held_at _ _ _ _ _ c.in_ok-read_one-in-1.ensures.read c.in-1.is refl refl
+
+pub returns-in_err-read_one-in-2-clause-read : goal.returns-in_err-read_one-in-2-clause-read
+returns-in_err-read_one-in-2-clause-read g c =
+    is_failed_at _ _ _ _ _ _ c.in_err-read_one-in-2.ensures.read c.from_residual-in_err-read_one-in-2.ensures.1 c.in-2.is refl
+
+pub returns-in_ok-read_one-in-2-clause-read : goal.returns-in_ok-read_one-in-2-clause-read
+unfolding request_payload_by
+returns-in_ok-read_one-in-2-clause-read g c = is_held_at _ _ _ _ _ c.in_ok-read_one-in-2.ensures.read c.in-2.is refl refl
+
+pub returns-in_err-read_one-in-3-clause-read : goal.returns-in_err-read_one-in-3-clause-read
+returns-in_err-read_one-in-3-clause-read g c =
+    is_failed_at _ _ _ _ _ _ c.in_err-read_one-in-3.ensures.read c.from_residual-in_err-read_one-in-3.ensures.1 c.in-3.is refl
+
+pub returns-in_ok-read_one-in-3-clause-read : goal.returns-in_ok-read_one-in-3-clause-read
+unfolding request_payload_by
+returns-in_ok-read_one-in-3-clause-read g c = is_held_at _ _ _ _ _ c.in_ok-read_one-in-3.ensures.read c.in-3.is refl refl
+
+pub returns-in_err-read_one-in-4-clause-read : goal.returns-in_err-read_one-in-4-clause-read
+returns-in_err-read_one-in-4-clause-read g c =
+    is_failed_at _ _ _ _ _ _ c.in_err-read_one-in-4.ensures.read c.from_residual-in_err-read_one-in-4.ensures.1 c.in-4.is refl
+
+pub returns-in_ok-read_one-in-4-clause-read : goal.returns-in_ok-read_one-in-4-clause-read
+unfolding request_payload_by
+returns-in_ok-read_one-in-4-clause-read g c = is_held_at _ _ _ _ _ c.in_ok-read_one-in-4.ensures.read c.in-4.is refl refl
+
+pub returns-in_err-read_one-in-5-clause-read : goal.returns-in_err-read_one-in-5-clause-read
+returns-in_err-read_one-in-5-clause-read g c =
+    is_failed_at _ _ _ _ _ _ c.in_err-read_one-in-5.ensures.read c.from_residual-in_err-read_one-in-5.ensures.1 c.in-5.is refl
+
+pub returns-in_ok-read_one-in-5-clause-read : goal.returns-in_ok-read_one-in-5-clause-read
+unfolding request_payload_by
+returns-in_ok-read_one-in-5-clause-read g c = is_held_at _ _ _ _ _ c.in_ok-read_one-in-5.ensures.read c.in-5.is refl refl
+
+pub returns-in_err-read_one-in-6-clause-read : goal.returns-in_err-read_one-in-6-clause-read
+returns-in_err-read_one-in-6-clause-read g c =
+    is_failed_at _ _ _ _ _ _ c.in_err-read_one-in-6.ensures.read c.from_residual-in_err-read_one-in-6.ensures.1 c.in-6.is refl
+
+pub returns-in_ok-read_one-in-6-clause-read : goal.returns-in_ok-read_one-in-6-clause-read
+unfolding request_payload_by
+returns-in_ok-read_one-in-6-clause-read g c = is_held_at _ _ _ _ _ c.in_ok-read_one-in-6.ensures.read c.in-6.is refl refl
+
+pub returns-in_err-read_one-in-7-clause-read : goal.returns-in_err-read_one-in-7-clause-read
+returns-in_err-read_one-in-7-clause-read g c =
+    is_failed_at _ _ _ _ _ _ c.in_err-read_one-in-7.ensures.read c.from_residual-in_err-read_one-in-7.ensures.1 c.in-7.is refl
+
+pub returns-in_ok-read_one-in-7-clause-read : goal.returns-in_ok-read_one-in-7-clause-read
+unfolding request_payload_by
+returns-in_ok-read_one-in-7-clause-read g c = is_held_at _ _ _ _ _ c.in_ok-read_one-in-7.ensures.read c.in-7.is refl refl
+
+pub returns-in_err-read_one-in-8-clause-read : goal.returns-in_err-read_one-in-8-clause-read
+returns-in_err-read_one-in-8-clause-read g c =
+    is_failed_at _ _ _ _ _ _ c.in_err-read_one-in-8.ensures.read c.from_residual-in_err-read_one-in-8.ensures.1 c.in-8.is refl
+
+pub returns-in_ok-read_one-in-8-clause-read : goal.returns-in_ok-read_one-in-8-clause-read
+unfolding request_payload_by
+returns-in_ok-read_one-in-8-clause-read g c = is_held_at _ _ _ _ _ c.in_ok-read_one-in-8.ensures.read c.in-8.is refl refl
+
+pub returns-in_err-read_one-in-9-clause-read : goal.returns-in_err-read_one-in-9-clause-read
+returns-in_err-read_one-in-9-clause-read g c =
+    is_failed_at _ _ _ _ _ _ c.in_err-read_one-in-9.ensures.read c.from_residual-in_err-read_one-in-9.ensures.1 c.in-9.is refl
+
+pub returns-in_ok-read_one-in-9-clause-read : goal.returns-in_ok-read_one-in-9-clause-read
+unfolding request_payload_by
+returns-in_ok-read_one-in-9-clause-read g c = is_held_at _ _ _ _ _ c.in_ok-read_one-in-9.ensures.read c.in-9.is refl refl
+
+pub returns-in_err-read_one-in-10-clause-read : goal.returns-in_err-read_one-in-10-clause-read
+returns-in_err-read_one-in-10-clause-read g c =
+    is_failed_at _ _ _ _ _ _ c.in_err-read_one-in-10.ensures.read c.from_residual-in_err-read_one-in-10.ensures.1 c.in-10.is refl
+
+pub returns-in_ok-read_one-in-10-clause-read : goal.returns-in_ok-read_one-in-10-clause-read
+unfolding request_payload_by
+returns-in_ok-read_one-in-10-clause-read g c = is_held_at _ _ _ _ _ c.in_ok-read_one-in-10.ensures.read c.in-10.is refl refl
+
+pub returns-in_err-read_one-in-11-clause-read : goal.returns-in_err-read_one-in-11-clause-read
+returns-in_err-read_one-in-11-clause-read g c =
+    is_failed_at _ _ _ _ _ _ c.in_err-read_one-in-11.ensures.read c.from_residual-in_err-read_one-in-11.ensures.1 c.in-11.is refl
+
+pub returns-in_ok-read_one-in-11-clause-read : goal.returns-in_ok-read_one-in-11-clause-read
+unfolding request_payload_by
+returns-in_ok-read_one-in-11-clause-read g c = is_held_at _ _ _ _ _ c.in_ok-read_one-in-11.ensures.read c.in-11.is refl refl
+
+pub returns-in_err-read_one-in-12-clause-read : goal.returns-in_err-read_one-in-12-clause-read
+returns-in_err-read_one-in-12-clause-read g c =
+    is_failed_at _ _ _ _ _ _ c.in_err-read_one-in-12.ensures.read c.from_residual-in_err-read_one-in-12.ensures.1 c.in-12.is refl
+
+pub returns-in_ok-read_one-in-12-clause-read : goal.returns-in_ok-read_one-in-12-clause-read
+unfolding request_payload_by
+returns-in_ok-read_one-in-12-clause-read g c = is_held_at _ _ _ _ _ c.in_ok-read_one-in-12.ensures.read c.in-12.is refl refl
+
+pub returns-in_err-read_one-in-13-clause-read : goal.returns-in_err-read_one-in-13-clause-read
+returns-in_err-read_one-in-13-clause-read g c =
+    is_failed_at _ _ _ _ _ _ c.in_err-read_one-in-13.ensures.read c.from_residual-in_err-read_one-in-13.ensures.1 c.in-13.is refl
+
+pub returns-in_ok-read_one-in-13-clause-read : goal.returns-in_ok-read_one-in-13-clause-read
+unfolding request_payload_by
+returns-in_ok-read_one-in-13-clause-read g c = is_held_at _ _ _ _ _ c.in_ok-read_one-in-13.ensures.read c.in-13.is refl refl
+
+pub returns-in_err-read_one-in-14-clause-read : goal.returns-in_err-read_one-in-14-clause-read
+returns-in_err-read_one-in-14-clause-read g c =
+    is_failed_at _ _ _ _ _ _ c.in_err-read_one-in-14.ensures.read c.from_residual-in_err-read_one-in-14.ensures.1 c.in-14.is refl
+
+pub returns-in_ok-read_one-in-14-clause-read : goal.returns-in_ok-read_one-in-14-clause-read
+unfolding request_payload_by
+returns-in_ok-read_one-in-14-clause-read g c = is_held_at _ _ _ _ _ c.in_ok-read_one-in-14.ensures.read c.in-14.is refl refl
