@@ -1,3 +1,2 @@
-pub mod Selves
-pub mod SelvesItems
-pub mod SelvesChoices
+pub mod Choices
+pub mod Listed

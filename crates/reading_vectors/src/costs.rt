@@ -5,7 +5,7 @@
 ghost use Rattle.std.specs.Prelude.{Some};
 
 use crate::answer::Of;
-use crate::selves::{Closed, read_lists};
+use crate::selves::{Closed, Lists};
 use crate::stream_samples::{MESSAGE, Wanted, is_wanted};
 use kmip_ttlv::{Config, from_reader, from_slice};
 use kmip_ttlv_memory::BoundedAllocator;
@@ -132,17 +132,17 @@ fn structures(alloc: Global, count: u32) -> Result<Vec<u8>, AllocError> {
     repeated(alloc, count, &item)
 }
 
-// A number, and then so many numbers BBBBBB and texts CCCCCC.
+// A number, and then so many numbers DDDDDD and texts EEEEEE.
 fn lists(alloc: Global, count: u32) -> Result<Vec<u8>, AllocError> {
     let length = count.saturating_mul(32);
     let mut message = Vec::from_array(alloc, [0xAA, 0xAA, 0xAA, 1])?;
     message.extend_from_slice(&length.saturating_add(16).to_be_bytes())?;
     message.extend_from_slice(&NUMBER)?;
     for _ in 0..count {
-        message.extend_from_slice(&NUMBER)?;
+        message.extend_from_slice(b"\xDD\xDD\xDD\x02\0\0\0\x04\0\0\0\x07\0\0\0\0")?;
     }
     for _ in 0..count {
-        message.extend_from_slice(b"\xCC\xCC\xCC\x07\0\0\0\x08Operands")?;
+        message.extend_from_slice(b"\xEE\xEE\xEE\x07\0\0\0\x08Operands")?;
     }
     Ok(message)
 }
@@ -150,7 +150,7 @@ fn lists(alloc: Global, count: u32) -> Result<Vec<u8>, AllocError> {
 // How many numbers and texts are read of a message by a type that reads itself, and what that asks for.
 fn lists_read(alloc: Global, message: &[u8]) -> (Option<Found>, usize) {
     let heap = BoundedAllocator::in_blocks(alloc, usize::MAX);
-    let read = match &read_lists(&heap, message) {
+    let read = match &from_slice::<Lists<_>, _>(&heap, message) {
         Ok(lists) => Some((lists.marks.len(), lists.texts.len())),
         Err(_) => None,
     };

@@ -1,205 +1,207 @@
-//! Types that read themselves, with each kind of field, and what is read of them. One of them is what `from_slice` and
-//! `from_reader` decode.
+// Written by codegen from types.table: change that, and run codegen/codegen.
+//! Types that read themselves, with each kind of part, and what is read of them.
 
-ghost use Rattle.std.specs.Prelude.{◌≡◌, true, false, refl, codes};
-ghost use Rattle.kmip_ttlv.specs.Outcomes.{root_outcome};
-ghost use Rattle.kmip_ttlv.specs.ReadResults.{IsReadAs};
-ghost use Rattle.reading_vectors.specs.Selves.{point_form, point_value, moment_form, moment_value, whole_form, whole_value, sorts_form, sorts_value, closed_form, closed_value};
-ghost use Rattle.reading_vectors.specs.SelvesItems.{mark_form, mark_value, lists_form, lists_value, maybes_form, maybes_value};
-ghost use Rattle.reading_vectors.specs.SelvesChoices.{order_form, order_variants, order_value, detail_form, detail_value, task_form, task_value};
+ghost use Rattle.std.specs.Prelude.{◌≡◌, ◌↔◌, ◌+◌, IsTrue, false, refl, true};
+ghost use denote.Enum.Bare.{true_same};
+ghost use Rattle.kmip_ttlv_parts.specs.Returns.{IsNoneOf};
+ghost use Rattle.kmip_ttlv_kinds.specs.Parts.{structure, structure_where};
+ghost use Rattle.kmip_ttlv_kinds.specs.Choices.{held};
+ghost use Rattle.reading_vectors.specs.Choices.{detail_choice, ChoosesDetail, detail_names};
+ghost use Rattle.reading_vectors.specs.Listed.{order_is_unit, order_number, order_same, order_variants};
+ghost use Rattle.reading_vectors.specs.contracts.selves.Order as order_contract;
 
 use kmip_ttlv::error::Error;
-use kmip_ttlv::reader::{
-    BareLeaf, BigInteger, Choice, ChoiceValue, Cursor, Four, Interval, Item, ItemElement, Leaf,
-    LeafElement, Listed, Nested, OptionalItem, OptionalLeaf, OptionalNested, OptionalSeveral,
-    OptionalSeveralItems, OptionalSeveralLeaves, ReadItem, ReadNested, ReadStructure, Rule, Scope,
-    Several, SeveralItems, SeveralLeaves, Step, StructureElement, Variant, VariantOf, read_choice,
-    read_message, read_structure,
+use kmip_ttlv::laws::{Message, Sound, is_none_of};
+use kmip_ttlv::shape::{Decode, Serialize};
+use kmip_ttlv_kinds::{
+    Alone, Any, Choice, Decided, Element, Four, FromParts, Holds, Leaf, LeafItem, Listed,
+    ListedItem, Maybe, MaybeLeaf, Of, One, OneOf, PartList, Several, Structure, Walk,
+    decode_structure, is_structure_whole, read_structure, structures_come_back, visit_structure,
 };
-use kmip_ttlv::shape::Decode;
-use std::alloc::{Allocator, Global};
+use kmip_ttlv_parts::reader::{BigNumber, Cursor, Interval, RuleParts, Scope, Step};
+use kmip_ttlv_parts::types::TtlvType;
+use kmip_ttlv_parts::visit::Visitor;
+use std::alloc::{AllocError, Allocator, Global};
 
 /// A structure of a number.
-#[derive(Clone, Copy, Debug, PartialEq, Eq)]
+#[derive(Clone, Copy, PartialEq, Eq)]
 pub struct Point {
+    /// Its number.
     pub number: i32,
 }
 
-impl<A: Allocator + Copy> ReadStructure<A> for Point {
-    ghost form = { point_form };
+type PointParts = Alone<Leaf<i32, 0xBBBBBB>>;
 
-    ghost value = { point_value };
+impl<A: Allocator + Copy> FromParts<A, PointParts> for Point {
+    ghost parts = { λ x. x.number };
 
-    ghost TAG = { 14540253 };
-
-    ghost DENIES_UNKNOWN = { false };
-
-    type Fields = (Leaf<i32, 0xBBBBBB>,);
-
-    const TAG: u32 = 0xDDDDDD;
-
-    const DENIES_UNKNOWN: bool = false;
-
-    #[tactic(auto, unfolding(kmip_ttlv_types::specs::Digits::six_digits))]
-    fn has_form() {}
-
-    #[tactic(auto, unfolding(kmip_ttlv_types::specs::Digits::six_digits))]
-    fn from_fields(fields: (i32,)) -> Point {
-        let (number,) = fields;
+    fn from_parts(number: Holds<PointParts, A>) -> Self {
         Point { number }
     }
 }
 
-impl<A: Allocator + Copy> ReadNested<A> for Point {
-    ghost form = { point_form };
+impl<A: Allocator + Copy> Structure<A> for Point {
+    ghost rules = { structure false ⟦<PointParts as PartList<A>>⟧.rules ⟦<Point as FromParts<A, PointParts>>⟧.parts refl ⟦<Point as PartialEq>⟧.eq (λ x y e. e) };
 
-    ghost value = { point_value };
+    fn read<'b>(scope: &Scope<'b, A>, tag: u32, cursor: &mut Cursor<'b, A>) -> Step<Self, A> {
+        read_structure::<PointParts, Self, A>(scope, tag, false, cursor)
+    }
 
-    ghost TAG = { 14540253 };
-
-    ghost structured = { (refl, refl) };
-
-    const TAG: u32 = 0xDDDDDD;
-
-    fn read_nested<'b>(scope: &Scope<'b, A>, cursor: &mut Cursor<'b, A>) -> Step<Point, A> {
-        read_structure(scope, cursor)
+    fn tell_parts<W: Walk<A>>(&self, state: &mut W::State) -> Result<(), AllocError> {
+        W::one::<Leaf<i32, 0xBBBBBB>>(state, &self.number)
     }
 }
 
 /// A structure of a Long Integer or a Date-Time.
-#[derive(Clone, Copy, Debug, PartialEq, Eq)]
+#[derive(Clone, Copy, PartialEq, Eq)]
 pub struct Moment {
+    /// Seconds, as either of them.
     pub seconds: i64,
 }
 
-impl<A: Allocator + Copy> ReadStructure<A> for Moment {
-    ghost form = { moment_form };
+type MomentParts = Alone<Leaf<i64, 0xBBBBBB>>;
 
-    ghost value = { moment_value };
+impl<A: Allocator + Copy> FromParts<A, MomentParts> for Moment {
+    ghost parts = { λ x. x.seconds };
 
-    ghost TAG = { 15658734 };
-
-    ghost DENIES_UNKNOWN = { false };
-
-    type Fields = (Leaf<i64, 0xBBBBBB>,);
-
-    const TAG: u32 = 0xEEEEEE;
-
-    const DENIES_UNKNOWN: bool = false;
-
-    #[tactic(auto, unfolding(kmip_ttlv_types::specs::Digits::six_digits))]
-    fn has_form() {}
-
-    #[tactic(auto, unfolding(kmip_ttlv_types::specs::Digits::six_digits))]
-    fn from_fields(fields: (i64,)) -> Moment {
-        let (seconds,) = fields;
+    fn from_parts(seconds: Holds<MomentParts, A>) -> Self {
         Moment { seconds }
     }
 }
 
-impl<A: Allocator + Copy> ReadNested<A> for Moment {
-    ghost form = { moment_form };
+impl<A: Allocator + Copy> Structure<A> for Moment {
+    ghost rules = { structure false ⟦<MomentParts as PartList<A>>⟧.rules ⟦<Moment as FromParts<A, MomentParts>>⟧.parts refl ⟦<Moment as PartialEq>⟧.eq (λ x y e. e) };
 
-    ghost value = { moment_value };
+    fn read<'b>(scope: &Scope<'b, A>, tag: u32, cursor: &mut Cursor<'b, A>) -> Step<Self, A> {
+        read_structure::<MomentParts, Self, A>(scope, tag, false, cursor)
+    }
 
-    ghost TAG = { 15658734 };
+    fn tell_parts<W: Walk<A>>(&self, state: &mut W::State) -> Result<(), AllocError> {
+        W::one::<Leaf<i64, 0xBBBBBB>>(state, &self.seconds)
+    }
+}
 
-    ghost structured = { (refl, refl) };
+/// A structure that is always there.
+#[derive(Clone, Copy, PartialEq, Eq)]
+pub struct Last {
+    /// Its number.
+    pub number: i32,
+}
 
-    const TAG: u32 = 0xEEEEEE;
+type LastParts = Alone<Leaf<i32, 0xBBBBBB>>;
 
-    fn read_nested<'b>(scope: &Scope<'b, A>, cursor: &mut Cursor<'b, A>) -> Step<Moment, A> {
-        read_structure(scope, cursor)
+impl<A: Allocator + Copy> FromParts<A, LastParts> for Last {
+    ghost parts = { λ x. x.number };
+
+    fn from_parts(number: Holds<LastParts, A>) -> Self {
+        Last { number }
+    }
+}
+
+impl<A: Allocator + Copy> Structure<A> for Last {
+    ghost rules = { structure false ⟦<LastParts as PartList<A>>⟧.rules ⟦<Last as FromParts<A, LastParts>>⟧.parts refl ⟦<Last as PartialEq>⟧.eq (λ x y e. e) };
+
+    fn read<'b>(scope: &Scope<'b, A>, tag: u32, cursor: &mut Cursor<'b, A>) -> Step<Self, A> {
+        read_structure::<LastParts, Self, A>(scope, tag, false, cursor)
+    }
+
+    fn tell_parts<W: Walk<A>>(&self, state: &mut W::State) -> Result<(), AllocError> {
+        W::one::<Leaf<i32, 0xBBBBBB>>(state, &self.number)
     }
 }
 
 /// A structure of a number, and of nothing else.
-#[derive(Clone, Copy, Debug, PartialEq, Eq)]
+#[derive(Clone, Copy, PartialEq, Eq)]
 pub struct Closed {
+    /// Its number.
     pub number: i32,
 }
 
-impl<A: Allocator + Copy> ReadStructure<A> for Closed {
-    ghost form = { closed_form };
+type ClosedParts = Alone<Leaf<i32, 0xBBBBBB>>;
 
-    ghost value = { closed_value };
+impl<A: Allocator + Copy> FromParts<A, ClosedParts> for Closed {
+    ghost parts = { λ x. x.number };
 
-    ghost TAG = { 11184810 };
-
-    ghost DENIES_UNKNOWN = { true };
-
-    type Fields = (Leaf<i32, 0xBBBBBB>,);
-
-    const TAG: u32 = 0xAAAAAA;
-
-    const DENIES_UNKNOWN: bool = true;
-
-    #[tactic(auto, unfolding(kmip_ttlv_types::specs::Digits::six_digits))]
-    fn has_form() {}
-
-    #[tactic(auto, unfolding(kmip_ttlv_types::specs::Digits::six_digits))]
-    fn from_fields(fields: (i32,)) -> Closed {
-        let (number,) = fields;
+    fn from_parts(number: Holds<ClosedParts, A>) -> Self {
         Closed { number }
     }
 }
 
-impl<A: Allocator + Copy> Decode<A> for Closed {
-    ghost form = { closed_form };
+impl<A: Allocator + Copy> Structure<A> for Closed {
+    ghost rules = { structure true ⟦<ClosedParts as PartList<A>>⟧.rules ⟦<Closed as FromParts<A, ClosedParts>>⟧.parts refl ⟦<Closed as PartialEq>⟧.eq (λ x y e. e) };
 
-    ghost is_value = { λ v x. v ≡ closed_value x };
+    fn read<'b>(scope: &Scope<'b, A>, tag: u32, cursor: &mut Cursor<'b, A>) -> Step<Self, A> {
+        read_structure::<ClosedParts, Self, A>(scope, tag, true, cursor)
+    }
 
-    fn decode(alloc: A, bytes: &[u8]) -> Result<Closed, Error<A>> {
-        read_message(alloc, bytes)
+    fn tell_parts<W: Walk<A>>(&self, state: &mut W::State) -> Result<(), AllocError> {
+        W::one::<Leaf<i32, 0xBBBBBB>>(state, &self.number)
     }
 }
 
-/// A structure with each kind of field.
-#[derive(Drop)]
-#[derive_where(Debug, PartialEq)]
-pub struct Whole<A: Allocator = Global> {
-    pub number: i32,
-    pub text: Option<String<A>>,
-    pub first: Option<Point>,
-    pub moments: Vec<Moment, A>,
-    pub last: Point,
+impl Serialize for Closed {
+    ghost stated = { ⟦<Of<Closed, 0xAAAAAA> as Element<Global>>⟧.rules.written };
+
+    fn visit<V: Visitor>(&self, visitor: &mut V) -> Result<(), AllocError> {
+        visit_structure::<Closed, V, Global>(self, 0xAAAAAA, visitor)
+    }
 }
 
-impl<A: Allocator + Copy> ReadStructure<A> for Whole<A> {
-    ghost form = { whole_form };
+impl<A: Allocator + Copy> Decode<A> for Closed {
+    ghost form = { ⟦<Of<Closed, 0xAAAAAA> as Element<A>>⟧.form };
 
-    ghost value = { whole_value };
+    ghost is_value = { λ v x. v ≡ ⟦<Of<Closed, 0xAAAAAA> as Element<A>>⟧.value x };
 
-    ghost TAG = { 11184810 };
+    fn decode(alloc: A, bytes: &[u8]) -> Result<Self, Error<A>> {
+        decode_structure::<ClosedParts, Self, A>(alloc, 0xAAAAAA, true, bytes)
+    }
+}
 
-    ghost DENIES_UNKNOWN = { false };
+impl Sound for Closed {
+    ghost IsSound = { ⟦<Of<Closed, 0xAAAAAA> as Element<Global>>⟧.rules.IsSound };
 
-    type Fields = Four<
-        Leaf<i32, 0xBBBBBB>,
-        OptionalLeaf<String<A>, 0xCCCCCC>,
-        OptionalNested<Point>,
-        Several<Moment>,
-        (Nested<Point>,),
-    >;
+    fn is_sound(&self) -> bool {
+        is_structure_whole::<Closed, Global>(self)
+    }
+}
 
-    const TAG: u32 = 0xAAAAAA;
+impl<A: Allocator + Copy> Message<A> for Closed {
+    fn comes_back() {
+        structures_come_back::<Closed, 0xAAAAAA, A>();
+    }
+}
 
-    const DENIES_UNKNOWN: bool = false;
+/// A structure with each count of parts but any number.
+#[derive(Drop)]
+#[derive_where(PartialEq)]
+pub struct Whole<A: Allocator = Global> {
+    /// A number.
+    pub number: i32,
+    /// A text.
+    pub text: Option<String<A>>,
+    /// DDDDDD A structure.
+    pub first: Option<Point>,
+    /// EEEEEE Structures, once or more.
+    pub moments: Vec<Moment, A>,
+    /// AAAAAA A structure.
+    pub last: Last,
+}
 
-    #[tactic(auto, unfolding(kmip_ttlv_types::specs::Digits::six_digits))]
-    fn has_form() {}
+type WholeFirst<A> = (
+    Leaf<i32, 0xBBBBBB>,
+    MaybeLeaf<String<A>, 0xCCCCCC>,
+    Maybe<Of<Point, 0xDDDDDD>, 0xDDDDDD>,
+    Several<Of<Moment, 0xEEEEEE>, 0xEEEEEE>,
+);
 
-    #[tactic(auto, unfolding(kmip_ttlv_types::specs::Digits::six_digits))]
-    fn from_fields(
-        fields: (
-            i32,
-            Option<String<A>>,
-            Option<Point>,
-            Vec<Moment, A>,
-            (Point,),
-        ),
-    ) -> Whole<A> {
-        let (number, text, first, moments, (last,)) = fields;
+type WholeSecond = Alone<One<Of<Last, 0xAAAAAA>>>;
+
+type WholeParts<A> = Four<WholeFirst<A>, WholeSecond>;
+
+impl<A: Allocator + Copy> FromParts<A, WholeParts<A>> for Whole<A> {
+    ghost parts = { λ x. (x.number, x.text, x.first, x.moments, x.last) };
+
+    fn from_parts((number, text, first, moments, last): Holds<WholeParts<A>, A>) -> Self {
         Whole {
             number,
             text,
@@ -210,135 +212,174 @@ impl<A: Allocator + Copy> ReadStructure<A> for Whole<A> {
     }
 }
 
-/// A message that is such a structure: what its form reads.
-pub fn read_whole<A: Allocator + Copy>(alloc: A, bytes: &[u8]) -> Result<Whole<A>, Error<A>>
-    ensures { IsReadAs (λ v x. v ≡ whole_value x) (root_outcome whole_form bytes.now) result }
-{
-    read_message(alloc, bytes)
+impl<A: Allocator + Copy> Structure<A> for Whole<A> {
+    ghost rules = { structure false ⟦<WholeParts<A> as PartList<A>>⟧.rules ⟦<Whole<A> as FromParts<A, WholeParts<A>>>⟧.parts refl ⟦<Whole<A> as PartialEq>⟧.eq (λ x y e. e) };
+
+    fn read<'b>(scope: &Scope<'b, A>, tag: u32, cursor: &mut Cursor<'b, A>) -> Step<Self, A> {
+        read_structure::<WholeParts<A>, Self, A>(scope, tag, false, cursor)
+    }
+
+    fn tell_parts<W: Walk<A>>(&self, state: &mut W::State) -> Result<(), AllocError> {
+        W::four::<
+            Leaf<i32, 0xBBBBBB>,
+            MaybeLeaf<String<A>, 0xCCCCCC>,
+            Maybe<Of<Point, 0xDDDDDD>, 0xDDDDDD>,
+            Several<Of<Moment, 0xEEEEEE>, 0xEEEEEE>,
+        >(state, &self.number, &self.text, &self.first, &self.moments)?;
+        W::one::<One<Of<Last, 0xAAAAAA>>>(state, &self.last)?;
+        Ok(())
+    }
+}
+
+impl<A: Allocator + Copy> Serialize for Whole<A> {
+    ghost stated = { ⟦<Of<Whole<A>, 0xAAAAAA> as Element<A>>⟧.rules.written };
+
+    fn visit<V: Visitor>(&self, visitor: &mut V) -> Result<(), AllocError> {
+        visit_structure(self, 0xAAAAAA, visitor)
+    }
+}
+
+impl<A: Allocator + Copy> Decode<A> for Whole<A> {
+    ghost form = { ⟦<Of<Whole<A>, 0xAAAAAA> as Element<A>>⟧.form };
+
+    ghost is_value = { λ v x. v ≡ ⟦<Of<Whole<A>, 0xAAAAAA> as Element<A>>⟧.value x };
+
+    fn decode(alloc: A, bytes: &[u8]) -> Result<Self, Error<A>> {
+        decode_structure::<WholeParts<A>, Self, A>(alloc, 0xAAAAAA, false, bytes)
+    }
+}
+
+impl<A: Allocator + Copy> Sound for Whole<A> {
+    ghost IsSound = { ⟦<Of<Whole<A>, 0xAAAAAA> as Element<A>>⟧.rules.IsSound };
+
+    fn is_sound(&self) -> bool {
+        is_structure_whole(self)
+    }
+}
+
+impl<A: Allocator + Copy> Message<A> for Whole<A> {
+    fn comes_back() {
+        structures_come_back::<Whole<A>, 0xAAAAAA, A>();
+    }
 }
 
 /// A structure with leaves of the other kinds.
 #[derive(Drop)]
-#[derive_where(Debug, PartialEq)]
+#[derive_where(PartialEq)]
 pub struct Sorts<A: Allocator = Global> {
+    /// Truth.
     pub truth: bool,
-    pub seconds: u32,
+    /// A time, in seconds.
+    pub span: Interval,
+    /// Any number.
     pub reason: Option<u32>,
+    /// Bytes.
     pub bytes: Vec<u8, A>,
-    pub big: Option<Vec<u8, A>>,
+    /// A large number.
+    pub big: Option<BigNumber<A>>,
 }
 
-impl<A: Allocator + Copy> ReadStructure<A> for Sorts<A> {
-    ghost form = { sorts_form };
+type SortsFirst<A> = (
+    Leaf<bool, 0xBBBBBB>,
+    Leaf<Interval, 0xCCCCCC>,
+    MaybeLeaf<u32, 0xDDDDDD>,
+    Leaf<Vec<u8, A>, 0xEEEEEE>,
+);
 
-    ghost value = { sorts_value };
+type SortsSecond<A> = Alone<MaybeLeaf<BigNumber<A>, 0xAAAAAA>>;
 
-    ghost TAG = { 11184810 };
+type SortsParts<A> = Four<SortsFirst<A>, SortsSecond<A>>;
 
-    ghost DENIES_UNKNOWN = { false };
+impl<A: Allocator + Copy> FromParts<A, SortsParts<A>> for Sorts<A> {
+    ghost parts = { λ x. (x.truth, x.span, x.reason, x.bytes, x.big) };
 
-    type Fields = Four<
-        Leaf<bool, 0xBBBBBB>,
-        Leaf<Interval, 0xCCCCCC>,
-        OptionalLeaf<u32, 0xDDDDDD>,
-        Leaf<Vec<u8, A>, 0xEEEEEE>,
-        (OptionalLeaf<BigInteger<A>, 0xBBBBBB>,),
-    >;
-
-    const TAG: u32 = 0xAAAAAA;
-
-    const DENIES_UNKNOWN: bool = false;
-
-    #[tactic(auto, unfolding(kmip_ttlv_types::specs::Digits::six_digits))]
-    fn has_form() {}
-
-    #[tactic(auto, unfolding(kmip_ttlv_types::specs::Digits::six_digits))]
-    fn from_fields(
-        fields: (
-            bool,
-            Interval,
-            Option<u32>,
-            Vec<u8, A>,
-            (Option<BigInteger<A>>,),
-        ),
-    ) -> Sorts<A> {
-        let (truth, seconds, reason, bytes, (big,)) = fields;
+    fn from_parts((truth, span, reason, bytes, big): Holds<SortsParts<A>, A>) -> Self {
         Sorts {
             truth,
-            seconds: seconds.0,
+            span,
             reason,
             bytes,
-            big: match big {
-                Some(held) => Some(held.0),
-                None => None,
-            },
+            big,
         }
     }
 }
 
-/// A message that is such a structure: what its form reads.
-pub fn read_sorts<A: Allocator + Copy>(alloc: A, bytes: &[u8]) -> Result<Sorts<A>, Error<A>>
-    ensures { IsReadAs (λ v x. v ≡ sorts_value x) (root_outcome sorts_form bytes.now) result }
-{
-    read_message(alloc, bytes)
-}
+impl<A: Allocator + Copy> Structure<A> for Sorts<A> {
+    ghost rules = { structure false ⟦<SortsParts<A> as PartList<A>>⟧.rules ⟦<Sorts<A> as FromParts<A, SortsParts<A>>>⟧.parts refl ⟦<Sorts<A> as PartialEq>⟧.eq (λ x y e. e) };
 
-/// A number as an item of its own.
-#[derive(Clone, Copy, Debug, PartialEq, Eq)]
-pub struct Mark {
-    pub number: i32,
-}
+    fn read<'b>(scope: &Scope<'b, A>, tag: u32, cursor: &mut Cursor<'b, A>) -> Step<Self, A> {
+        read_structure::<SortsParts<A>, Self, A>(scope, tag, false, cursor)
+    }
 
-impl<A: Allocator + Copy> ReadItem<A> for Mark {
-    ghost form = { mark_form };
-
-    ghost value = { mark_value };
-
-    ghost plain = { (refl, refl) };
-
-    #[tactic(auto, unfolding(kmip_ttlv_types::specs::Digits::six_digits))]
-    fn read_item<'b>(scope: &Scope<'b, A>, cursor: &mut Cursor<'b, A>) -> Step<Mark, A> {
-        let number = cursor.wrapped_leaf(scope, 0xBBBBBB)?;
-        Ok(Mark { number })
+    fn tell_parts<W: Walk<A>>(&self, state: &mut W::State) -> Result<(), AllocError> {
+        W::four::<
+            Leaf<bool, 0xBBBBBB>,
+            Leaf<Interval, 0xCCCCCC>,
+            MaybeLeaf<u32, 0xDDDDDD>,
+            Leaf<Vec<u8, A>, 0xEEEEEE>,
+        >(state, &self.truth, &self.span, &self.reason, &self.bytes)?;
+        W::one::<MaybeLeaf<BigNumber<A>, 0xAAAAAA>>(state, &self.big)?;
+        Ok(())
     }
 }
 
-/// A structure with items and sequences.
+impl<A: Allocator + Copy> Serialize for Sorts<A> {
+    ghost stated = { ⟦<Of<Sorts<A>, 0xAAAAAA> as Element<A>>⟧.rules.written };
+
+    fn visit<V: Visitor>(&self, visitor: &mut V) -> Result<(), AllocError> {
+        visit_structure(self, 0xAAAAAA, visitor)
+    }
+}
+
+impl<A: Allocator + Copy> Decode<A> for Sorts<A> {
+    ghost form = { ⟦<Of<Sorts<A>, 0xAAAAAA> as Element<A>>⟧.form };
+
+    ghost is_value = { λ v x. v ≡ ⟦<Of<Sorts<A>, 0xAAAAAA> as Element<A>>⟧.value x };
+
+    fn decode(alloc: A, bytes: &[u8]) -> Result<Self, Error<A>> {
+        decode_structure::<SortsParts<A>, Self, A>(alloc, 0xAAAAAA, false, bytes)
+    }
+}
+
+impl<A: Allocator + Copy> Sound for Sorts<A> {
+    ghost IsSound = { ⟦<Of<Sorts<A>, 0xAAAAAA> as Element<A>>⟧.rules.IsSound };
+
+    fn is_sound(&self) -> bool {
+        is_structure_whole(self)
+    }
+}
+
+impl<A: Allocator + Copy> Message<A> for Sorts<A> {
+    fn comes_back() {
+        structures_come_back::<Sorts<A>, 0xAAAAAA, A>();
+    }
+}
+
+/// A structure with leaves and sequences of them.
 #[derive(Drop)]
-#[derive_where(Debug, PartialEq)]
+#[derive_where(PartialEq)]
 pub struct Lists<A: Allocator = Global> {
-    pub mark: Mark,
-    pub other: Option<Mark>,
-    pub marks: Vec<Mark, A>,
+    /// A number.
+    pub mark: i32,
+    /// A number.
+    pub other: Option<i32>,
+    /// Numbers, once or more.
+    pub marks: Vec<i32, A>,
+    /// Texts, once or more.
     pub texts: Vec<String<A>, A>,
 }
 
-impl<A: Allocator + Copy> ReadStructure<A> for Lists<A> {
-    ghost form = { lists_form };
+type ListsParts<A> = (
+    Leaf<i32, 0xBBBBBB>,
+    MaybeLeaf<i32, 0xCCCCCC>,
+    Several<LeafItem<i32, 0xDDDDDD>, 0xDDDDDD>,
+    Several<LeafItem<String<A>, 0xEEEEEE>, 0xEEEEEE>,
+);
 
-    ghost value = { lists_value };
+impl<A: Allocator + Copy> FromParts<A, ListsParts<A>> for Lists<A> {
+    ghost parts = { λ x. (x.mark, x.other, x.marks, x.texts) };
 
-    ghost TAG = { 11184810 };
-
-    ghost DENIES_UNKNOWN = { false };
-
-    type Fields = (
-        Item<Mark, 0xBBBBBB>,
-        OptionalItem<Mark, 0xCCCCCC>,
-        SeveralItems<Mark, 0xBBBBBB>,
-        SeveralLeaves<String<A>, 0xCCCCCC>,
-    );
-
-    const TAG: u32 = 0xAAAAAA;
-
-    const DENIES_UNKNOWN: bool = false;
-
-    #[tactic(auto, unfolding(kmip_ttlv_types::specs::Digits::six_digits))]
-    fn has_form() {}
-
-    #[tactic(auto, unfolding(kmip_ttlv_types::specs::Digits::six_digits))]
-    fn from_fields(fields: (Mark, Option<Mark>, Vec<Mark, A>, Vec<String<A>, A>)) -> Lists<A> {
-        let (mark, other, marks, texts) = fields;
+    fn from_parts((mark, other, marks, texts): Holds<ListsParts<A>, A>) -> Self {
         Lists {
             mark,
             other,
@@ -348,47 +389,77 @@ impl<A: Allocator + Copy> ReadStructure<A> for Lists<A> {
     }
 }
 
-/// A message that is such a structure: what its form reads.
-pub fn read_lists<A: Allocator + Copy>(alloc: A, bytes: &[u8]) -> Result<Lists<A>, Error<A>>
-    ensures { IsReadAs (λ v x. v ≡ lists_value x) (root_outcome lists_form bytes.now) result }
-{
-    read_message(alloc, bytes)
+impl<A: Allocator + Copy> Structure<A> for Lists<A> {
+    ghost rules = { structure false ⟦<ListsParts<A> as PartList<A>>⟧.rules ⟦<Lists<A> as FromParts<A, ListsParts<A>>>⟧.parts refl ⟦<Lists<A> as PartialEq>⟧.eq (λ x y e. e) };
+
+    fn read<'b>(scope: &Scope<'b, A>, tag: u32, cursor: &mut Cursor<'b, A>) -> Step<Self, A> {
+        read_structure::<ListsParts<A>, Self, A>(scope, tag, false, cursor)
+    }
+
+    fn tell_parts<W: Walk<A>>(&self, state: &mut W::State) -> Result<(), AllocError> {
+        W::four::<
+            Leaf<i32, 0xBBBBBB>,
+            MaybeLeaf<i32, 0xCCCCCC>,
+            Several<LeafItem<i32, 0xDDDDDD>, 0xDDDDDD>,
+            Several<LeafItem<String<A>, 0xEEEEEE>, 0xEEEEEE>,
+        >(state, &self.mark, &self.other, &self.marks, &self.texts)
+    }
+}
+
+impl<A: Allocator + Copy> Serialize for Lists<A> {
+    ghost stated = { ⟦<Of<Lists<A>, 0xAAAAAA> as Element<A>>⟧.rules.written };
+
+    fn visit<V: Visitor>(&self, visitor: &mut V) -> Result<(), AllocError> {
+        visit_structure(self, 0xAAAAAA, visitor)
+    }
+}
+
+impl<A: Allocator + Copy> Decode<A> for Lists<A> {
+    ghost form = { ⟦<Of<Lists<A>, 0xAAAAAA> as Element<A>>⟧.form };
+
+    ghost is_value = { λ v x. v ≡ ⟦<Of<Lists<A>, 0xAAAAAA> as Element<A>>⟧.value x };
+
+    fn decode(alloc: A, bytes: &[u8]) -> Result<Self, Error<A>> {
+        decode_structure::<ListsParts<A>, Self, A>(alloc, 0xAAAAAA, false, bytes)
+    }
+}
+
+impl<A: Allocator + Copy> Sound for Lists<A> {
+    ghost IsSound = { ⟦<Of<Lists<A>, 0xAAAAAA> as Element<A>>⟧.rules.IsSound };
+
+    fn is_sound(&self) -> bool {
+        is_structure_whole(self)
+    }
+}
+
+impl<A: Allocator + Copy> Message<A> for Lists<A> {
+    fn comes_back() {
+        structures_come_back::<Lists<A>, 0xAAAAAA, A>();
+    }
 }
 
 /// A structure with sequences that may be empty.
 #[derive(Drop)]
-#[derive_where(Debug, PartialEq)]
+#[derive_where(PartialEq)]
 pub struct Maybes<A: Allocator = Global> {
-    pub marks: Vec<Mark, A>,
+    /// Numbers.
+    pub marks: Vec<i32, A>,
+    /// Texts.
     pub texts: Vec<String<A>, A>,
+    /// DDDDDD Structures.
     pub points: Vec<Point, A>,
 }
 
-impl<A: Allocator + Copy> ReadStructure<A> for Maybes<A> {
-    ghost form = { maybes_form };
+type MaybesParts<A> = (
+    Any<LeafItem<i32, 0xBBBBBB>, 0xBBBBBB>,
+    Any<LeafItem<String<A>, 0xCCCCCC>, 0xCCCCCC>,
+    Any<Of<Point, 0xDDDDDD>, 0xDDDDDD>,
+);
 
-    ghost value = { maybes_value };
+impl<A: Allocator + Copy> FromParts<A, MaybesParts<A>> for Maybes<A> {
+    ghost parts = { λ x. (x.marks, x.texts, x.points) };
 
-    ghost TAG = { 11184810 };
-
-    ghost DENIES_UNKNOWN = { false };
-
-    type Fields = (
-        OptionalSeveralItems<Mark, 0xBBBBBB>,
-        OptionalSeveralLeaves<String<A>, 0xCCCCCC>,
-        OptionalSeveral<Point>,
-    );
-
-    const TAG: u32 = 0xAAAAAA;
-
-    const DENIES_UNKNOWN: bool = false;
-
-    #[tactic(auto, unfolding(kmip_ttlv_types::specs::Digits::six_digits))]
-    fn has_form() {}
-
-    #[tactic(auto, unfolding(kmip_ttlv_types::specs::Digits::six_digits))]
-    fn from_fields(fields: (Vec<Mark, A>, Vec<String<A>, A>, Vec<Point, A>)) -> Maybes<A> {
-        let (marks, texts, points) = fields;
+    fn from_parts((marks, texts, points): Holds<MaybesParts<A>, A>) -> Self {
         Maybes {
             marks,
             texts,
@@ -397,17 +468,60 @@ impl<A: Allocator + Copy> ReadStructure<A> for Maybes<A> {
     }
 }
 
-/// A message that is such a structure: what its form reads.
-pub fn read_maybes<A: Allocator + Copy>(alloc: A, bytes: &[u8]) -> Result<Maybes<A>, Error<A>>
-    ensures { IsReadAs (λ v x. v ≡ maybes_value x) (root_outcome maybes_form bytes.now) result }
-{
-    read_message(alloc, bytes)
+impl<A: Allocator + Copy> Structure<A> for Maybes<A> {
+    ghost rules = { structure false ⟦<MaybesParts<A> as PartList<A>>⟧.rules ⟦<Maybes<A> as FromParts<A, MaybesParts<A>>>⟧.parts refl ⟦<Maybes<A> as PartialEq>⟧.eq (λ x y e. e) };
+
+    fn read<'b>(scope: &Scope<'b, A>, tag: u32, cursor: &mut Cursor<'b, A>) -> Step<Self, A> {
+        read_structure::<MaybesParts<A>, Self, A>(scope, tag, false, cursor)
+    }
+
+    fn tell_parts<W: Walk<A>>(&self, state: &mut W::State) -> Result<(), AllocError> {
+        W::three::<
+            Any<LeafItem<i32, 0xBBBBBB>, 0xBBBBBB>,
+            Any<LeafItem<String<A>, 0xCCCCCC>, 0xCCCCCC>,
+            Any<Of<Point, 0xDDDDDD>, 0xDDDDDD>,
+        >(state, &self.marks, &self.texts, &self.points)
+    }
+}
+
+impl<A: Allocator + Copy> Serialize for Maybes<A> {
+    ghost stated = { ⟦<Of<Maybes<A>, 0xAAAAAA> as Element<A>>⟧.rules.written };
+
+    fn visit<V: Visitor>(&self, visitor: &mut V) -> Result<(), AllocError> {
+        visit_structure(self, 0xAAAAAA, visitor)
+    }
+}
+
+impl<A: Allocator + Copy> Decode<A> for Maybes<A> {
+    ghost form = { ⟦<Of<Maybes<A>, 0xAAAAAA> as Element<A>>⟧.form };
+
+    ghost is_value = { λ v x. v ≡ ⟦<Of<Maybes<A>, 0xAAAAAA> as Element<A>>⟧.value x };
+
+    fn decode(alloc: A, bytes: &[u8]) -> Result<Self, Error<A>> {
+        decode_structure::<MaybesParts<A>, Self, A>(alloc, 0xAAAAAA, false, bytes)
+    }
+}
+
+impl<A: Allocator + Copy> Sound for Maybes<A> {
+    ghost IsSound = { ⟦<Of<Maybes<A>, 0xAAAAAA> as Element<A>>⟧.rules.IsSound };
+
+    fn is_sound(&self) -> bool {
+        is_structure_whole(self)
+    }
+}
+
+impl<A: Allocator + Copy> Message<A> for Maybes<A> {
+    fn comes_back() {
+        structures_come_back::<Maybes<A>, 0xAAAAAA, A>();
+    }
 }
 
 /// An Enumeration of two numbers.
 #[derive(Clone, Copy, Debug, PartialEq, Eq)]
 pub enum Order {
+    /// The first.
     One,
+    /// The second.
     Seven,
 }
 
@@ -415,174 +529,151 @@ pub enum Order {
 const ORDER: [(&str, Order); 2] = [("0x00000001", Order::One), ("0x00000007", Order::Seven)];
 
 impl Listed for Order {
-    ghost own = { codes "0xBBBBBB" };
+    ghost tag = { 0xBBBBBB };
 
     ghost variants = { order_variants };
 
-    ghost value = { order_value };
-}
+    ghost rules = { record {
+      number = order_number;
+      units = order_is_unit;
+      eq = ⟦<Order as PartialEq>⟧.eq;
+      same = λ x y e. true_same order_contract.the_type x y (order_same x y e);
+    } };
 
-impl<A: Allocator + Copy> ReadItem<A> for Order {
-    ghost form = { order_form };
-
-    ghost value = { order_value };
-
-    ghost plain = { (refl, refl) };
-
-    fn read_item<'b>(scope: &Scope<'b, A>, cursor: &mut Cursor<'b, A>) -> Step<Order, A> {
-        cursor.listed(scope, &ORDER)
+    fn table() -> &'static [(&'static str, Self)] {
+        &ORDER
     }
-}
 
-/// The order is one.
-pub struct IfOne;
-
-impl Rule for IfOne {
-    ghost condition = { codes "0xBBBBBB==0x00000001" };
-
-    fn name() -> &'static str {
-        "if 0xBBBBBB==0x00000001"
+    fn tag() -> u32 {
+        0xBBBBBB
     }
-}
 
-/// The type is TextString.
-pub struct IfText;
-
-impl Rule for IfText {
-    ghost condition = { codes "type==TextString" };
-
-    fn name() -> &'static str {
-        "if type==TextString"
-    }
-}
-
-/// The number of a text is at least two.
-pub struct IfAtLeastTwo;
-
-impl Rule for IfAtLeastTwo {
-    ghost condition = { codes "0xCCCCCC>=0x2" };
-
-    fn name() -> &'static str {
-        "if 0xCCCCCC>=0x2"
-    }
-}
-
-/// The type is Integer.
-pub struct IfInteger;
-
-impl Rule for IfInteger {
-    ghost condition = { codes "type==Integer" };
-
-    fn name() -> &'static str {
-        "if type==Integer"
-    }
-}
-
-/// What an order, a text or its own type chooses.
-#[derive(Drop)]
-#[derive_where(Debug, PartialEq)]
-pub enum Detail<A: Allocator = Global> {
-    Point(Point),
-    Text(String<A>),
-    Mark(Mark),
-    Number(u32),
-}
-
-impl<A: Allocator + Copy> VariantOf<StructureElement<Point>, Detail<A>, A> for IfOne {
-    fn from_content(content: Point) -> Detail<A> {
-        Detail::Point(content)
-    }
-}
-
-impl<A: Allocator + Copy> VariantOf<LeafElement<String<A>, 0xCCCCCC>, Detail<A>, A> for IfText {
     #[tactic(auto, unfolding(kmip_ttlv_types::specs::Digits::six_digits))]
-    fn from_content(content: String<A>) -> Detail<A> {
-        Detail::Text(content)
+    fn name() -> &'static str {
+        "0xBBBBBB"
+    }
+
+    fn number_text(self) -> &'static str {
+        match self {
+            Order::One => "0x00000001",
+            Order::Seven => "0x00000007",
+        }
     }
 }
 
-impl<A: Allocator + Copy> VariantOf<ItemElement<Mark>, Detail<A>, A> for IfInteger {
-    fn from_content(content: Mark) -> Detail<A> {
-        Detail::Mark(content)
+/// What an order chooses, or else its own type.
+#[derive(Drop)]
+#[derive_where(PartialEq)]
+pub enum Detail<A: Allocator = Global> {
+    /// A structure.
+    Point(Point),
+    /// A text.
+    Text(String<A>),
+    /// A number.
+    Mark(i32),
+}
+
+// The texts that choose a variant, whatever the type of its item is.
+const DETAIL_NAMES: [&str; 1] = ["0x00000001"];
+
+// Whether a text is none of these.
+fn is_no_detail(text: &str) -> bool
+    ensures { IsTrue result ↔ IsNoneOf text.now detail_names }
+{
+    is_none_of(text, &DETAIL_NAMES)
+}
+
+impl<A: Allocator> Detail<A> {
+    /// Whether this text, if it is that of 0xBBBBBB, chooses it.
+    pub fn is_chosen_by(&self, text: &str) -> bool
+        ensures { IsTrue result ↔ ChoosesDetail text.now self.now }
+    {
+        match self {
+            Detail::Point(_) => text == "0x00000001",
+            Detail::Text(_) => is_no_detail(text),
+            Detail::Mark(_) => is_no_detail(text),
+        }
     }
 }
 
-impl<A: Allocator + Copy> VariantOf<BareLeaf<u32>, Detail<A>, A> for IfAtLeastTwo {
-    fn from_content(content: u32) -> Detail<A> {
-        Detail::Number(content)
-    }
-}
-
-impl<A: Allocator> ChoiceValue for Detail<A> {
-    ghost own = { codes "detail" };
-
-    ghost value = { detail_value };
-}
+// The rules of the variants, in their order.
+const DETAIL_RULES: [RuleParts; 3] = [
+    RuleParts::Texts {
+        tag: 0xBBBBBB,
+        texts: &["0x00000001"],
+    },
+    RuleParts::Type(TtlvType::TextString),
+    RuleParts::Type(TtlvType::Integer),
+];
 
 impl<A: Allocator + Copy> Choice<A> for Detail<A> {
-    ghost form = { detail_form };
+    ghost chosen = { detail_choice ⟦<Detail<A> as PartialEq>⟧.eq record {
+      point = held ⟦<Of<Point, 0xDDDDDD> as Element<A>>⟧.rules refl refl (λ x y e. e);
+      text = held ⟦<LeafItem<String<A>, 0xDDDDDD> as Element<A>>⟧.rules refl refl (λ x y e. e);
+      mark = held ⟦<LeafItem<i32, 0xDDDDDD> as Element<A>>⟧.rules refl refl (λ x y e. e);
+    } };
 
-    type Variants = (
-        Variant<IfOne, StructureElement<Point>>,
-        (
-            Variant<IfText, LeafElement<String<A>, 0xCCCCCC>>,
-            (
-                Variant<IfInteger, ItemElement<Mark>>,
-                (Variant<IfAtLeastTwo, BareLeaf<u32>>, ()),
-            ),
-        ),
-    );
+    #[tactic(auto, unfolding(kmip_ttlv_reader::specs::RuleParts::parts_of, kmip_ttlv_reader::specs::RuleParts::equal_sides))]
+    fn variant_rules() -> &'static [RuleParts] {
+        &DETAIL_RULES
+    }
 
-    #[tactic(auto, unfolding(kmip_ttlv_types::specs::Digits::six_digits))]
-    fn has_form() {}
-}
+    fn read_held<'b>(
+        scope: &Scope<'b, A>,
+        cursor: &mut Cursor<'b, A>,
+        place: usize,
+    ) -> Step<Self, A> {
+        match place {
+            0 => Ok(Detail::Point(<Of<Point, 0xDDDDDD> as Element<A>>::read_one(scope, cursor)?)),
+            1 => Ok(Detail::Text(<LeafItem<String<A>, 0xDDDDDD> as Element<A>>::read_one(
+                scope, cursor,
+            )?)),
+            2 => Ok(Detail::Mark(<LeafItem<i32, 0xDDDDDD> as Element<A>>::read_one(
+                scope, cursor,
+            )?)),
+            _ => unreachable!(),
+        }
+    }
 
-impl<A: Allocator + Copy> ReadItem<A> for Detail<A> {
-    ghost form = { detail_form };
-
-    ghost value = { detail_value };
-
-    ghost plain = { (refl, refl) };
-
-    fn read_item<'b>(scope: &Scope<'b, A>, cursor: &mut Cursor<'b, A>) -> Step<Detail<A>, A> {
-        read_choice(scope, cursor)
+    fn tell_held<W: Walk<A>>(&self, state: &mut W::State) -> Result<(), AllocError> {
+        match self {
+            Detail::Point(inner) => W::item::<Of<Point, 0xDDDDDD>>(state, inner),
+            Detail::Text(inner) => W::item::<LeafItem<String<A>, 0xDDDDDD>>(state, inner),
+            Detail::Mark(inner) => W::item::<LeafItem<i32, 0xDDDDDD>>(state, inner),
+        }
     }
 }
 
 /// A structure with an Enumeration and a choice.
 #[derive(Drop)]
-#[derive_where(Debug, PartialEq)]
+#[derive_where(PartialEq)]
 pub struct Task<A: Allocator = Global> {
+    /// What is to be done.
     pub order: Order,
+    /// A text.
     pub text: Option<String<A>>,
+    /// More of it.
     pub detail: Detail<A>,
 }
 
-impl<A: Allocator + Copy> ReadStructure<A> for Task<A> {
-    ghost form = { task_form };
+impl<A: Allocator> Decided for Task<A> {
+    ghost IsDecided = { λ x. (ChoosesDetail (order_number x.order) x.detail) };
 
-    ghost value = { task_value };
+    fn is_decided(&self) -> bool {
+        self.detail.is_chosen_by(self.order.number_text())
+    }
+}
 
-    ghost TAG = { 11184810 };
+type TaskParts<A> = (
+    One<ListedItem<Order>>,
+    MaybeLeaf<String<A>, 0xCCCCCC>,
+    OneOf<Detail<A>, 0xDDDDDD>,
+);
 
-    ghost DENIES_UNKNOWN = { false };
+impl<A: Allocator + Copy> FromParts<A, TaskParts<A>> for Task<A> {
+    ghost parts = { λ x. (x.order, x.text, x.detail) };
 
-    type Fields = (
-        Item<Order, 0xBBBBBB>,
-        OptionalLeaf<String<A>, 0xCCCCCC>,
-        Item<Detail<A>, 0xDDDDDD>,
-    );
-
-    const TAG: u32 = 0xAAAAAA;
-
-    const DENIES_UNKNOWN: bool = false;
-
-    #[tactic(auto, unfolding(kmip_ttlv_types::specs::Digits::six_digits))]
-    fn has_form() {}
-
-    #[tactic(auto, unfolding(kmip_ttlv_types::specs::Digits::six_digits))]
-    fn from_fields(fields: (Order, Option<String<A>>, Detail<A>)) -> Task<A> {
-        let (order, text, detail) = fields;
+    fn from_parts((order, text, detail): Holds<TaskParts<A>, A>) -> Self {
         Task {
             order,
             text,
@@ -591,9 +682,53 @@ impl<A: Allocator + Copy> ReadStructure<A> for Task<A> {
     }
 }
 
-/// A message that is such a structure: what its form reads.
-pub fn read_task<A: Allocator + Copy>(alloc: A, bytes: &[u8]) -> Result<Task<A>, Error<A>>
-    ensures { IsReadAs (λ v x. v ≡ task_value x) (root_outcome task_form bytes.now) result }
-{
-    read_message(alloc, bytes)
+impl<A: Allocator + Copy> Structure<A> for Task<A> {
+    ghost rules = { structure_where false ⟦<TaskParts<A> as PartList<A>>⟧.rules ⟦<Task<A> as FromParts<A, TaskParts<A>>>⟧.parts refl
+        (λ x. (ChoosesDetail (order_number x.order) x.detail)) (λ x d. (tt, (tt, (d)))) ⟦<Task<A> as PartialEq>⟧.eq (λ x y e. e) };
+
+    fn read<'b>(scope: &Scope<'b, A>, tag: u32, cursor: &mut Cursor<'b, A>) -> Step<Self, A> {
+        read_structure::<TaskParts<A>, Self, A>(scope, tag, false, cursor)
+    }
+
+    fn tell_parts<W: Walk<A>>(&self, state: &mut W::State) -> Result<(), AllocError> {
+        W::three::<
+            One<ListedItem<Order>>,
+            MaybeLeaf<String<A>, 0xCCCCCC>,
+            OneOf<Detail<A>, 0xDDDDDD>,
+        >(state, &self.order, &self.text, &self.detail)?;
+        W::check(state, self);
+        Ok(())
+    }
+}
+
+impl<A: Allocator + Copy> Serialize for Task<A> {
+    ghost stated = { ⟦<Of<Task<A>, 0xAAAAAA> as Element<A>>⟧.rules.written };
+
+    fn visit<V: Visitor>(&self, visitor: &mut V) -> Result<(), AllocError> {
+        visit_structure(self, 0xAAAAAA, visitor)
+    }
+}
+
+impl<A: Allocator + Copy> Decode<A> for Task<A> {
+    ghost form = { ⟦<Of<Task<A>, 0xAAAAAA> as Element<A>>⟧.form };
+
+    ghost is_value = { λ v x. v ≡ ⟦<Of<Task<A>, 0xAAAAAA> as Element<A>>⟧.value x };
+
+    fn decode(alloc: A, bytes: &[u8]) -> Result<Self, Error<A>> {
+        decode_structure::<TaskParts<A>, Self, A>(alloc, 0xAAAAAA, false, bytes)
+    }
+}
+
+impl<A: Allocator + Copy> Sound for Task<A> {
+    ghost IsSound = { ⟦<Of<Task<A>, 0xAAAAAA> as Element<A>>⟧.rules.IsSound };
+
+    fn is_sound(&self) -> bool {
+        is_structure_whole(self)
+    }
+}
+
+impl<A: Allocator + Copy> Message<A> for Task<A> {
+    fn comes_back() {
+        structures_come_back::<Task<A>, 0xAAAAAA, A>();
+    }
 }

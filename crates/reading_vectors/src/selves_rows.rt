@@ -2,10 +2,9 @@
 //! as the shape of the same form reads them.
 
 use crate::reading::Reading;
-use crate::selves::{Closed, Moment, Point, Whole, read_whole};
+use crate::selves::{Closed, Last, Moment, Point, Whole};
 use hex::FromHexError;
 use kmip_ttlv::error::{Error, ErrorKind};
-use kmip_ttlv::reader::{ReadStructure, read_message};
 use kmip_ttlv::shape::Decode;
 use kmip_ttlv::{Config, from_reader, from_slice};
 use kmip_ttlv_memory::BoundedAllocator;
@@ -21,6 +20,8 @@ pub type PointShape = Structure<TagD, OneField<TagB, Number>>;
 
 type MomentShape = Structure<TagE, OneField<TagB, LongNumber>>;
 
+type LastShape = Structure<TagA, OneField<TagB, Number>>;
+
 type ClosedShape = ClosedStructure<TagA, OneField<TagB, Number>>;
 
 type WholeShape = Structure<
@@ -34,7 +35,7 @@ type WholeShape = Structure<
             Field<
                 TagD,
                 Maybe<PointShape>,
-                Field<TagE, Sequence<MomentShape>, OneField<TagD, PointShape>>,
+                Field<TagE, Sequence<MomentShape>, OneField<TagA, LastShape>>,
             >,
         >,
     >,
@@ -47,6 +48,8 @@ pub const TEXT: &str = "CCCCCC07000000016100000000000000";
 pub const POINT: &str = "DDDDDD0100000010BBBBBB02000000040000000300000000";
 
 const MOMENT: &str = "EEEEEE0100000010BBBBBB0300000008FFFFFFFFFFFFFFFE";
+
+const LAST: &str = "AAAAAA0100000010BBBBBB02000000040000000300000000";
 
 const DATE: &str = "EEEEEE0100000010BBBBBB09000000080000000000000009";
 
@@ -76,18 +79,15 @@ fn is_said<T>(alloc: Global, found: &Result<T, Error>, wanted: &str) -> bool {
 }
 
 // Whether the bytes are read, or are this error.
-fn is_row<T: ReadStructure<Global>>(alloc: Global, text: &str, wanted: &str) -> bool {
+fn is_row<T: Decode<Global>>(alloc: Global, text: &str, wanted: &str) -> bool {
     match &hex::decode(alloc, text) {
-        Ok(bytes) => is_said(alloc, &read_message::<T, _>(alloc, bytes), wanted),
+        Ok(bytes) => is_said(alloc, &from_slice::<T, _>(alloc, bytes), wanted),
         Err(_) => false,
     }
 }
 
 /// Fails unless each message is read, or the error that stands beside it.
-pub fn check_rows<T: ReadStructure<Global>>(
-    alloc: Global,
-    rows: &[(&str, &str)],
-) -> Result<(), Fail> {
+pub fn check_rows<T: Decode<Global>>(alloc: Global, rows: &[(&str, &str)]) -> Result<(), Fail> {
     for row in rows {
         let (message, wanted) = *row;
         if !is_row::<T>(alloc, message, wanted) {
@@ -98,23 +98,23 @@ pub fn check_rows<T: ReadStructure<Global>>(
 }
 
 /// Whether the bytes of these texts are read as this value, where memory was there for it.
-pub fn is_read_as<T: ReadStructure<Global> + PartialEq>(
+pub fn is_read_as<T: Decode<Global> + PartialEq>(
     alloc: Global,
     wanted: &Result<T, AllocError>,
     texts: &[&str],
 ) -> bool {
     match (wanted, &joined(alloc, texts)) {
         (Ok(wanted), Ok(bytes)) => {
-            matches!(&read_message::<T, _>(alloc, bytes), Ok(found) if *found == *wanted)
+            matches!(&from_slice::<T, _>(alloc, bytes), Ok(found) if *found == *wanted)
         }
         _ => false,
     }
 }
 
 // A message with each part, and one without those that may be absent.
-const WHOLE: [&str; 7] = ["AAAAAA0100000080", NUMBER, TEXT, POINT, MOMENT, DATE, POINT];
+const WHOLE: [&str; 7] = ["AAAAAA0100000080", NUMBER, TEXT, POINT, MOMENT, DATE, LAST];
 
-const FEWEST: [&str; 4] = ["AAAAAA0100000040", NUMBER, MOMENT, POINT];
+const FEWEST: [&str; 4] = ["AAAAAA0100000040", NUMBER, MOMENT, LAST];
 
 // What they are read as.
 fn whole(alloc: Global) -> Result<Whole, AllocError> {
@@ -123,7 +123,7 @@ fn whole(alloc: Global) -> Result<Whole, AllocError> {
         text: Some(String::from_str(alloc, "a")?),
         first: Some(Point { number: 3 }),
         moments: Vec::from_slice(alloc, &[Moment { seconds: -2 }, Moment { seconds: 9 }])?,
-        last: Point { number: 3 },
+        last: Last { number: 3 },
     })
 }
 
@@ -133,7 +133,7 @@ fn fewest(alloc: Global) -> Result<Whole, AllocError> {
         text: None,
         first: None,
         moments: Vec::from_slice(alloc, &[Moment { seconds: -2 }])?,
-        last: Point { number: 3 },
+        last: Last { number: 3 },
     })
 }
 
@@ -218,16 +218,16 @@ fn errors_have_their_places(rt: HostRuntime) -> Result<(), Fail> {
 }
 
 // Whether both ways of reading have one error, or both a value.
-fn agree<T: ReadStructure<Global>, P: Part>(alloc: Global, bytes: &[u8]) -> bool {
+fn agree<T: Decode<Global>, P: Part>(alloc: Global, bytes: &[u8]) -> bool {
     let shaped: Result<Reading<P>, Error> = from_slice(alloc, bytes);
     match &error_of(alloc, &shaped) {
-        Ok(wanted) => is_said(alloc, &read_message::<T, _>(alloc, bytes), wanted.as_str()),
+        Ok(wanted) => is_said(alloc, &from_slice::<T, _>(alloc, bytes), wanted.as_str()),
         Err(_) => false,
     }
 }
 
 // Whether they do for each beginning of a message, and for it with each byte changed in several ways.
-fn agree_near<T: ReadStructure<Global>, P: Part>(alloc: Global, bytes: &mut [u8]) -> bool {
+fn agree_near<T: Decode<Global>, P: Part>(alloc: Global, bytes: &mut [u8]) -> bool {
     for end in 0..=bytes.len() {
         if !agree::<T, P>(alloc, &bytes[..end]) {
             return false;
@@ -247,7 +247,7 @@ fn agree_near<T: ReadStructure<Global>, P: Part>(alloc: Global, bytes: &mut [u8]
 }
 
 /// Whether they do for the bytes of these texts.
-pub fn agree_nearby<T: ReadStructure<Global>, P: Part>(alloc: Global, texts: &[&str]) -> bool {
+pub fn agree_nearby<T: Decode<Global>, P: Part>(alloc: Global, texts: &[&str]) -> bool {
     match &mut joined(alloc, texts) {
         Ok(bytes) => agree_near::<T, P>(alloc, bytes.as_mut_slice()),
         Err(_) => false,
@@ -268,7 +268,7 @@ fn it_reads_what_follows_as_the_shape_does(rt: HostRuntime) {
         assert!(rt; is_right, "{text}");
     }
     let followed =
-        "AAAAAA0100000058BBBBBB02000000040000000700000000EEEEEE0100000010BBBBBB09000000080000000000000009DDDDDD0100000010BBBBBB02000000040000000300000000FFFFFF08000000050102030405000000FFFFFF0100000000";
+        "AAAAAA0100000058BBBBBB02000000040000000700000000EEEEEE0100000010BBBBBB09000000080000000000000009AAAAAA0100000010BBBBBB02000000040000000300000000FFFFFF08000000050102030405000000FFFFFF0100000000";
     let is_right = agree_nearby::<Whole, WholeShape>(rt.alloc(), &[followed]);
     assert!(rt; is_right);
 }
@@ -284,7 +284,7 @@ fn ending<A: Allocator>(found: Result<Whole<A>, Error<A>>) -> (bool, bool) {
 // Whether a message is read if the growth after so many fails, whether memory runs out, and whether a growth failed.
 fn whole_after(alloc: Global, bytes: &[u8], before: u64) -> (bool, bool, bool) {
     let heap = BoundedAllocator::failing_after(alloc, before);
-    let (is_read, is_short) = ending(read_whole(&heap, bytes));
+    let (is_read, is_short) = ending(from_slice(&heap, bytes));
     (is_read, is_short, heap.has_failed())
 }
 
