@@ -31,6 +31,8 @@ mutual
   pub data Fields : Type 0 where
     no_fields : Fields
     field : (name : List ℕ) → Form → Fields → Fields
+    -- items of any tags and types, with all that is in them, up to the structure's end
+    any_items : Fields
 
   -- the variants of an enum, in their order
   pub data Variants : Type 0 where

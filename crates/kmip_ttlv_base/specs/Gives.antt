@@ -5,7 +5,7 @@ use Rattle.kmip_ttlv_base.specs.Values.{text_value, bytes_value, big_integer_val
 use Rattle.kmip_ttlv_base.specs.Values.{newtype_value, unit_variant_value, newtype_variant_value, tuple_variant_value}
 use Rattle.kmip_ttlv_base.specs.Values.{Values, no_values, value}
 use Rattle.kmip_ttlv_base.specs.Forms.{Form, struct, option, seq, newtype, enum, int32, int64, boolean, text, octets}
-use Rattle.kmip_ttlv_base.specs.Forms.{date_time, interval, big_integer, any_number, Fields, no_fields, field, Variants, no_variants, variant}
+use Rattle.kmip_ttlv_base.specs.Forms.{date_time, interval, big_integer, any_number, Fields, no_fields, field, any_items, Variants, no_variants, variant}
 use Rattle.kmip_ttlv_base.specs.Forms.{Content, unit, wrapped, tuple, Forms, no_forms, form}
 
 -- a number that an Integer is
@@ -104,6 +104,30 @@ abbrev pub IsEmpty : Values → Type 0
 IsEmpty no_values = Unit {0}
 IsEmpty (value v vs) = ⊥
 
+-- the value of a leaf
+abbrev pub IsLeaf : Value → Type 0
+IsLeaf (boolean_value b) = Unit {0}
+IsLeaf (i32_value z) = Unit {0}
+IsLeaf (u32_value n) = Unit {0}
+IsLeaf (i64_value z) = Unit {0}
+IsLeaf (date_time_value z) = Unit {0}
+IsLeaf (interval_value n) = Unit {0}
+IsLeaf (text_value s) = Unit {0}
+IsLeaf (bytes_value s) = Unit {0}
+IsLeaf (big_integer_value s) = Unit {0}
+IsLeaf _ = ⊥
+
+-- the value of an item of any type: a leaf under its tag, or a structure of such items
+abbrev mutual
+  pub IsAnItem : Value → Type 0
+  IsAnItem (newtype_value name v) = IsLeaf v
+  IsAnItem (struct_value name vs) = AreItems vs
+  IsAnItem _ = ⊥
+
+  pub AreItems : Values → Type 0
+  AreItems no_values = Unit {0}
+  AreItems (value v vs) = IsAnItem v × AreItems vs
+
 -- the form can give the value; an enum gives any of its variants
 abbrev mutual
   pub Gives : Form → Value → Type 0
@@ -125,6 +149,7 @@ abbrev mutual
   pub FieldsGive : Fields → Values → Type 0
   FieldsGive no_fields vs = IsEmpty vs
   FieldsGive (field name s fs) vs = FirstGives (Gives s) (FieldsGive fs) vs
+  FieldsGive any_items vs = AreItems vs
 
   pub VariantsGive : List ℕ → Variants → Value → Type 0
   VariantsGive name no_variants v = ⊥

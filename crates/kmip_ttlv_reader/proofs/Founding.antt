@@ -4,25 +4,29 @@ use Rattle.std.proofs.Common.{Some, None, refl, ap, sym, ◌∙◌, subst, arith
 use Rattle.std.proofs.lemmas.Bool.{ltb-false, ltb-true, eqb-true, eqb-false}
 use Rattle.std.proofs.lemmas.List.{length-take-le, length-drop, take-append-drop}
 use Rattle.kmip_ttlv_types.specs.{declared.typ.TtlvType.TtlvType, declared.typ.TtlvType.TheVariants.Enumeration, declared.typ.TtlvType.TheVariants.Structure}
-use Rattle.kmip_ttlv_types.specs.{ItemTypes.code, Items.Raw, Items.Splits, Names.tag_of}
+use Rattle.kmip_ttlv_types.specs.{ItemTypes.code, ItemTypes.is_structure, Items.Raw, Items.Splits, Names.tag_of}
 use Rattle.kmip_ttlv_types.specs.Places.{ItemAt, ItemsAt, code_at, length_at, size, tag_at}
 use Rattle.kmip_ttlv_types.proofs.PlaceLemmas.{code_one, items_in_order, plain_bytes, raw_with, splits_items_at, text_at_item}
-use Rattle.kmip_ttlv_base.specs.Forms.{Content, Fields, Form, Forms, Variants, enum, field, form, newtype, no_fields, no_forms, no_variants, option, seq}
+use Rattle.kmip_ttlv_base.specs.Forms.{Content, Fields, Form, Forms, Variants, any_items, enum, field, form, newtype, no_fields, no_forms, no_variants, option}
+use Rattle.kmip_ttlv_base.specs.Forms.{seq}
 use Rattle.kmip_ttlv_base.specs.Forms.{struct, tuple, unit, variant, wrapped}
-use Rattle.kmip_ttlv_base.specs.Values.{Value, Values, newtype_value, seq_value, some_value, struct_value, tuple_variant_value, value}
+use Rattle.kmip_ttlv_base.specs.Values.{Value, Values, newtype_value, no_values, seq_value, some_value, struct_value, tuple_variant_value, value}
 use Rattle.kmip_ttlv_reader.specs.{TagValues.TagValue, ReadLaws.AreBytes, Wholes.AreWhole, Wholes.BeginsWhole}
 use Rattle.kmip_ttlv_reader.specs.Outcomes.{all_outcome, by_index, content_outcome, enum_outcome, field_outcome, fields_outcome, first_outcome, first_type}
 use Rattle.kmip_ttlv_reader.specs.Outcomes.{forms_outcome, goes_on, ignored, leaf_outcome, named_first, number_outcome, outcome, part_outcome, picked}
 use Rattle.kmip_ttlv_reader.specs.Outcomes.{rest_outcome, root_outcome, run_outcome, seq_outcome, struct_outcome, tuple_outcome, unit_wanted, variant_outcome}
+use Rattle.kmip_ttlv_reader.specs.Outcomes.{ItemReader, any_leaf_outcome, any_outcome, each_outcome, node_outcome, opened}
 use Rattle.kmip_ttlv_reader.specs.Reads.{Begins, Reads, ReadsContent, ReadsField, ReadsFields, ReadsForms, ReadsRun, ReadsVariant, absent, by_number, by_rule}
 use Rattle.kmip_ttlv_reader.specs.Reads.{done, ends, first_named, has_fields, has_tag, here, inner, is_like, is_number_type, is_option, is_root, is_struct}
 use Rattle.kmip_ttlv_reader.specs.Reads.{leaf, may_follow, more, named, names, names_tag, next, no_part, number_text, part, parts, run, structure, takes, there}
-use Rattle.kmip_ttlv_reader.specs.Reads.{whole, wrap, wrap_some}
+use Rattle.kmip_ttlv_reader.specs.Reads.{whole, wrap, wrap_some, kept, AreAny, IsAny, any_leaf, any_structure, is_full, most_levels, no_item}
+use Rattle.kmip_ttlv_reader.specs.Reads.{one_item}
 use Rattle.kmip_ttlv_reader.specs.Rules.{Choice, Verdict, number_decides, choice, choice_invalid, chosen, fails as rule_fails, first_by, holds, no_rule, past}
 use Rattle.kmip_ttlv_reader.specs.Rules.{refused, rule}
-use Rattle.kmip_ttlv_reader.specs.Steps.{Outcome, Read, Reader, ends_early, gives}
+use Rattle.kmip_ttlv_reader.specs.Steps.{Outcome, Read, Reader, ends_early, gives, within}
 use Rattle.kmip_ttlv_reader.proofs.Onward.{ContentAt, Onward, StructureAt, content_at, content_is, early_has, failed, given, given_has, inside_is, item_end_is}
-use Rattle.kmip_ttlv_reader.proofs.Onward.{length_is, must_is, must_not_is, on_early, on_if, on_map, on_then, on_within, opened_is, sized_is, structure_is}
+use Rattle.kmip_ttlv_reader.proofs.Onward.{is_structure_is, length_is, must_is, must_not_is, on_early, on_if, on_map, on_then, on_within, opened_is, sized_is}
+use Rattle.kmip_ttlv_reader.proofs.Onward.{structure_is}
 use Rattle.kmip_ttlv_reader.proofs.Onward.{tag_is, type_is, wanted_is}
 use Rattle.kmip_ttlv_reader.proofs.Wholeness.{NotWhole, head_cut, item_after, item_cut, message_cut, structure_cut}
 
@@ -343,6 +347,71 @@ tuple_found name vname ss t read b one o k p e typ = on_then (structure_is b p t
     on_then (inside_is b p e t (p + 8 + n))
     (λ _ in_e. given (structure_found b p e (p + 8 + n) rs.next at (ltb-false _ _ used) h in_e (λ zs ys splits x. parts refl splits x)))))))
 
+-- ---- items of any tags and types
+
+-- an item that is read so is the first
+abbrev Leads : ℕ → Value → List Raw → List Raw → Type 0
+Leads d v xs ys = (h : Raw) × (xs ≡ h ∷ ys) × IsAny d h v
+
+-- what an item's reader gives is found, wherever it reads
+abbrev FindsAny : ℕ → ItemReader → List ℕ → Type 0
+FindsAny d read b = (p e : ℕ) → p ≤ e → p ≤ length b → Onward (NotWhole 1 b p e) (λ x. Found 1 (Leads d x.0) b p e x.1) (read b p e)
+
+-- where no other item follows
+abbrev Alone : ℕ → Values → List Raw → List Raw → Type 0
+Alone d vs xs ys = ys ≡ [] → AreAny d xs vs
+
+one_leads : (d : ℕ) (v : Value) (vs : Values) (xs ys zs : List Raw) → Leads d v xs ys → Alone d vs ys zs → Alone d (value v vs) xs zs
+one_leads d v vs xs ys zs (h, is, item) others none = subst (λ (l : List Raw). AreAny d l (value v vs)) (sym is) (one_item item (others none))
+
+-- each step goes further, so that there are steps enough
+each_found : (n d : ℕ) (read : ItemReader) (b : List ℕ) → FindsAny d read b → (p e : ℕ) → length b < p + n → p ≤ e → p ≤ length b
+    → Onward (NotWhole 0 b p e) (λ vs. Found 0 (Alone d vs) b p e e) (each_outcome n read b p e)
+unfolding each_outcome
+each_found zero d read b one p e fuel le in_bytes = absurd (omega arith)
+each_found (suc n) d read b one p e fuel le in_bytes = on_if (nat_lt p e) _ _
+    (λ lt. on_then (on_early (λ never w _. never w (omega (arith, ltb-true p e lt))) (one p e le in_bytes)) (λ x head.
+    on_then (on_early (behind_cut 0 head) (each_found n d read b one x.1 e (omega (arith, fuel, head.not_back)) head.not_past head.there))
+    (λ vs tail. given (found_map (omega arith) (found_then head tail (λ xs ys zs at. one_leads d x.0 vs xs ys zs)) (λ xs ys _ f. f)))))
+    (λ over. let at_end : p ≡ e = omega (arith, le, ltb-false p e over) in
+    given (subst (λ (q : ℕ). Found 0 (Alone d no_values) b p e q) at_end
+    (found_none b p e le in_bytes (λ ys _ none. subst (λ (l : List Raw). AreAny d l no_values) (sym none) no_item))))
+
+any_leaf_found : (d : ℕ) (t : TtlvType) (b : List ℕ) (p e : ℕ) → is_structure t ≡ false → code t ≡ code_at b p
+    → Onward (NotWhole 1 b p e) (λ x. Found 1 (Leads (suc d) x.0) b p e x.1) (any_leaf_outcome t b p e)
+unfolding any_leaf_outcome
+any_leaf_found d t b p e plain typ = on_then (content_is b p t (item_cut b p e t typ)) (λ c at.
+    on_then (must_is (is_full t c.0) _) (λ _ full.
+    on_then (inside_is b p e t c.1) (λ _ in_e. given (found_item b p e t c.0 c.1 typ at.0 in_e (λ bytes ys.
+    (raw_with (tag_at b p) t c.0, refl, any_leaf plain at.1 full))))))
+
+node_found : (d : ℕ) (read : ItemReader) (b : List ℕ) → FindsAny d read b → (p e : ℕ) → code Structure ≡ code_at b p
+    → Onward (NotWhole 1 b p e) (λ x. Found 1 (Leads (suc d) x.0) b p e x.1) (node_outcome read b p e)
+unfolding node_outcome
+node_found d read b one p e typ = on_then (length_is b p (head_cut b p e)) (λ n len.
+    let at : StructureAt b p (p + 8 + n) = record { typ = typ; content_there = len.1; stops = ap (λ (m : ℕ). p + 8 + m) len.0 } in
+    on_then (on_within (tag_at b p) (on_early (structure_cut b p e (p + 8 + n) at)
+    (each_found (suc (length b)) d read b one (p + 8) (p + 8 + n) (omega arith) (omega arith) len.1))) (λ vs h.
+    on_then (inside_is b p e Structure (p + 8 + n)) (λ _ in_e.
+    given (structure_found b p e (p + 8 + n) (p + 8 + n) at (omega arith) h in_e (λ zs ys splits x.
+    (raw_with (tag_at b p) Structure (content_at b p), refl, any_structure refl splits (x refl)))))))
+
+any_found : (d : ℕ) (b : List ℕ) → FindsAny d (any_outcome d) b
+unfolding any_outcome
+any_found zero b p e le in_bytes = on_then (type_is b p (head_cut b p e)) (λ t typ. failed)
+any_found (suc d) b p e le in_bytes = on_then (type_is b p (head_cut b p e)) (λ t typ.
+    on_if (is_structure t) _ _ (λ yes. node_found d (any_outcome d) b (any_found d b) p e (ap code (sym (is_structure_is t yes)) ∙ typ))
+    (λ plain. any_leaf_found d t b p e plain typ))
+
+-- the items from which items of any tags and types are read
+pub items_there : (d : ℕ) (b : List ℕ) (p e : ℕ) (vs : Values) → AreBytes b → p ≤ e → p ≤ length b
+    → each_outcome (suc (length b)) (any_outcome d) b p e ≡ gives vs
+    → (xs : List Raw) × ItemsAt b p e xs × AreAny d xs vs
+items_there d b p e vs bytes le in_bytes is =
+    let h = given_has vs (each_found (suc (length b)) d (any_outcome d) b (any_found d b) p e (omega arith) le in_bytes) is in
+    let x = h.items bytes [] refl in
+    (x.0, x.1, x.2 refl)
+
 -- ---- forms
 
 mutual
@@ -365,6 +434,18 @@ mutual
       on_then (field_found name s (outcome s) b (outcome_found s b) o k p e le in_bytes) (λ x head.
       on_then (on_early (behind_cut 0 head) (fields_found fs b o x.stored x.next e head.not_past head.there)) (λ rs tail.
       given (found_then head tail (λ xs ys zs items f g. next f g))))
+  fields_found any_items b o k p e le in_bytes =
+      on_then (each_found (suc (length b)) most_levels (any_outcome most_levels) b (any_found most_levels b) p e (omega arith) le in_bytes)
+      (λ vs h. given record {
+        not_back = h.not_back;
+        not_past = h.not_past;
+        there = h.there;
+        items = λ bytes ys at.
+            let x = h.items bytes ys at in
+            let none = items_none b e e ys h.there (omega arith) at in
+            (x.0, x.1, subst (ReadsFields any_items k x.0 vs k) (sym none) (kept (x.2 none)));
+        whole_left = h.whole_left;
+      })
 
   variant_found : (name : List ℕ) (vs : Variants) (b : List ℕ) → FindsVariants name vs (variant_outcome name vs) b
   variant_found name no_variants b i t o k p e is typ le in_bytes = absurd cc
@@ -460,3 +541,13 @@ found_root s b v bytes is = given_has v (root_found s b) is bytes
 
 pub whole_root : (s : Form) (b : List ℕ) → BeginsWhole b → root_outcome s b ≡ ends_early → ⊥
 whole_root s b w is = early_has (root_found s b) is w
+
+-- where all that a structure contains is read, it ends among the bytes
+pub content_ends : (name : List ℕ) (fs : Fields) (deny : Bool) (b : List ℕ) (stop : ℕ) (r : Read Values) → opened name b 0 ≡ gives stop
+    → within (tag_at b 0) (all_outcome fs deny (fields_outcome fs) b (tag_at b 0) [] 8 stop) ≡ gives r
+    → stop ≤ length b
+content_ends name fs deny b stop r opens is =
+    let at = given_has stop (opened_is name b 0 (λ short. short)) opens in
+    let content = all_found fs deny (fields_outcome fs) b (fields_found fs b) (tag_at b 0) [] 8 stop (omega (arith, at.1.stops)) at.1.content_there in
+    let all = given_has r (on_within (tag_at b 0) content) is in
+    omega (arith, all.0, all.1.there)

@@ -4,23 +4,26 @@ use Rattle.std.proofs.Common.{not, ◌||◌, if◌then◌else◌, drop, Some, No
 use Rattle.std.specs.Str.{bytes_eq}
 use Rattle.std.proofs.lemmas.Bool.{le-ltb, eq-eqb, eqb-true, ne_eqb, lt-ltb, and_parts, not-true}
 use Rattle.std.proofs.lemmas.{List.take-append-drop, Slice.Eq.bytes_eq-Decides}
-use Rattle.kmip_ttlv_types.specs.{declared.typ.TtlvType.TtlvType, declared.typ.TtlvType.TheVariants.Structure, Items.Raw, Items.Splits, ItemTypes.fixed_length}
-use Rattle.kmip_ttlv_types.specs.{ItemTypes.is_structure, Leaves.is_valid, Names.tag_of}
+use Rattle.kmip_ttlv_types.specs.{declared.typ.TtlvType.TtlvType, Items.Raw, Items.Splits, ItemTypes.fixed_length}
+use Rattle.kmip_ttlv_types.specs.declared.typ.TtlvType.TheVariants.{BigInteger, Boolean, DateTime, Enumeration, Integer, Interval, LongInteger, Structure}
+use Rattle.kmip_ttlv_types.specs.declared.typ.TtlvType.TheVariants.{TextString}
+use Rattle.kmip_ttlv_types.specs.{Digits.tag_text, ItemTypes.is_structure, Leaves.is_valid, Names.tag_of}
 use Rattle.kmip_ttlv_types.specs.Places.{ItemAt, ItemsAt, tag_at, length_at, size}
 use Rattle.kmip_ttlv_types.proofs.PlaceLemmas.{type_of-code, items_at_splits, item_at_text, items_in_order}
 use Rattle.kmip_ttlv_base.specs.Forms.{Form, Fields, Variants, Content, Forms, option, int32, no_variants, variant, unit}
-use Rattle.kmip_ttlv_base.specs.Gives.{ContentGives, EachGives, FieldsGive, FormsGive, Gives, VariantsGive}
-use Rattle.kmip_ttlv_base.specs.Values.{Value, Values, none_value, unit_variant_value, some_value, newtype_value, newtype_variant_value}
+use Rattle.kmip_ttlv_base.specs.Gives.{AreItems, ContentGives, EachGives, FieldsGive, FormsGive, Gives, IsAnItem, IsLeaf, VariantsGive}
+use Rattle.kmip_ttlv_base.specs.Values.{Value, Values, none_value, unit_variant_value, some_value, newtype_value, newtype_variant_value, struct_value}
 use Rattle.kmip_ttlv_reader.specs.TagValues.{TagValue}
 use Rattle.kmip_ttlv_reader.specs.Reads.{is_option, is_struct, has_tag, is_like, names_tag, has_fields, may_ignore, may_follow, takes, decoded_leaf}
 use Rattle.kmip_ttlv_reader.specs.Reads.{first_named, number_text, Reads, ReadsVariant, ReadsContent, ReadsForms, ReadsRun, ReadsFields, ReadsField, Begins}
 use Rattle.kmip_ttlv_reader.specs.Reads.{is_root, leaf, wrap_some, wrap, run, structure, by_rule, by_number, here, there, whole, parts, no_part, part, ends}
-use Rattle.kmip_ttlv_reader.specs.Reads.{more, done, next, absent, named, inner}
+use Rattle.kmip_ttlv_reader.specs.Reads.{more, done, next, absent, named, inner, kept, AreAny, IsAny, any_leaf, any_structure, form_of_type, no_item, one_item}
 use Rattle.kmip_ttlv_reader.specs.Steps.{Outcome, gives, Read, Reader, reads, ◌>>=◌, mapped}
 use Rattle.kmip_ttlv_reader.specs.Outcomes.{type_there, tag_wanted, length_there, structure_wanted, inside, end_there, length_wanted, content_there}
 use Rattle.kmip_ttlv_reader.specs.Outcomes.{type_wanted, leaf_outcome, opened, item_end, ignored, rest_outcome, all_outcome, struct_outcome, field_outcome}
 use Rattle.kmip_ttlv_reader.specs.Outcomes.{goes_on, run_outcome, seq_outcome, outcome, fields_outcome, forms_outcome, variant_outcome, content_outcome}
 use Rattle.kmip_ttlv_reader.specs.Outcomes.{number_outcome, tuple_outcome, part_outcome, enum_outcome, first_outcome, root_outcome}
+use Rattle.kmip_ttlv_reader.specs.Outcomes.{any_leaf_outcome, any_outcome, each_outcome, node_outcome}
 use Rattle.kmip_ttlv_reader.proofs.NumberLemmas.{valid_length, number_length}
 
 -- ---- what the rules read, the form gives
@@ -42,6 +45,28 @@ unit_gives name vname (variant n c vs) e =
       | true ↦ λ t h. inl (let is : c ≡ unit = cc in rw is (refl, sym ((bytes_eq-Decides n vname).0 t)))
       | false ↦ λ t h. inr (unit_gives name vname vs h)
     ] refl e
+
+-- a leaf of any type
+leaf_valued : (t : TtlvType) (c : List ℕ) → IsLeaf (decoded_leaf (form_of_type t) c)
+leaf_valued Integer c = tt
+leaf_valued LongInteger c = tt
+leaf_valued BigInteger c = tt
+leaf_valued Enumeration c = tt
+leaf_valued Boolean c = tt
+leaf_valued TextString c = tt
+leaf_valued DateTime c = tt
+leaf_valued Interval c = tt
+leaf_valued t c = tt
+
+-- items of any tags and types
+mutual
+  item_valued : {d : ℕ} {h : Raw} {v : Value} → IsAny d h v → IsAnItem v
+  item_valued (any_leaf {h = h} plain valid full) = leaf_valued h.typ h.content
+  item_valued (any_structure is splits are) = items_valued are
+
+  items_valued : {d : ℕ} {xs : List Raw} {vs : Values} → AreAny d xs vs → AreItems vs
+  items_valued no_item = tt
+  items_valued (one_item i are) = (item_valued i, items_valued are)
 
 -- and each rule takes an item at least
 mutual
@@ -78,6 +103,7 @@ mutual
   fields_give (next (absent {s = s} o n) rs) = (absent_gives s o, fields_give rs)
   fields_give (next (named n o r) rs) = ((read_is r).0, fields_give rs)
   fields_give (next (inner o r) rs) = ((read_is r).0, fields_give rs)
+  fields_give (kept are) = items_valued are
 
 pub reads_gives : {s : Form} {k k' : List TagValue} {xs ys : List Raw} {v : Value} → Reads s k xs v k' ys → Gives s v
 reads_gives r = (read_is r).0
@@ -135,7 +161,7 @@ record Given {V : Type 0} (o : Outcome (Read V)) (b : List ℕ) (e : ℕ) (v : V
   behind : ItemsAt b next e ys
 
 -- each item takes a byte at least
-in_order : (b : List ℕ) (p e : ℕ) (xs : List Raw) → ItemsAt b p e xs → p + length xs ≤ e
+pub in_order : (b : List ℕ) (p e : ℕ) (xs : List Raw) → ItemsAt b p e xs → p + length xs ≤ e
 in_order b p e [] items = omega (arith, items)
 in_order b p e (x ∷ xs) items = omega (arith, in_order b (p + size x.typ (length_at b p)) e xs items.1)
 
@@ -248,6 +274,31 @@ goes_given b first p e h (x ∷ xs) at items = rw (
   at.typ,
 ) refl
 
+-- ---- items of any tags and types
+
+mutual
+  unfolding any_outcome any_leaf_outcome node_outcome each_outcome
+
+  any_given : {d : ℕ} {h : Raw} {v : Value} → IsAny d h v → (b : List ℕ) (p e : ℕ) (xs : List Raw) → ItemsAt b p e (h ∷ xs)
+      → any_outcome d b p e ≡ gives (v, p + size h.typ (length_at b p))
+  any_given (any_leaf {h = h} plain valid full) b p e xs items =
+      rw (type_given b p h items.0, plain, content_given b p h items.0 valid, full, first_inside b p e h xs items, ← items.0.tag) refl
+  any_given (any_structure {h = h} {zs = zs} {vs = vs} is splits are) b p e xs items =
+      let content = content_items b p h zs items.0 splits in
+      let steps : length zs < suc (length b) = omega (arith, items.0.there, in_order b (p + 8) (p + 8 + length_at b p) zs content) in
+      let each = each_given are (suc (length b)) b (p + 8) (p + 8 + length_at b p) steps content in
+      rw (type_given b p h items.0, is, length_given b p h items.0, each, structure_inside b p e h xs is items, ← items.0.tag)
+      (ap (λ (q : ℕ). gives (struct_value (tag_text h.tag) vs, q)) (omega arith))
+
+  -- as many steps as there are items, and one more
+  pub each_given : {d : ℕ} {xs : List Raw} {vs : Values} → AreAny d xs vs → (n : ℕ) (b : List ℕ) (p e : ℕ) → length xs < n → ItemsAt b p e xs
+      → each_outcome n (any_outcome d) b p e ≡ gives vs
+  each_given are zero b p e lt items = absurd (omega arith)
+  each_given no_item (suc n) b p e lt items = rw (le-ltb p e (omega (arith, items))) refl
+  each_given (one_item {h = h} {xs = xs} i are) (suc n) b p e lt items =
+      let next = p + size h.typ (length_at b p) in
+      rw (lt-ltb p e (omega (arith, in_order b next e xs items.1)), any_given i b p e xs items, each_given are n b next e (omega arith) items.1) refl
+
 -- ---- forms
 
 -- an item of this type comes first
@@ -352,6 +403,8 @@ mutual
       let g = given_field r b o p e le items in
       let i = given_fields rs b o g.next e le g.behind in
       record { next = i.next; is = rw (g.is, i.is) refl; behind = i.behind }
+  given_fields (kept {xs = xs} are) b o p e le items =
+      record { next = e; is = rw (each_given are (suc (length b)) b p e (omega (arith, le, in_order b p e xs items)) items) refl; behind = refl }
 
   given_field : {name : List ℕ} {s : Form} {k k' : List TagValue} {xs ys : List Raw} {v : Value} → ReadsField name s k xs v k' ys → (b : List ℕ) (o p e : ℕ)
       → e ≤ length b → ItemsAt b p e xs → Given (field_outcome name s (outcome s) b o k p e) b e v k' ys

@@ -3,6 +3,8 @@ pub mod RuleLemmas
 pub mod NumberLemmas
 mod Walks
 pub mod Steps
+pub mod AnyItems
+pub mod AnyThere
 pub mod Loops
 pub mod Standing
 pub mod Onward
@@ -13,6 +15,7 @@ pub mod ResultLemmas
 pub mod Mapped
 pub mod LeafLemmas
 pub mod Structures
+pub mod Alone
 pub mod Cuts
 pub mod ChosenLemmas
 mod StoredRows

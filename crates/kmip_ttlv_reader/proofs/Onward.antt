@@ -102,7 +102,7 @@ pub tag_is : {E : Type 0} (name b : List ℕ) (p : ℕ) (t : TtlvType) → Onwar
 unfolding tag_wanted
 tag_is name b p t = on_map (λ x. x) (λ _ h. rw h.1 h.2) (tagged_is name b p t (tag_of name))
 
-is_structure_is : (t : TtlvType) → is_structure t ≡ true → t ≡ Structure
+pub is_structure_is : (t : TtlvType) → is_structure t ≡ true → t ≡ Structure
 is_structure_is Structure e = refl
 is_structure_is _ e = absurd cc
 

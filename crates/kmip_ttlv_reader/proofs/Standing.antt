@@ -6,18 +6,19 @@ use Rattle.std.proofs.lemmas.List.{get_or_append_left, length-append, take-appen
 use Rattle.kmip_ttlv_types.specs.{declared.typ.TtlvType.TtlvType, Leaves.is_valid, Names.tag_of}
 use Rattle.kmip_ttlv_types.specs.Places.{tag_at, code_at, length_at, size}
 use Rattle.kmip_ttlv_types.specs.ItemTypes.{type_of, fixed_length, is_structure}
-use Rattle.kmip_ttlv_base.specs.Forms.{Form, Fields, Variants, Content, Forms, struct, option, seq, newtype, enum, no_fields, field, no_variants, variant, unit}
+use Rattle.kmip_ttlv_base.specs.Forms.{Form, Fields, Variants, Content, Forms, struct, option, seq, newtype, enum, no_fields, field, any_items, no_variants}
+use Rattle.kmip_ttlv_base.specs.Forms.{variant, unit}
 use Rattle.kmip_ttlv_base.specs.Forms.{wrapped, tuple, no_forms, form}
 use Rattle.kmip_ttlv_base.specs.Values.{Value, Values}
 use Rattle.kmip_ttlv_reader.specs.{TagValues.TagValue, ReadLaws.Stands}
 use Rattle.kmip_ttlv_reader.specs.Rules.{Choice, choice_invalid, choice}
-use Rattle.kmip_ttlv_reader.specs.Reads.{is_option, is_struct, is_number_type, has_tag, names_tag, has_fields, takes, first_named, number_text}
+use Rattle.kmip_ttlv_reader.specs.Reads.{is_option, is_struct, is_number_type, has_tag, most_levels, names_tag, has_fields, takes, first_named, number_text}
 use Rattle.kmip_ttlv_reader.specs.Steps.{Outcome, gives, ends_early, fails, Reader, ◌>>=◌, must, must_not, within}
 use Rattle.kmip_ttlv_reader.specs.Outcomes.{type_there, typed, tag_wanted, tagged, length_there, structure_wanted, inside, end_there, length_wanted}
 use Rattle.kmip_ttlv_reader.specs.Outcomes.{content_there, type_wanted, leaf_outcome, opened, item_end, ignored, rest_outcome, all_outcome, struct_outcome}
 use Rattle.kmip_ttlv_reader.specs.Outcomes.{field_outcome, goes_on, run_outcome, seq_outcome, outcome, fields_outcome, forms_outcome, variant_outcome}
 use Rattle.kmip_ttlv_reader.specs.Outcomes.{content_outcome, picked, by_index, unit_wanted, number_outcome, tuple_outcome, part_outcome, enum_outcome}
-use Rattle.kmip_ttlv_reader.specs.Outcomes.{named_first, first_outcome, root_outcome}
+use Rattle.kmip_ttlv_reader.specs.Outcomes.{named_first, first_outcome, root_outcome, any_leaf_outcome, any_outcome, each_outcome, ItemReader, node_outcome}
 
 -- ---- steps
 
@@ -216,6 +217,39 @@ unfolding enum_outcome
 enum_still name vs at b c one o k p e = type_then b c p (λ t le. rw (picked_more (choice vs k t) b c p t le)
     (after (picked (choice vs k t) b p t) (λ i. index_still i at name vs t b c o k p e le (λ j. one j t o k p e le))))
 
+-- ---- items of any tags and types
+
+-- an item's reader's outcome stands, wherever it reads
+abbrev AnyStands : ItemReader → List ℕ → List ℕ → Type 0
+AnyStands read b c = (p e : ℕ) → Still (read b p e) (read (b ++ c) p e)
+
+-- among more bytes it may take more steps
+each_still : (n m : ℕ) → n ≤ m → (read : ItemReader) (b c : List ℕ) → AnyStands read b c → (p e : ℕ)
+    → Still (each_outcome n read b p e) (each_outcome m read (b ++ c) p e)
+unfolding each_outcome
+each_still zero m le read b c one p e = record { stands = tt }
+each_still (suc n) zero le read b c one p e = absurd (omega arith)
+each_still (suc n) (suc m) le read b c one p e =
+    either (nat_lt p e) (bind (one p e) (λ x _. bind (each_still n m (omega arith) read b c one x.1 e) (λ vs _. still refl))) (still refl)
+
+node_still : (read : ItemReader) (b c : List ℕ) → AnyStands read b c → (p e : ℕ) → p + 4 ≤ length b
+    → Still (node_outcome read b p e) (node_outcome read (b ++ c) p e)
+unfolding node_outcome inside
+node_still read b c one p e le = length_then b c p (λ n _. rw (tag_more b c p le)
+    (bind (within_still (tag_at b p) (each_still (suc (length b)) (suc (length (b ++ c))) (omega (arith, length-append b c)) read b c one (p + 8) (p + 8 + n)))
+    (λ vs _. still refl)))
+
+-- where a leaf's content is given, its length is there
+content_long : (b : List ℕ) (p : ℕ) (t : TtlvType) (x : (List ℕ × ℕ)) → content_there b p t ≡ gives x → p + 8 ≤ length b
+unfolding content_there length_there
+content_long b p t x is = ltb-false _ _ (false_from_ne_true _ (λ short. let early : content_there b p t ≡ ends_early = rw short refl in cc (is, early)))
+
+any_still : (d : ℕ) (b c : List ℕ) → AnyStands (any_outcome d) b c
+unfolding any_outcome any_leaf_outcome inside
+any_still zero b c p e = type_then b c p (λ t le. still (rw (tag_more b c p le) refl))
+any_still (suc d) b c p e = type_then b c p (λ t le. either (is_structure t) (node_still (any_outcome d) b c (any_still d b c) p e le)
+    (rw (tag_more b c p le) (bind (content_still b c p t le) (λ x is. rw (length_more b c p (content_long b p t x is)) (still refl)))))
+
 -- ---- forms
 
 mutual
@@ -240,6 +274,10 @@ mutual
   fields_still no_fields b c o k p e = still refl
   fields_still (field name s fs) b c o k p e = bind (field_still name s (outcome s) b c (outcome_still s b c) o k p e)
       (λ r _. bind (fields_still fs b c o r.stored r.next e) (λ rs _. still refl))
+  fields_still any_items b c o k p e =
+      bind
+      (each_still (suc (length b)) (suc (length (b ++ c))) (omega (arith, length-append b c)) (any_outcome most_levels) b c (any_still most_levels b c) p e)
+      (λ vs _. still refl)
 
   variant_still : (name : List ℕ) (vs : Variants) (b c : List ℕ) (i : ℕ) (t : TtlvType) (o : ℕ) (k : List TagValue) (p e : ℕ) → p + 4 ≤ length b
       → Still (variant_outcome name vs i t b o k p e) (variant_outcome name vs i t (b ++ c) o k p e)

@@ -11,6 +11,7 @@ use Rattle.kmip_ttlv_types.specs.declared.typ.TtlvType.TheVariants.{Enumeration,
 use Rattle.kmip_ttlv_types.specs.declared.typ.TtlvType.TheVariants.{DateTime, Interval}
 use Rattle.kmip_ttlv_types.specs.declared.field.FieldType.{FieldType}
 use Rattle.kmip_ttlv_types.specs.declared.field.FieldType.TheVariants as parts
+use Rattle.kmip_ttlv_types.specs.Digits.{tag_text}
 use Rattle.kmip_ttlv_types.specs.ItemTypes.{type_of, is_structure, fixed_length}
 use Rattle.kmip_ttlv_types.specs.Leaves.{is_valid}
 use Rattle.kmip_ttlv_types.specs.Names.{tag_of}
@@ -22,14 +23,14 @@ use Rattle.kmip_ttlv_base.specs.Values.{Value, none_value, some_value, seq_value
 use Rattle.kmip_ttlv_base.specs.Values.{unit_variant_value, newtype_variant_value, tuple_variant_value, Values}
 use Rattle.kmip_ttlv_base.specs.Values.{no_values, value}
 use Rattle.kmip_ttlv_base.specs.Forms.{Form, struct, option, seq, newtype, enum, int32, int64, boolean, text, octets}
-use Rattle.kmip_ttlv_base.specs.Forms.{date_time, interval, big_integer, Fields, no_fields, field, Variants, no_variants, variant}
+use Rattle.kmip_ttlv_base.specs.Forms.{date_time, interval, big_integer, Fields, no_fields, field, any_items, Variants, no_variants, variant}
 use Rattle.kmip_ttlv_base.specs.Forms.{Content, unit, wrapped, tuple, Forms, no_forms, form}
-use Rattle.kmip_ttlv_reader.specs.ReadFaults.{at_item, in_struct, bad_code, overflow, at_first}
+use Rattle.kmip_ttlv_reader.specs.ReadFaults.{at_item, in_struct, bad_code, overflow, at_first, too_deep}
 use Rattle.kmip_ttlv_reader.specs.Steps.{Fault, Outcome, gives, ends_early, fails, ◌>>=◌, ◌>>◌, must, must_not, within}
 use Rattle.kmip_ttlv_reader.specs.Steps.{reads, mapped, Reader}
 use Rattle.kmip_ttlv_reader.specs.Rules.{Choice, chosen, number_decides, choice_invalid, choice}
 use Rattle.kmip_ttlv_reader.specs.Reads.{is_option, is_struct, has_tag, names_tag, has_fields, takes, decoded_leaf, stored_after_leaf}
-use Rattle.kmip_ttlv_reader.specs.Reads.{is_number_type, number_text, first_named}
+use Rattle.kmip_ttlv_reader.specs.Reads.{is_number_type, number_text, first_named, is_full, leaf_under, most_levels}
 
 -- ---- an item's header
 
@@ -194,6 +195,44 @@ seq_outcome read b o k p e = do
   rs ← run_outcome (suc (length b)) read p b o r.stored r.next e
   reads (value r.value rs.value) rs.stored rs.next
 
+-- ---- items of any tags and types
+
+-- what reads an item and gives the place after it
+abbrev pub ItemReader : Type 0
+ItemReader = List ℕ → (pos end : ℕ) → Outcome (Value × ℕ)
+
+-- a leaf
+unfoldable pub any_leaf_outcome : TtlvType → ItemReader
+any_leaf_outcome t b p e = do
+  c ← content_there b p t
+  must (is_full t c.0) (fails (at_item b p (8 + length_at b p) t (malformed (faults.InvalidValue t))))
+  inside b p e t c.1
+  gives (leaf_under (tag_at b p) t c.0, c.1)
+
+-- items one after the other, up to the end, in at most so many steps
+unfoldable pub each_outcome : ℕ → ItemReader → List ℕ → (pos end : ℕ) → Outcome Values
+each_outcome zero read b p e = ends_early
+each_outcome (suc n) read b p e =
+    if nat_lt p e
+    then (read b p e >>= λ x.
+    each_outcome n read b x.1 e >>= λ vs.
+    gives (value x.0 vs))
+    else gives no_values
+
+-- a structure of items that are read so: a fault in it has its tag as a parent; whether it goes too far is asked last
+unfoldable pub node_outcome : ItemReader → ItemReader
+node_outcome read b p e = do
+  n ← length_there b p
+  vs ← within (tag_at b p) (each_outcome (suc (length b)) read b (p + 8) (p + 8 + n))
+  inside b p e Structure (p + 8 + n)
+  gives (struct_value (tag_text (tag_at b p)) vs, p + 8 + n)
+
+-- an item, with all that is in it, of so many levels at most
+unfoldable pub any_outcome : (levels : ℕ) → ItemReader
+any_outcome zero b p e = type_there b p >>= λ t. fails (too_deep b p t)
+any_outcome (suc d) b p e =
+    type_there b p >>= λ t. if is_structure t then node_outcome (any_outcome d) b p e else any_leaf_outcome t b p e
+
 -- ---- enums
 
 -- the error if the variant that a number names has content; its offset is after the item
@@ -270,6 +309,7 @@ unfoldable mutual
       field_outcome name s (outcome s) b o k p e >>= λ r.
       fields_outcome fs b o r.stored r.next e >>= λ rs.
       reads (value r.value rs.value) rs.stored rs.next
+  fields_outcome any_items b o k p e = each_outcome (suc (length b)) (any_outcome most_levels) b p e >>= λ vs. reads vs k e
 
   -- the variant at this index, at an item of this type
   pub variant_outcome : List ℕ → Variants → ℕ → TtlvType → Reader Value

@@ -1,5 +1,5 @@
 -- Faults, by where they are found: none has a structure around it yet.
-use Rattle.std.specs.Prelude.{ℕ, ◌+◌, List, [], Some, None}
+use Rattle.std.specs.Prelude.{ℕ, ◌+◌, List, [], Some, None, codes}
 use Rattle.kmip_ttlv_types.specs.declared.typ.TtlvType.{TtlvType}
 use Rattle.kmip_ttlv_types.specs.declared.typ.TtlvType.TheVariants.{Structure}
 use Rattle.kmip_ttlv_types.specs.Places.{tag_at, code_at}
@@ -36,3 +36,7 @@ overflow b p e t q = record {
 -- at the first byte, where nothing was read
 abbrev pub at_first : Kind → Fault
 at_first why = record { why = why; place = record { offset = Some 0; parents = []; tag = None; typ = None } }
+
+-- the item at p has more levels than items of any tags and types may have
+abbrev pub too_deep : List ℕ → ℕ → TtlvType → Fault
+too_deep b p t = at_item b p 4 t (mismatch (other_cause (codes "too many levels")))

@@ -1,6 +1,6 @@
 -- What a form reads from a list of items, by one rule for each way to read.
 use Rattle.std.specs.Prelude.{◌≡◌, ℕ, suc, Bool, true, false, List, [], ◌∷◌, ◌++◌, Option, Some, None, ◌/◌, ◌%◌, ◌==◌}
-use Rattle.std.specs.Prelude.{◌&&◌, ◌||◌, not, if◌then◌else◌}
+use Rattle.std.specs.Prelude.{◌&&◌, ◌||◌, not, if◌then◌else◌, length}
 use Rattle.std.specs.Int.{w32, w64, from_be_bytes, cast_signed}
 use Rattle.std.specs.List.{flat_map}
 use Rattle.std.specs.Str.{bytes_eq}
@@ -12,13 +12,15 @@ use Rattle.kmip_ttlv_types.specs.declared.typ.TtlvType.TheVariants.{DateTime, In
 use Rattle.kmip_ttlv_types.specs.ItemTypes.{code, is_structure}
 use Rattle.kmip_ttlv_types.specs.Leaves.{is_valid}
 use Rattle.kmip_ttlv_types.specs.Items.{Raw, Splits, IsTextOf}
+use Rattle.kmip_ttlv_types.specs.Digits.{tag_text}
 use Rattle.kmip_ttlv_types.specs.Names.{tag_of}
+use Rattle.kmip_ttlv_base.specs.Tags.{wrapper_name}
 use Rattle.kmip_ttlv_base.specs.Values.{Value, boolean_value, i32_value, u32_value, i64_value, date_time_value, interval_value}
 use Rattle.kmip_ttlv_base.specs.Values.{text_value, bytes_value, big_integer_value, none_value, some_value, seq_value, struct_value}
 use Rattle.kmip_ttlv_base.specs.Values.{newtype_value, unit_variant_value, newtype_variant_value, tuple_variant_value}
 use Rattle.kmip_ttlv_base.specs.Values.{Values, no_values, value}
 use Rattle.kmip_ttlv_base.specs.Forms.{Form, struct, option, seq, newtype, enum, int32, int64, boolean, text, octets}
-use Rattle.kmip_ttlv_base.specs.Forms.{date_time, interval, big_integer, any_number, Fields, no_fields, field, Variants, no_variants, variant}
+use Rattle.kmip_ttlv_base.specs.Forms.{date_time, interval, big_integer, any_number, Fields, no_fields, field, any_items, Variants, no_variants, variant}
 use Rattle.kmip_ttlv_base.specs.Forms.{Content, unit, wrapped, tuple, Forms, no_forms, form}
 use Rattle.kmip_ttlv_reader.specs.TagValues.{TagValue}
 use Rattle.kmip_ttlv_reader.specs.Rules.{chosen, number_decides, choice}
@@ -56,11 +58,13 @@ is_struct _ = false
 abbrev pub names_tag : Fields → ℕ → Bool
 names_tag no_fields t = false
 names_tag (field name s fs) t = elim (has_tag name t) [ true ↦ true | false ↦ names_tag fs t ]
+names_tag any_items t = false
 
 -- there is a field
 abbrev pub has_fields : Fields → Bool
 has_fields no_fields = false
 has_fields (field name s fs) = true
+has_fields any_items = true
 
 -- an item that is ignored: of no declared tag, and valid where it is a leaf
 abbrev pub may_ignore : Fields → Bool → Raw → Bool
@@ -125,6 +129,53 @@ stored_after_leaf _ x k = k
 abbrev pub first_named : List ℕ → Variants → Option Content
 first_named name no_variants = None
 first_named name (variant vname c vs) = if bytes_eq vname name then Some c else first_named name vs
+
+-- the form of leaves of a type; a Structure is none
+abbrev pub form_of_type : TtlvType → Form
+form_of_type Integer = int32
+form_of_type LongInteger = int64
+form_of_type BigInteger = big_integer
+form_of_type Enumeration = any_number
+form_of_type Boolean = boolean
+form_of_type TextString = text
+form_of_type DateTime = date_time
+form_of_type Interval = interval
+form_of_type _ = octets
+
+-- a Big Integer has a multiple of eight bytes (KMIP 1.0, 9.1.1.3); any other leaf is written as long as it is
+abbrev pub is_full : TtlvType → List ℕ → Bool
+is_full BigInteger content = length content % 8 == 0
+is_full _ content = true
+
+-- the value of a leaf of any type, under its tag
+abbrev pub leaf_under : ℕ → TtlvType → List ℕ → Value
+leaf_under tag typ content = newtype_value (wrapper_name tag) (decoded_leaf (form_of_type typ) content)
+
+mutual
+  -- the item is read as this value, whatever its tag and type are, if it has so many levels at most: a leaf is one, and a
+  -- structure one more than what is in it
+  pub data IsAny : (levels : ℕ) → Raw → Value → Type 0 where
+    any_leaf :
+        {d : ℕ} {h : Raw}
+        → is_structure h.typ ≡ false
+        → is_valid h.typ h.content ≡ true
+        → is_full h.typ h.content ≡ true
+        → IsAny (suc d) h (leaf_under h.tag h.typ h.content)
+    any_structure :
+        {d : ℕ} {h : Raw} {zs : List Raw} {vs : Values}
+        → h.typ ≡ Structure
+        → Splits zs h.content
+        → AreAny d zs vs
+        → IsAny (suc d) h (struct_value (tag_text h.tag) vs)
+
+  -- each of the items is read so
+  pub data AreAny : (levels : ℕ) → List Raw → Values → Type 0 where
+    no_item : {d : ℕ} → AreAny d [] no_values
+    one_item : {d : ℕ} {h : Raw} {xs : List Raw} {v : Value} {vs : Values} → IsAny d h v → AreAny d xs vs → AreAny d (h ∷ xs) (value v vs)
+
+-- how many levels items of any tags and types may have
+abbrev pub most_levels : ℕ
+most_levels = 64
 
 mutual
   -- from these items, with these texts stored, the form reads a value, and leaves these items and texts
@@ -224,6 +275,7 @@ mutual
         → ReadsField name s k xs v k' ys
         → ReadsFields fs k' ys vs k'' zs
         → ReadsFields (field name s fs) k xs (value v vs) k'' zs
+    kept : {k : List TagValue} {xs : List Raw} {vs : Values} → AreAny most_levels xs vs → ReadsFields any_items k xs vs k []
 
   -- one field: an option is left out where its name isn't the next item's; a struct goes by its own name, any other by
   -- the field's

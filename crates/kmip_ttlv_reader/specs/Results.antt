@@ -49,3 +49,13 @@ IsRead view k o (Err r) = IsFailure o r
 abbrev pub IsOutcome : {X V A : Type 0} → (X → V) → Outcome V → Result X (Error A) → Type 0
 IsOutcome view o (Ok x) = o ≡ gives (view x)
 IsOutcome view o (Err e) = IsMemory e ⊎ IsError o (seen e)
+
+-- it is some value, or memory ran out
+abbrev pub IsPassed : {X V A : Type 0} → Outcome V → Result X (Failure A) → Type 0
+IsPassed {V = V} o (Ok x) = (v : V) × (o ≡ gives v)
+IsPassed o (Err r) = IsFailure o r
+
+-- the same with the place after it
+abbrev pub IsPassedTo : {V A : Type 0} → Outcome (V × ℕ) → Result ℕ (Failure A) → Type 0
+IsPassedTo {V = V} o (Ok q) = (v : V) × (o ≡ gives (v, q))
+IsPassedTo o (Err r) = IsFailure o r

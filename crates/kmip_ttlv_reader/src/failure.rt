@@ -172,7 +172,8 @@ pub fn in_struct<A: Allocator + Copy>(
 /// The same failure, from within a structure of this tag.
 #[cold]
 pub fn within<A: Allocator + Copy>(tag: TtlvTag, failure: Failure<A>) -> Failure<A>
-    ensures { (o : Outcome (Read Values)) → IsFailure o failure → IsFailure (within tag o) result }
+    ensures list { (o : Outcome (Read Values)) → IsFailure o failure → IsFailure (within tag o) result }
+    ensures items { (o : Outcome Values) → IsFailure o failure → IsFailure (within tag o) result }
 {
     match failure {
         Failure::OutOfMemory => Failure::OutOfMemory,

@@ -9,6 +9,7 @@
 //! bytes begin with an item from which a form reads a value.
 #![tactic(auto)]
 
+pub mod any_item;
 pub mod choice;
 pub mod cursor;
 pub mod errors;

@@ -172,7 +172,7 @@ read_struct-returns-in-Err-clause-read g t c =
     let all = all_outcome (fields_of c.args.fields.now) c.args.deny (fields_outcome (fields_of c.args.fields.now)) c.args.scope.now.bytes.now
     (tag_at c.args.scope.now.bytes.now c.args.pos) c.args.stored.now (c.args.pos + 8) c.in_ok-stop.stop in
     rw c.in_ok-stop.ensures.step (failure_then (within (tag_at c.args.scope.now.bytes.now c.args.pos) all) _ c.within.result
-    (rw c.tag_at-owner.ensures at (c.within.ensures all (rw c.tag_at-owner.ensures at c.in-Err.ensures.read))))
+    (rw c.tag_at-owner.ensures at (c.within.ensures.list all (rw c.tag_at-owner.ensures at c.in-Err.ensures.read))))
 
 pub read_shape-returns-in-Enum-clause-read : goal.read_shape-returns-in-Enum-clause-read
 read_shape-returns-in-Enum-clause-read g t c =

@@ -14,5 +14,5 @@ returns g c =
     let read = rw (c.tag_at-owner.ensures, c.new-stored.ensures) at c.in-Err.ensures.read in
     record {
       step = rw (c.in_ok-named_first.ensures, c.in_ok-end.ensures.step) (failure_then (within (tag_at c.args.bytes.now 0) all) _ c.within.result
-          (rw c.tag_at-owner.ensures at (c.within.ensures all read)));
+          (rw c.tag_at-owner.ensures at (c.within.ensures.list all read)));
     }
