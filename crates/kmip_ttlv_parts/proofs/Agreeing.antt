@@ -1,24 +1,33 @@
 -- What agrees with a form is read by it.
-use Rattle.std.proofs.Common.{◌≡◌, ℕ, Bool, true, false, List, [], ◌∷◌, ◌++◌, map, Option, Some, None, refl, sym, ap, subst, ◌∙◌}
+use Rattle.std.proofs.Common.{◌≡◌, ◌%◌, ℕ, suc, Bool, true, false, List, [], ◌∷◌, ◌++◌, length, map, Option, Some, None, refl, sym, ap, subst, ◌∙◌, arith}
 use Rattle.std.specs.{Prelude.◌&&◌, Prelude.◌||◌, Int.w32, Int.to_be_bytes, List.AllByRecursion}
 use Rattle.std.proofs.lemmas.{Bool.eq-eqb, List.append-nil, List.map-append}
-use Rattle.kmip_ttlv_types.specs.{declared.typ.TtlvType.TheVariants.Enumeration, ItemTypes.code, Items.Raw, Items.Splits}
+use Rattle.kmip_ttlv_types.specs.{declared.typ.TtlvType.TtlvType, declared.typ.TtlvType.TheVariants.Enumeration, declared.typ.TtlvType.TheVariants.Structure}
+use Rattle.kmip_ttlv_types.specs.{ItemTypes.code, ItemTypes.is_structure, Items.Raw, Items.Splits, Leaves.is_valid}
 use Rattle.kmip_ttlv_types.specs.Trees.{Fits, FitsBelow, Tree, bytes_below, leaf, node, trees_of, raw_of}
-use Rattle.kmip_ttlv_base.specs.Forms.{Form, seq, Fields, Forms, Variants, Content}
+use Rattle.kmip_ttlv_base.specs.Forms.{Form, big_integer, seq, Fields, Forms, Variants, Content}
+use Rattle.kmip_ttlv_base.specs.{Tags.wrapper_name, Values.big_integer_value, Values.newtype_value}
+use Rattle.kmip_ttlv_types.specs.Primitives.{sign_extended}
+use Rattle.kmip_ttlv_types.proofs.Padding.{length-sign_extended}
+use Rattle.kmip_ttlv_parts.specs.Returns.{ComesBack, as_big_integer}
 use Rattle.kmip_ttlv_base.specs.Values.{Value, seq_value, Values, no_values, value}
-use Rattle.kmip_ttlv_ser.specs.declared.pending.PendingTag.{PendingTag, TheVariants.Nothing}
+use Rattle.kmip_ttlv_base.proofs.TagNames.{transparent_wrapper}
+use Rattle.kmip_ttlv_ser.specs.declared.pending.PendingTag.{PendingTag, TheVariants.Nothing, TheVariants.Plain}
 use Rattle.kmip_ttlv_ser.specs.WrittenItems.{◌>>=◌, enumeration, pending_tag, items, items_in, left_over, some_item}
 use Rattle.kmip_ttlv_reader.proofs.Giving.{begins_one}
 use Rattle.kmip_ttlv_reader.specs.TagValues.{TagValue}
 use Rattle.kmip_ttlv_reader.specs.Reads.{Begins, Reads, ReadsContent, ReadsField, ReadsFields, ReadsForms, ReadsRun, ReadsVariant, absent, by_number, by_rule}
 use Rattle.kmip_ttlv_reader.specs.Reads.{done, ends, has_tag, here, inner, is_like, is_root, is_struct, decoded_leaf, more, named, names, next, no_part, part}
 use Rattle.kmip_ttlv_reader.specs.Reads.{parts, run, structure, there, whole, wrap, wrap_some, leaf as read_leaf}
+use Rattle.kmip_ttlv_reader.specs.Reads.{AreAny, IsAny, any_leaf, any_structure, form_of_type, is_full, kept, no_item, one_item}
 use Rattle.kmip_ttlv_parts.specs.Agreements.{Head, Agrees, goes_on, leaf_agrees, inner_agrees, option_agrees, newtype_agrees, struct_agrees, rule_agrees}
 use Rattle.kmip_ttlv_parts.specs.Agreements.{tuple_agrees, number_agrees, seq_agrees, RunAgrees, last_agrees, next_agrees, FieldsAgree, no_field_agrees}
 use Rattle.kmip_ttlv_parts.specs.Agreements.{nothing_agrees, absent_agrees, field_agrees, FormsAgree, no_form_agrees, form_agrees, Wraps, some_wraps}
 use Rattle.kmip_ttlv_parts.specs.Agreements.{newtype_wraps, variant_wraps, EncodesStructure, struct_encodes, newtype_encodes, variant_encodes, tuple_encodes}
 use Rattle.kmip_ttlv_parts.specs.Agreements.{IsNumbered, unit_is_numbered, number_is_numbered, HasVariant, first_variant, later_variant, is_named, is_alike}
-use Rattle.kmip_ttlv_parts.specs.Agreements.{is_field_of, is_run, leaf_type, with_value}
+use Rattle.kmip_ttlv_parts.specs.Agreements.{is_field_of, is_run, leaf_type, with_value, AreItems, IsItem, any_items_agree, are_more, are_none, is_leaf}
+use Rattle.kmip_ttlv_parts.specs.Agreements.{is_structure as is_node}
+use Rattle.kmip_ttlv_parts.proofs.TagNumbers.{takes_tag}
 use Rattle.kmip_ttlv_parts.specs.{Contents.items_below, ReadingLaws.AgreeingIsRead, ReadingLaws.AgreeingIsWritten}
 use Rattle.kmip_ttlv_parts.proofs.{Contents.below_splits, Returns.LeafIs, Returns.leaf_of, Roots.reading_what_was_written}
 use Rattle.kmip_ttlv_parts.proofs.Made.{AllMade, Any, any_texts_in, below_made, items_in_made}
@@ -152,6 +161,19 @@ pub record FormsAreRead (ss : Forms) (k : List TagValue) (ws : Values) (y : Opti
   pub head_is : BeginsAs trees y
   pub reads : AllByRecursion Fits trees → ReadsForms ss k (map raw_of trees) vs k' []
 
+-- of items of any tags and types
+record AnyIsRead (d : ℕ) (v : Value) (x : Head) : Type 0 where
+  first : Tree
+  are : items v Nothing ≡ Some (first ∷ [])
+  head_is : HasHead (raw_of first) x
+  reads : Fits first → IsAny d (raw_of first) v
+
+pub record AnyAreRead (d : ℕ) (vs : Values) (y : Option Head) : Type 0 where
+  pub trees : List Tree
+  pub are : items_in vs Nothing ≡ Some trees
+  pub head_is : BeginsAs trees y
+  pub reads : AllByRecursion Fits trees → AreAny d (map raw_of trees) vs
+
 -- so it is read from one item
 read_alone : {s : Form} {k k' : List TagValue} {h : PendingTag} {w v : Value} {x : Head} (t : Tree) → items w h ≡ Some (t ∷ []) → HasHead (raw_of t) x
     → (Fits t → (ys : List Raw) → Reads s k (raw_of t ∷ ys) v k' ys) → IsRead s k h w x v k'
@@ -200,6 +222,62 @@ one_read s k k' v t rest zs e single read f =
     let fits : AllByRecursion Fits (t ∷ rest) = subst (λ (l : List Tree). AllByRecursion Fits (t ∷ l)) (sym e) (f, tt) in
     let apart : is_run v ≡ true → is_like (raw_of t) zs ≡ false = λ is. absurd (let k : true ≡ false = sym is ∙ single in cc) in
     subst (λ (l : List Tree). Reads s k (raw_of t ∷ (map raw_of l ++ zs)) v k' zs) e (read fits apart)
+
+-- a leaf is no Structure, and the forms that read leaves by their types read full ones
+no_node : (t : TtlvType) (c : List ℕ) → is_valid t c ≡ true → is_structure t ≡ false
+no_node Structure c valid = absurd cc
+no_node t c valid = refl
+
+-- a Big Integer that comes back as it is has a multiple of eight bytes
+big_back : {s : Form} {w v : Value} → ComesBack s w v → (content : List ℕ) → s ≡ big_integer → w ≡ big_integer_value content
+    → v ≡ big_integer_value (sign_extended content)
+big_back (as_big_integer {s = s}) content form is = let same : s ≡ content = cc in ap (λ c. big_integer_value (sign_extended c)) same
+big_back c content form is = absurd cc
+
+extended_length : (content : List ℕ) → length (sign_extended content) % 8 ≡ 0
+extended_length content = ap (λ n. n % 8) (length-sign_extended content) ∙ omega arith
+
+full_leaf : (v : Value) → ComesBack (form_of_type (leaf_type v)) v v → (l : LeafIs (form_of_type (leaf_type v)) v v) → is_full (leaf_type v) l.content ≡ true
+full_leaf (big_integer_value content) back l =
+    let e : big_integer_value content ≡ big_integer_value (sign_extended content) = big_back back content refl refl in
+    let same : content ≡ sign_extended content = cc in
+    let is : l.content ≡ content = let g : big_integer_value l.content ≡ big_integer_value content = l.gives in cc in
+    eq-eqb (length l.content % 8) 0 (ap (λ c. length c % 8) (is ∙ same) ∙ extended_length content)
+full_leaf v back l = refl
+
+mutual
+  item_is_read : {d : ℕ} {v : Value} {x : Head} → IsItem d v x → AnyIsRead d v x
+  item_is_read (is_leaf {d = d} {t = t} {v = v} is back) =
+      let l = leaf_of _ v v back in
+      let h : Raw = record { tag = t; typ = leaf_type v; content = l.content } in
+      record {
+        first = leaf t (leaf_type v) l.content;
+        are = wrapped_items {u = v} (leaf t (leaf_type v) l.content) [] (newtype_wraps (transparent_wrapper t) (takes_tag t is)) (l.written (Plain t) t refl);
+        head_is = (refl, refl);
+        reads = λ f. subst (λ u. IsAny (suc d) h (newtype_value (wrapper_name t) u)) l.gives
+            (any_leaf {d = d} {h = h} (no_node (leaf_type v) l.content l.valid) l.valid
+            (full_leaf v back l));
+      }
+  item_is_read (is_node {t = t} {vs = vs} is are) =
+      let r = items_are_read are in
+      record {
+        first = node t (trees_of r.trees);
+        are = enclosing_items {ws = vs} r.trees (struct_encodes (takes_tag t is)) r.are;
+        head_is = (refl, refl);
+        reads = λ f. any_structure refl (content_splits vs r.trees r.are f.1) (r.reads (fits_below r.trees f.1));
+      }
+
+  pub items_are_read : {d : ℕ} {vs : Values} {y : Option Head} → AreItems d vs y → AnyAreRead d vs y
+  items_are_read are_none = record { trees = []; are = refl; head_is = tt; reads = λ f. no_item }
+  items_are_read (are_more {v = v} {vs = vs} i are) =
+      let r = item_is_read i in
+      let q = items_are_read are in
+      record {
+        trees = r.first ∷ q.trees;
+        are = two_steps v vs Nothing r.first [] q.trees r.are q.are;
+        head_is = r.head_is;
+        reads = λ f. one_item (r.reads f.0) (q.reads f.1);
+      }
 
 mutual
   pub agreed : {s : Form} {k k' : List TagValue} {h : PendingTag} {w v : Value} {x : Head} → Agrees s k h w x v k' → IsRead s k h w x v k'
@@ -286,6 +364,9 @@ mutual
             ∙ not_alike v x y apart is)))
             (q.reads (fits_last (r.first ∷ r.rest) q.trees f)));
       }
+  fields_agreed (any_items_agree are) =
+      let r = items_are_read are in
+      record { trees = r.trees; are = r.are; head_is = r.head_is; reads = λ f. kept (r.reads f) }
 
   forms_agreed : {ss : Forms} {k k' : List TagValue} {ws vs : Values} {y : Option Head} → FormsAgree ss k ws y vs k' → FormsAreRead ss k ws y vs k'
   forms_agreed no_form_agrees = record { trees = []; are = refl; head_is = tt; reads = λ f. no_part }

@@ -14,7 +14,7 @@ below_splits no_trees m f = refl
 below_splits (tree t ts) m f = (bytes t, bytes_below ts, text_of_tree Any t m.0 f.0, refl, below_splits ts m.1 f.1)
 
 -- and so are those of a list
-all_split : (ts : List Tree) → AllMade Any ts → AllByRecursion Fits ts → Splits (map raw_of ts) (bytes_all ts)
+pub all_split : (ts : List Tree) → AllMade Any ts → AllByRecursion Fits ts → Splits (map raw_of ts) (bytes_all ts)
 all_split [] m f = refl
 all_split (t ∷ ts) m f = (bytes t, bytes_all ts, text_of_tree Any t m.0 f.0, refl, all_split ts m.1 f.1)
 

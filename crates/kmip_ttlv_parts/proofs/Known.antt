@@ -5,13 +5,15 @@ use Rattle.std.specs.Prelude.{◌&&◌, ◌||◌, not}
 use Rattle.std.specs.List.{last_or}
 use Rattle.std.proofs.lemmas.Bool.{and_parts, eq-eqb, eqb-true, false≢true, not-true, or_right}
 use Rattle.std.proofs.lemmas.{List.append-nil, List.Elements.filter-append, Option.none-some}
-use Rattle.kmip_ttlv_base.specs.Forms.{Form, struct, option, seq, newtype, enum, any_number, text as text_form, Fields, no_fields, field, Variants, no_variants}
+use Rattle.kmip_ttlv_base.specs.Forms.{Form, struct, option, seq, newtype, enum, any_number, text as text_form, Fields, no_fields, field, any_items, Variants}
+use Rattle.kmip_ttlv_base.specs.Forms.{no_variants}
 use Rattle.kmip_ttlv_base.specs.Forms.{variant, Content, unit, wrapped, tuple}
 use Rattle.kmip_ttlv_base.specs.Values.{Value, Values, text_value, u32_value}
 use Rattle.kmip_ttlv_ser.specs.declared.pending.PendingTag.{PendingTag}
 use Rattle.kmip_ttlv_reader.specs.{TagValues.TagValue, TagValues.last, Reads.has_tag, Reads.is_struct}
 use Rattle.kmip_ttlv_parts.specs.Agreements.{Head, Agrees, FieldsAgree, HasVariant, RunAgrees, absent_agrees, field_agrees, first_variant, inner_agrees}
-use Rattle.kmip_ttlv_parts.specs.Agreements.{last_agrees, later_variant, leaf_agrees, newtype_agrees, next_agrees, no_field_agrees, nothing_agrees}
+use Rattle.kmip_ttlv_parts.specs.Agreements.{any_items_agree, last_agrees, later_variant, leaf_agrees, newtype_agrees, next_agrees, no_field_agrees}
+use Rattle.kmip_ttlv_parts.specs.Agreements.{nothing_agrees}
 use Rattle.kmip_ttlv_parts.specs.Agreements.{number_agrees, option_agrees, rule_agrees, seq_agrees, struct_agrees, tuple_agrees, with_value}
 
 -- ---- the last text of a tag
@@ -80,6 +82,7 @@ abbrev mutual
   pub are_without : ℕ → Fields → Boole
   are_without t no_fields = true
   are_without t (field name s fs) = (is_struct s || not (has_tag name t)) && (is_without t s && are_without t fs)
+  are_without t any_items = true
 
   pub none_has : ℕ → Variants → Boole
   none_has t no_variants = true
@@ -142,6 +145,7 @@ mutual
       let parts = and_parts (is_struct s || not (has_tag name t)) (is_without t s && are_without t fs) free in
       let inner = and_parts (is_without t s) (are_without t fs) parts.1 in
       fields_spared t b inner.1 ∙ spared t a (other_item (is_struct s) name x.tag t named parts.0) inner.0
+  fields_spared t (any_items_agree are) free = refl
 
 -- what stays known after an item of this tag and form
 abbrev pub left : List Known → ℕ → Form → List Known

@@ -13,6 +13,9 @@ pub mod DataTexts
 pub mod OneTree
 pub mod Returns
 pub mod Contents
+pub mod AnyItems
+mod Results
+pub mod KeptLemmas
 pub mod Agreeing
 pub mod Equal
 pub mod WorkedAgreements

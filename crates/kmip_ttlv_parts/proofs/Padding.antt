@@ -1,13 +1,15 @@
 -- Items that are the same but for padding are decoded alike.
-use Rattle.std.proofs.Common.{◌≡◌, ℕ, Bool, true, List, [], ◌∷◌, ◌++◌, refl, sym, ap, subst, ◌∙◌}
-use Rattle.kmip_ttlv_types.specs.{declared.typ.TtlvType.TtlvType, declared.typ.TtlvType.TheVariants.Structure, Leaves.is_valid, Items.Raw, Items.Splits}
+use Rattle.std.proofs.Common.{◌≡◌, ℕ, suc, Bool, true, List, [], ◌∷◌, ◌++◌, refl, sym, ap, subst, ◌∙◌}
+use Rattle.kmip_ttlv_types.specs.{declared.typ.TtlvType.TtlvType, declared.typ.TtlvType.TheVariants.Structure, Digits.tag_text, Leaves.is_valid, Items.Raw}
+use Rattle.kmip_ttlv_types.specs.{Items.Splits}
 use Rattle.kmip_ttlv_base.specs.Forms.{Form, Fields, Variants, Content, Forms, enum}
-use Rattle.kmip_ttlv_base.specs.Values.{Value, Values, unit_variant_value}
+use Rattle.kmip_ttlv_base.specs.Values.{Value, Values, struct_value, unit_variant_value}
 use Rattle.kmip_ttlv_types.proofs.PlaceLemmas.{splits_one}
 use Rattle.kmip_ttlv_reader.specs.{TagValues.TagValue, Rules.choice}
 use Rattle.kmip_ttlv_reader.specs.Reads.{Reads, ReadsContent, ReadsField, ReadsFields, ReadsForms, ReadsRun, ReadsVariant, absent, by_number, by_rule, done}
 use Rattle.kmip_ttlv_reader.specs.Reads.{ends, here, inner, is_like, leaf, decoded_leaf, may_follow, may_ignore, more, named, names, next, no_part, number_text}
 use Rattle.kmip_ttlv_reader.specs.Reads.{part, parts, run, structure, there, whole, stored_after_leaf, wrap, wrap_some}
+use Rattle.kmip_ttlv_reader.specs.Reads.{AreAny, IsAny, any_leaf, any_structure, kept, leaf_under, no_item, one_item}
 use Rattle.kmip_ttlv_parts.specs.Padding.{AllSameButPadding, SameButPadding, both_go_on, both_end, equal_items, split_alike}
 
 -- the relation is reflexive and symmetric
@@ -80,6 +82,20 @@ parted {x = x} zs z (split_alike {xs = xs} {ys = ys} t u w a b s) =
 abbrev Leaves : (List Raw → Type 0) → List Raw → Type 0
 Leaves R ys = (left : List Raw) × R left × AllSameButPadding ys left
 
+-- items of any tags and types are read alike
+mutual
+  any_same : {d : ℕ} {h g : Raw} {v : Value} → IsAny d h v → SameButPadding h g → IsAny d g v
+  any_same (any_leaf {d = d} {h = h} plain valid full) q =
+      subst (λ (y : Raw). IsAny (suc d) y (leaf_under h.tag h.typ h.content)) (leaves_same valid q) (any_leaf plain valid full)
+  any_same {g = g} (any_structure {d = d} {zs = zs} {vs = vs} is splits are) q =
+      let p = parted zs splits q in
+      subst (λ n. IsAny (suc d) g (struct_value (tag_text n) vs)) (sym (tags_same q))
+      (any_structure (sym (types_same q) ∙ is) p.split (all_any_same are p.alike))
+
+  all_any_same : {d : ℕ} {xs ws : List Raw} {vs : Values} → AreAny d xs vs → AllSameButPadding xs ws → AreAny d ws vs
+  all_any_same no_item both_end = no_item
+  all_any_same (one_item i are) (both_go_on q qs) = one_item (any_same i q) (all_any_same are qs)
+
 -- what the rules read from items, they read from others that are the same but for padding
 mutual
   pub reads_same : {s : Form} {k k' : List TagValue} {xs ys : List Raw} {v : Value} → Reads s k xs v k' ys → {ws : List Raw} → AllSameButPadding xs ws
@@ -136,6 +152,7 @@ mutual
       → Leaves (λ (l : List Raw). ReadsFields fs k ws vs k' l) ys
   fields_same done {ws} a = (ws, done, a)
   fields_same (next r rs) a = let b = field_same r a in let c = fields_same rs b.2 in (c.0, next b.1 c.1, c.2)
+  fields_same (kept are) a = ([], kept (all_any_same are a), both_end)
 
   field_same : {name : List ℕ} {s : Form} {k k' : List TagValue} {xs ys : List Raw} {v : Value} → ReadsField name s k xs v k' ys → {ws : List Raw}
       → AllSameButPadding xs ws → Leaves (λ (l : List Raw). ReadsField name s k ws v k' l) ys

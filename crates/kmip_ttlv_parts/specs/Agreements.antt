@@ -1,10 +1,11 @@
 -- Which value is decoded if another was encoded: what the one is encoded as agrees with a form as the other.
-use Rattle.std.specs.Prelude.{◌≡◌, ℕ, zero, suc, ◌<◌, ◌^◌, Bool, true, false, ◌==◌, ◌&&◌, ◌||◌, List, ◌∷◌, [], ◌++◌}
+use Rattle.std.specs.Prelude.{◌≡◌, ℕ, zero, suc, ◌<◌, ◌^◌, ◌%◌, Bool, true, false, ◌==◌, ◌&&◌, ◌||◌, List, ◌∷◌, [], ◌++◌}
 use Rattle.std.specs.Prelude.{Option, Some, None}
 use Rattle.kmip_ttlv_types.specs.declared.typ.TtlvType.{TtlvType}
 use Rattle.kmip_ttlv_types.specs.declared.typ.TtlvType.TheVariants.{Structure, Integer, LongInteger, BigInteger}
 use Rattle.kmip_ttlv_types.specs.declared.typ.TtlvType.TheVariants.{Enumeration, Boolean, TextString, ByteString}
 use Rattle.kmip_ttlv_types.specs.declared.typ.TtlvType.TheVariants.{DateTime, Interval}
+use Rattle.kmip_ttlv_types.specs.Digits.{tag_text}
 use Rattle.kmip_ttlv_types.specs.ItemTypes.{code}
 use Rattle.kmip_ttlv_types.specs.Names.{number, transparent_name}
 use Rattle.kmip_ttlv_base.specs.Values.{Value, boolean_value, i8_value, i16_value, i32_value, u32_value, i64_value}
@@ -12,14 +13,15 @@ use Rattle.kmip_ttlv_base.specs.Values.{u64_value, date_time_value, interval_val
 use Rattle.kmip_ttlv_base.specs.Values.{none_value, some_value, seq_value, struct_value, newtype_value}
 use Rattle.kmip_ttlv_base.specs.Values.{unit_variant_value, newtype_variant_value, tuple_variant_value, Values}
 use Rattle.kmip_ttlv_base.specs.Values.{no_values, value}
-use Rattle.kmip_ttlv_base.specs.Forms.{Form, struct, option, seq, newtype, enum, text, any_number, Fields, no_fields}
+use Rattle.kmip_ttlv_base.specs.Tags.{wrapper_name}
+use Rattle.kmip_ttlv_base.specs.Forms.{Form, struct, option, seq, newtype, enum, text, any_number, Fields, no_fields, any_items}
 use Rattle.kmip_ttlv_base.specs.Forms.{field, Variants, variant, Content, wrapped, tuple, Forms, no_forms, form}
 use Rattle.kmip_ttlv_ser.specs.declared.pending.PendingTag.{PendingTag}
 use Rattle.kmip_ttlv_ser.specs.declared.pending.PendingTag.TheVariants.{Nothing, Plain}
 use Rattle.kmip_ttlv_ser.specs.WrittenItems.{take_tag, pending_tag, pending_after, is_wrapper, without_override}
 use Rattle.kmip_ttlv_reader.specs.TagValues.{TagValue}
 use Rattle.kmip_ttlv_reader.specs.Rules.{choice, chosen}
-use Rattle.kmip_ttlv_reader.specs.Reads.{has_tag, is_struct}
+use Rattle.kmip_ttlv_reader.specs.Reads.{form_of_type, has_tag, is_struct, most_levels}
 use Rattle.kmip_ttlv_parts.specs.Returns.{ComesBack, NamesUnit, text_of_number}
 
 -- the tag and the type that an item begins with
@@ -137,6 +139,30 @@ pub data HasVariant : Variants → ℕ → List ℕ → Content → Type 0 where
       → HasVariant (variant other d vs) (suc i) name c
 
 mutual
+  -- an item of any tag and type, of so many levels at most, whose value is encoded as an item of this head and read as
+  -- itself: a leaf in its wrapper, or a structure of such items
+  pub data IsItem : (levels : ℕ) → Value → Head → Type 0 where
+    is_leaf :
+        {d t : ℕ} {v : Value}
+        → t % 2 ^ 24 ≡ t
+        → ComesBack (form_of_type (leaf_type v)) v v
+        → IsItem (suc d) (newtype_value (wrapper_name t) v) record { tag = t; typ = leaf_type v }
+    is_structure :
+        {d t : ℕ} {vs : Values} {y : Option Head}
+        → t % 2 ^ 24 ≡ t
+        → AreItems d vs y
+        → IsItem (suc d) (struct_value (tag_text t) vs) record { tag = t; typ = Structure }
+
+  -- such items one after the other, the first of this head, if there are any
+  pub data AreItems : (levels : ℕ) → Values → Option Head → Type 0 where
+    are_none : {d : ℕ} → AreItems d no_values None
+    are_more :
+        {d : ℕ} {v : Value} {vs : Values} {x : Head} {y : Option Head}
+        → IsItem d v x
+        → AreItems d vs y
+        → AreItems d (value v vs) (Some x)
+
+mutual
   -- With these texts stored before and those after: under the pending tag the value is encoded as items, the first of
   -- this head, from which the form reads the other value.
   pub data Agrees : Form → List TagValue → PendingTag → Value → Head → Value → List TagValue → Type 0 where
@@ -235,6 +261,8 @@ mutual
         → Agrees s k Nothing w x v k'
         → FieldsAgree fs k' ws y vs k''
         → FieldsAgree (field name s fs) k (value w ws) (Some x) (value v vs) k''
+    -- items of any tags and types agree with themselves
+    any_items_agree : {k : List TagValue} {vs : Values} {y : Option Head} → AreItems most_levels vs y → FieldsAgree any_items k vs y vs k
 
   -- the values, in order, agree with the forms; of their items, if there are any, the first has this head
   pub data FormsAgree : Forms → List TagValue → Values → Option Head → Values → List TagValue → Type 0 where

@@ -53,3 +53,5 @@ pub mod Equal
 pub mod Rereads
 pub mod Boxes
 pub mod Enumerations
+pub mod Kept
+pub mod KeptItems

@@ -1,12 +1,15 @@
 //! An Enumeration of any number, as one type for all of them: each is this type at its own tag, with constants for the numbers
 //! that have a name.
 
+ghost use Rattle.std.specs.Prelude.{◌≡◌};
 ghost use Rattle.kmip_ttlv_parts.specs.Enumerations.{enumeration_value, IsEnumeration};
+ghost use Rattle.kmip_ttlv_parts.specs.Returns.{text_of_number};
 
 use crate::sound::Sound;
 use kmip_ttlv_base::parts;
 use kmip_ttlv_base::shape::Serialize;
 use kmip_ttlv_base::visit::{Leaf, Visitor};
+use kmip_ttlv_reader::number_text::NumberText;
 use std::alloc::AllocError;
 use std::fmt;
 
@@ -29,6 +32,15 @@ use std::fmt;
 pub struct Enumeration<const TAG: u32> {
     /// Its number.
     pub number: u32,
+}
+
+impl<const TAG: u32> Enumeration<TAG> {
+    /// Its number as the text by which a rule names it: `0x` and eight digits.
+    pub fn number_text(self) -> NumberText
+        ensures { result.digits ≡ text_of_number self.entry.number }
+    {
+        NumberText::new(&self.number.to_be_bytes())
+    }
 }
 
 /// Its number, as `0x` and eight digits.
