@@ -255,6 +255,14 @@ numbered_where number o None chooses = tt
 numbered_where number None (Some y) chooses = absurd chooses
 numbered_where number (Some z) (Some y) chooses = ap text_of_number chooses
 
+-- what is said of an Enumeration that may be absent is the text of its number
+pub texted_where : {H : Type 0} {t : ℕ} (C : List ℕ → H → Type 0) (o : Option (Enumeration t)) (p : Option H)
+    → IfSome p (λ y. IsSomeAnd o (λ z. C (text_of_number z.number) y))
+    → IfSome p (λ y. IsSomeAnd (option_map (λ z. text_of_number z.number) o) (λ text. C text y))
+texted_where C o None chooses = tt
+texted_where C None (Some y) chooses = absurd chooses
+texted_where C (Some z) (Some y) chooses = chooses
+
 -- ---- choices by the type of the item
 
 -- of a value that is chosen by the type of its item: what is written of it is read as its value if what it holds is sound

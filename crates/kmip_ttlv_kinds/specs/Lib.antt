@@ -1,4 +1,5 @@
 pub mod Choices
+pub mod KeptRules
 pub mod Laws
 pub mod Leaves
 pub mod Listed

@@ -2,8 +2,8 @@
 //! back by them.
 //!
 //! A structure implements [`Structure`], with a [`PartList`]: a tuple of up to four kinds, or [`Four`] of them with others behind. A kind is
-//! a count, [`One`], [`Maybe`], [`Several`] or [`Any`], of an element: another structure ([`Of`]) or a leaf of a type of Rust under a tag
-//! ([`LeafItem`]). [`Leaf`] is one leaf, [`MaybeLeaf`] one that may be absent.
+//! a count, [`One`], [`Maybe`], [`Several`] or [`Any`], of an element: another structure ([`Of`]), be it one that is kept with any items
+//! in it (`Kept`), or a leaf of a type of Rust under a tag ([`LeafItem`]). [`Leaf`] is one leaf, [`MaybeLeaf`] one that may be absent.
 //!
 //! ```
 //! #[derive(Clone, Copy, PartialEq)]
@@ -20,9 +20,11 @@
 #![tactic(auto)]
 
 mod choices;
+mod conversion;
 mod counts;
 mod elements;
 mod fields;
+mod kept;
 mod laws;
 mod leaves;
 mod listed;
@@ -32,6 +34,7 @@ mod structure;
 mod walks;
 
 pub use crate::choices::{Choice, MaybeOneOf, OneOf, is_choice_whole, read_choice};
+pub use crate::conversion::convert;
 pub use crate::counts::{Any, Maybe, One, Part, Several};
 pub use crate::elements::{Element, InBox, Inside, Leaf, LeafItem, MaybeLeaf, Of, Under};
 pub use crate::laws::{

@@ -2,11 +2,13 @@
 //! once, for both.
 
 ghost use Rattle.std.specs.Prelude.{◌↔◌, [], ◌∷◌, IsTrue, OnErr, OnOk};
+ghost use Rattle.kmip_ttlv_parts.specs.KeptItems.{values_kept};
 ghost use Rattle.kmip_ttlv_kinds.specs.Parts.{AreFour, AreThree, AreTwo, block, judging, told_item, told_parts, visiting};
 
 use crate::counts::Part;
 use crate::elements::Element;
 use kmip_ttlv_base::visit::Visitor;
+use kmip_ttlv_parts::Kept;
 use std::alloc::{AllocError, Allocator};
 use std::marker::PhantomData;
 
@@ -71,6 +73,11 @@ pub trait Walk<A: Allocator + Copy> {
     /// An item that a choice holds.
     fn item<E: Element<A>>(state: &mut Self::State, held: &E::Holds) -> Result<(), AllocError>
         ensures told { OnOk result (steps.Takes state.old (told_item E.rules held.now) state.new) }
+        ensures stopped { OnErr result (Stopped state.new) };
+
+    /// The items of a structure that is kept as it is.
+    fn kept(state: &mut Self::State, held: &Kept<A>) -> Result<(), AllocError>
+        ensures told { OnOk result (steps.Takes state.old (told_parts (values_kept held.now) (Unit {0})) state.new) }
         ensures stopped { OnErr result (Stopped state.new) };
 
     /// That what was told is sound only if this holds too: the rules choose what a structure holds, say.
@@ -145,6 +152,11 @@ impl<V: Visitor, A: Allocator + Copy> Walk<A> for Visits<V> {
     }
 
     #[inline(always)]
+    fn kept(state: &mut V, held: &Kept<A>) -> Result<(), AllocError> {
+        held.visit_items(state)
+    }
+
+    #[inline(always)]
     fn check<D: Decided>(_state: &mut V, _structure: &D) {}
 }
 
@@ -208,6 +220,11 @@ impl<A: Allocator + Copy> Walk<A> for Judges {
     #[inline(always)]
     fn item<E: Element<A>>(state: &mut bool, held: &E::Holds) -> Result<(), AllocError> {
         *state = *state && E::is_whole(held);
+        Ok(())
+    }
+
+    #[inline(always)]
+    fn kept(_state: &mut bool, _held: &Kept<A>) -> Result<(), AllocError> {
         Ok(())
     }
 

@@ -27,5 +27,5 @@ returns g c =
     let read = rw (c.tag_at-owner.ensures, c.new-cursor.ensures) at c.in-Err.ensures.read in
     record {
       step = rw (first_is c.args.tag g.L.PartList.fields c.args.closed c.args.bytes.now, opens)
-          (failure_then (within (tag_at c.args.bytes.now 0) all) _ c.within.result (rw c.tag_at-owner.ensures at (c.within.ensures all read)));
+          (failure_then (within (tag_at c.args.bytes.now 0) all) _ c.within.result (rw c.tag_at-owner.ensures at (c.within.ensures.list all read)));
     }

@@ -14,4 +14,4 @@ returns-in-Err-clause-read g c =
     let all = all_outcome g.L.PartList.fields c.args.closed (fields_outcome g.L.PartList.fields) b (tag_at b pos) c.args.cursor.now.stored
     (pos + 8) c.in_ok-end.end in
     let read = rw (c.tag_at-owner.ensures, c.go_to.ensures, c.pos-pos.ensures) at c.in-Err.ensures.read in
-    rw opens (failure_then (within (tag_at b pos) all) _ c.within.result (rw (c.tag_at-owner.ensures, c.pos-pos.ensures) at (c.within.ensures all read)))
+    rw opens (failure_then (within (tag_at b pos) all) _ c.within.result (rw (c.tag_at-owner.ensures, c.pos-pos.ensures) at (c.within.ensures.list all read)))
