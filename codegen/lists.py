@@ -11,7 +11,7 @@ RUST_NAMES = {
     "kmip_ttlv::error": "Error",
     "kmip_ttlv_kinds": "Alone Any Choice Decided Element Four FromParts Holds InBox Inside Leaf LeafItem Listed ListedItem Maybe MaybeLeaf MaybeOneOf Of One OneOf"
     " PartList Several Structure Under Walk Wrapper decode_structure is_structure_whole read_choice read_structure structures_come_back visit_structure",
-    "kmip_ttlv_parts": "Boxed Enumeration",
+    "kmip_ttlv_parts": "Boxed Enumeration Kept",
     "kmip_ttlv_parts::laws": "Message Sound is_none_of",
     "kmip_ttlv_parts::reader": "BigNumber Cursor DateTime Interval RuleParts Scope Step",
     "kmip_ttlv_parts::shape": "Decode Serialize",
@@ -29,7 +29,7 @@ GHOST_NAMES = {
     "Rattle.kmip_ttlv_parts.specs.Returns": "IsNoneOf text_of_number",
     "Rattle.kmip_ttlv_parts.specs.Values": "unit_variant_value",
     "Rattle.kmip_ttlv_kinds.specs.Parts": "all_enough structure structure_where",
-    "Rattle.kmip_ttlv_kinds.specs.Choices": "held held_choice numbered_where",
+    "Rattle.kmip_ttlv_kinds.specs.Choices": "held held_choice numbered_where texted_where",
     "Rattle.kmip_ttlv_parts.specs.MessageParts": "there",
 }
 
@@ -453,7 +453,7 @@ class Writer:
 
     def relation(self, found):
         part, decider = found.part, found.decider
-        if decider.is_open:
+        if part.type.is_by_numbers:
             chosen = lambda z, y: f"{z}.number ≡ {part.type.snake}_chosen_by {y}"
         else:
             chosen = lambda z, y: f"Chooses{part.type.name} {decider.said(z)} {y}"
@@ -472,8 +472,9 @@ class Writer:
                 continue
             known = "d" if len(says) == 1 else f"d.{place}"
             place += 1
-            if not found.decider.is_open:
-                terms.append(known)
+            if not found.part.type.is_by_numbers:
+                is_maybe = found.decider.count == "optional"
+                terms.append(f"texted_where Chooses{found.part.type.name} x.{found.decider.name} x.{found.part.name} {known}" if is_maybe else known)
             elif found.part.count == "one" and found.decider.count == "one":
                 terms.append(f"ap text_of_number {known}")
             else:

@@ -55,7 +55,7 @@ LEAVES = {
 
 # Names that a type can't have, since written files have them in another sense: the parameters of types, and imports.
 TYPE_NAMES = set(
-    "A W AllocError Allocator Box Boxed Clone Copy Debug Drop Enumeration Eq Err Global None Ok Option PartialEq Result Self Some String"
+    "A W AllocError Allocator Box Boxed Clone Copy Debug Drop Enumeration Eq Err Global Kept None Ok Option PartialEq Result Self Some String"
     " TheVariants Type Vec types".split()
 )
 
@@ -152,10 +152,12 @@ class Part:
             return f"(text_of_number {at}.number)" if self.is_open else f"({self.type.snake}_number {at})"
         return ""
 
-    def text_in_code(self, at):
-        """The text, or the number, by which it chooses, in code, of what stands at a place."""
+    def text_in_code(self, at, chosen):
+        """The text, or the number, by which it chooses among the variants of a choice, in code, of what stands at a place."""
+        if chosen.is_by_numbers:
+            return f"{at}.number"
         if self.type and self.type.is_enumeration:
-            return f"{at}.number" if self.is_open else f"{at}.number_text()"
+            return f"{at}.number_text(){'.as_str()' * self.is_open}"
         return f"{at}.as_str()"
 
 
@@ -172,13 +174,13 @@ class Chosen:
 
     def test_at(self, at, said):
         """What decides that, in code, of what stands at a place, and of what the decider says."""
-        return f"{at}.chosen_by() == {said}" if self.decider.is_open else f"{at}.is_chosen_by({said})"
+        return f"{at}.chosen_by() == {said}" if self.part.type.is_by_numbers else f"{at}.is_chosen_by({said})"
 
     @property
     def body(self):
         """The lines of the function that decides it."""
         own, other = f"self.{self.part.name}", f"self.{self.decider.name}"
-        there, said = self.decider.text_in_code(other), self.decider.text_in_code("said")
+        there, said = (self.decider.text_in_code(at, self.part.type) for at in (other, "said"))
         if self.is_simple:
             return [self.test_at(own, there)]
         if self.part.count == "one":
@@ -310,6 +312,7 @@ class Type:
     one_ofs: list = field(default_factory=list)
     is_broken: bool = False  # whether something is wrong with its rows
     is_by_listed: bool = False  # of a choice, whether the text of a closed Enumeration chooses
+    is_kept: bool = False  # whether it is the library's structure that is kept as it is
 
     @property
     def is_open(self):
@@ -340,7 +343,7 @@ class Type:
     @property
     def owns(self):
         chosen = [found for variant in self.variants for found in (variant.type, variant.leaf) if found]
-        return any(part.owns for part in self.parts) or any(found.owns for found in chosen)
+        return self.is_kept or any(part.owns for part in self.parts) or any(found.owns for found in chosen)
 
     @property
     def given(self):
@@ -375,8 +378,13 @@ class Type:
     @property
     def is_by_numbers(self):
         """Whether each of its rules names numbers of an Enumeration."""
+        return self.names_numbers and not self.typed
+
+    @property
+    def names_numbers(self):
+        """Whether each of its rules on texts names numbers of an open Enumeration."""
         texts = [text for variant in self.named for text in variant.rule_parts[1]]
-        return bool(self.rule_tag) and not self.typed and not self.is_by_listed and all(re.fullmatch("0x[0-9A-F]{8}", text) for text in texts)
+        return bool(self.rule_tag) and not self.is_by_listed and all(re.fullmatch("0x[0-9A-F]{8}", text) for text in texts)
 
     @property
     def is_by_types(self):
@@ -399,7 +407,7 @@ class Type:
         if len(found) != 1 or before[found[0]].is_sequence or not before[found[0]].said("x"):
             return None
         decider = before[found[0]]
-        if decider.is_open != chosen.type.is_by_numbers or decider.count == "optional" and not decider.is_open:
+        if decider.is_open != chosen.type.names_numbers or decider.count == "optional" and not decider.is_open:
             return None
         return None if any(part.keeps(decider.tag) for part in before[found[0] + 1 :]) else decider
 
@@ -654,12 +662,15 @@ class Reader:
             count = "any"
         boxed = bool(words.next_is("boxed"))
         word = words.word("the part's kind or type")
-        if boxed and word in (*LEAVES, "constant"):
+        if boxed and word in (*LEAVES, "constant", "kept"):
             raise Bad(BOXED)
         if word in LEAVES:
             return Part(name, "leaf", words.tag(), words.description(), count, leaf=LEAVES[word])
         if word == "constant":
             return Part(name, "constant", words.tag(), "", count, number=words.number())
+        if word == "kept":
+            kept = self.kept(words.tag())
+            return Part(name, "type", kept.tag, words.description(), count, type=kept)
         found = self.known_type(owner, word)
         return Part(name, "type", found.tag, words.description(), count, type=found, is_boxed=boxed)
 
@@ -681,6 +692,10 @@ class Reader:
         if name in METHODS or name in [other.name for other in owner.parts]:
             raise Bad(f"'{name}' is a part or a field of this type already, or has another sense in its code")
         owner.one_ofs.append(OneOf(name, doc, found, parts, owner))
+
+    def kept(self, tag):
+        """The library's structure that is kept as it is, under a tag."""
+        return Type("structure", "Kept", self.line, Module("kmip_ttlv_parts", "kept"), own_tag=tag, is_kept=True)
 
     def known_type(self, owner, word):
         found = self.type_called(word)
@@ -745,6 +760,8 @@ class Reader:
             variant.tag, variant.number = owner.own_tag, words.number()
         elif word in LEAVES and not owner.is_plain:
             variant.tag, variant.leaf = owner.own_tag, LEAVES[word]
+        elif word == "kept" and owner.tag:
+            variant.tag, variant.type = owner.tag, self.kept(owner.tag)
         else:
             found = self.type_called(word)
             if not found or found is owner or found.kind in ("group", "message", "enumeration"):
