@@ -37,6 +37,23 @@ use Rattle.kmip_attributes.specs.declared.structures.UsageLimits.{UsageLimits}
 use Rattle.kmip_attributes.specs.declared.structures.RevocationReason.{RevocationReason}
 use Rattle.kmip_attributes.specs.declared.structures.Link.{Link}
 use Rattle.kmip_attributes.specs.declared.structures.ApplicationSpecificInformation.{ApplicationSpecificInformation}
+use Rattle.kmip_ttlv_parts.specs.declared.kept.Kept.{Kept}
+
+-- the texts of 42000A that choose a variant of a `AttributeStructure` whatever the type of its item is
+abbrev pub attribute_structure_names : List (List ℕ)
+attribute_structure_names =
+    codes "Name" ∷
+    codes "Cryptographic Parameters" ∷
+    codes "Cryptographic Domain Parameters" ∷
+    codes "Certificate Identifier" ∷
+    codes "Certificate Subject" ∷
+    codes "Certificate Issuer" ∷
+    codes "Digest" ∷
+    codes "Usage Limits" ∷
+    codes "Revocation Reason" ∷
+    codes "Link" ∷
+    codes "Application Specific Information" ∷
+    []
 
 -- what is said, if it is the text of 42000A, chooses what is in a `AttributeStructure`
 abbrev pub ChoosesAttributeStructure : {A : Type 0} → List ℕ → AttributeStructure A → Type 0
@@ -51,6 +68,7 @@ ChoosesAttributeStructure said (attribute_structure.UsageLimits x) = (said ≡ c
 ChoosesAttributeStructure said (attribute_structure.RevocationReason x) = (said ≡ codes "Revocation Reason")
 ChoosesAttributeStructure said (attribute_structure.Link x) = (said ≡ codes "Link")
 ChoosesAttributeStructure said (attribute_structure.ApplicationSpecificInformation x) = (said ≡ codes "Application Specific Information")
+ChoosesAttributeStructure said (attribute_structure.Other x) = IsNoneOf said attribute_structure_names
 
 -- what each thing means that a `AttributeStructure` may hold
 pub record AttributeStructureCases (A : Type 0) : Type 1 where
@@ -65,6 +83,7 @@ pub record AttributeStructureCases (A : Type 0) : Type 1 where
   pub revocation_reason : RevocationReason A → Meaning
   pub link : Link A → Meaning
   pub application_specific_information : ApplicationSpecificInformation A → Meaning
+  pub other : Kept A → Meaning
 
 -- what it means
 unfoldable pub attribute_structure_by : {A : Type 0} → AttributeStructureCases A → AttributeStructure A → Meaning
@@ -79,6 +98,7 @@ attribute_structure_by f (attribute_structure.UsageLimits x) = f.usage_limits x
 attribute_structure_by f (attribute_structure.RevocationReason x) = f.revocation_reason x
 attribute_structure_by f (attribute_structure.Link x) = f.link x
 attribute_structure_by f (attribute_structure.ApplicationSpecificInformation x) = f.application_specific_information x
+attribute_structure_by f (attribute_structure.Other x) = f.other x
 
 -- what a `AttributeStructure` may hold
 pub record AttributeStructureItems (A : Type 0) (eq : AttributeStructure A → AttributeStructure A → Boole) : Type 1 where
@@ -93,6 +113,7 @@ pub record AttributeStructureItems (A : Type 0) (eq : AttributeStructure A → A
   pub revocation_reason : Held 0x42000B types.Structure attribute_structure.RevocationReason eq
   pub link : Held 0x42000B types.Structure attribute_structure.Link eq
   pub application_specific_information : Held 0x42000B types.Structure attribute_structure.ApplicationSpecificInformation eq
+  pub other : Held 0x42000B types.Structure attribute_structure.Other eq
 
 -- its variants, by their rules
 abbrev pub attribute_structure_variants : {A : Type 0} {eq : AttributeStructure A → AttributeStructure A → Boole} → AttributeStructureItems A eq → Variants
@@ -107,7 +128,8 @@ attribute_structure_variants i =
     variant (codes "if 0x42000A==Usage Limits") (wrapped i.usage_limits.form) (
     variant (codes "if 0x42000A==Revocation Reason") (wrapped i.revocation_reason.form) (
     variant (codes "if 0x42000A==Link") (wrapped i.link.form) (
-    variant (codes "if 0x42000A==Application Specific Information") (wrapped i.application_specific_information.form) no_variants))))))))))
+    variant (codes "if 0x42000A==Application Specific Information") (wrapped i.application_specific_information.form) (
+    variant (codes "if type==Structure") (wrapped i.other.form) no_variants)))))))))))
 
 abbrev pub attribute_structure_cases : {A : Type 0} {eq : AttributeStructure A → AttributeStructure A → Boole} → AttributeStructureItems A eq → AttributeStructureCases A
 attribute_structure_cases i = record {
@@ -122,7 +144,29 @@ attribute_structure_cases i = record {
   revocation_reason = as_item (codes "structure") (codes "if 0x42000A==Revocation Reason") i.revocation_reason;
   link = as_item (codes "structure") (codes "if 0x42000A==Link") i.link;
   application_specific_information = as_item (codes "structure") (codes "if 0x42000A==Application Specific Information") i.application_specific_information;
+  other = as_item (codes "structure") (codes "if type==Structure") i.other;
 }
+
+-- where what is said is none of the names, the type of the item chooses
+attribute_structure_unnamed : {A : Type 0} {eq : AttributeStructure A → AttributeStructure A → Boole} (i : AttributeStructureItems A eq) (said : List ℕ) (k : List TagValue) (typ : TtlvType) (n : ℕ)
+    → IsNoneOf said attribute_structure_names → last k 0x42000A ≡ Some said
+    → choice (variant (codes "if type==Structure") (wrapped i.other.form) no_variants) k typ ≡ chosen n
+    → choice (attribute_structure_variants i) k typ ≡ past 1 (past 1 (past 1 (past 1 (past 1 (past 1 (past 1 (past 1 (past 1 (past 1 (past 1 (chosen n)))))))))))
+unfolding tag_of number rule sides equal at_least member in_brackets trim_end chars trim_start encode
+attribute_structure_unnamed i said k typ n none found e =
+    let n0 = not_first said (codes "Name") (codes "Cryptographic Parameters" ∷ codes "Cryptographic Domain Parameters" ∷ codes "Certificate Identifier" ∷ codes "Certificate Subject" ∷ codes "Certificate Issuer" ∷ codes "Digest" ∷ codes "Usage Limits" ∷ codes "Revocation Reason" ∷ codes "Link" ∷ codes "Application Specific Information" ∷ []) none in
+    let n1 = not_first said (codes "Cryptographic Parameters") (codes "Cryptographic Domain Parameters" ∷ codes "Certificate Identifier" ∷ codes "Certificate Subject" ∷ codes "Certificate Issuer" ∷ codes "Digest" ∷ codes "Usage Limits" ∷ codes "Revocation Reason" ∷ codes "Link" ∷ codes "Application Specific Information" ∷ []) n0.1 in
+    let n2 = not_first said (codes "Cryptographic Domain Parameters") (codes "Certificate Identifier" ∷ codes "Certificate Subject" ∷ codes "Certificate Issuer" ∷ codes "Digest" ∷ codes "Usage Limits" ∷ codes "Revocation Reason" ∷ codes "Link" ∷ codes "Application Specific Information" ∷ []) n1.1 in
+    let n3 = not_first said (codes "Certificate Identifier") (codes "Certificate Subject" ∷ codes "Certificate Issuer" ∷ codes "Digest" ∷ codes "Usage Limits" ∷ codes "Revocation Reason" ∷ codes "Link" ∷ codes "Application Specific Information" ∷ []) n2.1 in
+    let n4 = not_first said (codes "Certificate Subject") (codes "Certificate Issuer" ∷ codes "Digest" ∷ codes "Usage Limits" ∷ codes "Revocation Reason" ∷ codes "Link" ∷ codes "Application Specific Information" ∷ []) n3.1 in
+    let n5 = not_first said (codes "Certificate Issuer") (codes "Digest" ∷ codes "Usage Limits" ∷ codes "Revocation Reason" ∷ codes "Link" ∷ codes "Application Specific Information" ∷ []) n4.1 in
+    let n6 = not_first said (codes "Digest") (codes "Usage Limits" ∷ codes "Revocation Reason" ∷ codes "Link" ∷ codes "Application Specific Information" ∷ []) n5.1 in
+    let n7 = not_first said (codes "Usage Limits") (codes "Revocation Reason" ∷ codes "Link" ∷ codes "Application Specific Information" ∷ []) n6.1 in
+    let n8 = not_first said (codes "Revocation Reason") (codes "Link" ∷ codes "Application Specific Information" ∷ []) n7.1 in
+    let n9 = not_first said (codes "Link") (codes "Application Specific Information" ∷ []) n8.1 in
+    let n10 = not_first said (codes "Application Specific Information") ([]) n9.1 in
+    rw (found, n0.0, n1.0, n2.0, n3.0, n4.0, n5.0, n6.0, n7.0, n8.0, n9.0, n10.0)
+    (ap (λ c. past 1 (past 1 (past 1 (past 1 (past 1 (past 1 (past 1 (past 1 (past 1 (past 1 (past 1 (c)))))))))))) e)
 
 pub attribute_structure_case : {A : Type 0} {eq : AttributeStructure A → AttributeStructure A → Boole} (i : AttributeStructureItems A eq) (x : AttributeStructure A)
     → Case 0x42000B 0x42000A types.Structure (enum (codes "structure") (attribute_structure_variants i)) (λ said. ChoosesAttributeStructure said x) (attribute_structure_by (attribute_structure_cases i) x)
@@ -138,6 +182,7 @@ attribute_structure_case i (attribute_structure.UsageLimits x) = case_of i.usage
 attribute_structure_case i (attribute_structure.RevocationReason x) = case_of i.revocation_reason x (later_variant (later_variant (later_variant (later_variant (later_variant (later_variant (later_variant (later_variant first_variant)))))))) (λ said chooses k found. rw (found ∙ ap Some chooses) refl)
 attribute_structure_case i (attribute_structure.Link x) = case_of i.link x (later_variant (later_variant (later_variant (later_variant (later_variant (later_variant (later_variant (later_variant (later_variant first_variant))))))))) (λ said chooses k found. rw (found ∙ ap Some chooses) refl)
 attribute_structure_case i (attribute_structure.ApplicationSpecificInformation x) = case_of i.application_specific_information x (later_variant (later_variant (later_variant (later_variant (later_variant (later_variant (later_variant (later_variant (later_variant (later_variant first_variant)))))))))) (λ said chooses k found. rw (found ∙ ap Some chooses) refl)
+attribute_structure_case i (attribute_structure.Other x) = case_of i.other x (later_variant (later_variant (later_variant (later_variant (later_variant (later_variant (later_variant (later_variant (later_variant (later_variant (later_variant first_variant))))))))))) (λ said none k found. attribute_structure_unnamed i said k types.Structure 0 none found refl)
 
 pub attribute_structure_same : {A : Type 0} {eq : AttributeStructure A → AttributeStructure A → Boole} (i : AttributeStructureItems A eq) (x y : AttributeStructure A)
     → (attribute_structure_by (attribute_structure_cases i) x).value ≡ (attribute_structure_by (attribute_structure_cases i) y).value
@@ -154,6 +199,7 @@ attribute_structure_same i (attribute_structure.UsageLimits x) (attribute_struct
 attribute_structure_same i (attribute_structure.RevocationReason x) (attribute_structure.RevocationReason y) e = i.revocation_reason.same x y (i.revocation_reason.rules.same x y (in_variant e))
 attribute_structure_same i (attribute_structure.Link x) (attribute_structure.Link y) e = i.link.same x y (i.link.rules.same x y (in_variant e))
 attribute_structure_same i (attribute_structure.ApplicationSpecificInformation x) (attribute_structure.ApplicationSpecificInformation y) e = i.application_specific_information.same x y (i.application_specific_information.rules.same x y (in_variant e))
+attribute_structure_same i (attribute_structure.Other x) (attribute_structure.Other y) e = i.other.same x y (i.other.rules.same x y (in_variant e))
 attribute_structure_same i x y e = absurd (apart e refl)
 
 -- the choice

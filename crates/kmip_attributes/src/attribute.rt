@@ -5,7 +5,7 @@ ghost use Rattle.std.specs.Prelude.{◌↔◌, ◌+◌, IsTrue, refl, string_byt
 ghost use Rattle.kmip_ttlv_parts.specs.Returns.{IsNoneOf};
 ghost use Rattle.kmip_ttlv_kinds.specs.Parts.{structure, structure_where};
 ghost use Rattle.kmip_ttlv_kinds.specs.Choices.{held, held_choice};
-ghost use Rattle.kmip_attributes.specs.Choices.{attribute_structure_choice, ChoosesAttributeStructure, attribute_value_choice, ChoosesAttributeValue, attribute_value_names};
+ghost use Rattle.kmip_attributes.specs.Choices.{attribute_structure_choice, ChoosesAttributeStructure, attribute_structure_names, attribute_value_choice, ChoosesAttributeValue, attribute_value_names};
 
 use crate::structures::{
     ApplicationSpecificInformation, CertificateIdentifier, CertificateIssuer, CertificateSubject,
@@ -17,10 +17,10 @@ use kmip_ttlv_kinds::{
     Choice, Decided, Element, FromParts, Holds, Leaf, LeafItem, MaybeLeaf, Of, OneOf, PartList,
     Structure, Under, Walk, read_choice, read_structure,
 };
-use kmip_ttlv_parts::Enumeration;
 use kmip_ttlv_parts::laws::is_none_of;
 use kmip_ttlv_parts::reader::{BigNumber, Cursor, DateTime, Interval, RuleParts, Scope, Step};
 use kmip_ttlv_parts::types::TtlvType;
+use kmip_ttlv_parts::{Enumeration, Kept};
 use std::alloc::{AllocError, Allocator, Global};
 
 /// What an attribute that is a structure says, by its name.
@@ -49,6 +49,30 @@ pub enum AttributeStructure<A: Allocator = Global> {
     Link(Link<A>),
     /// What an application keeps with an object.
     ApplicationSpecificInformation(ApplicationSpecificInformation<A>),
+    /// What an attribute of any other name says.
+    Other(Kept<A>),
+}
+
+// The texts that choose a variant, whatever the type of its item is.
+const ATTRIBUTE_STRUCTURE_NAMES: [&str; 11] = [
+    "Name",
+    "Cryptographic Parameters",
+    "Cryptographic Domain Parameters",
+    "Certificate Identifier",
+    "Certificate Subject",
+    "Certificate Issuer",
+    "Digest",
+    "Usage Limits",
+    "Revocation Reason",
+    "Link",
+    "Application Specific Information",
+];
+
+// Whether a text is none of these.
+fn is_no_attribute_structure(text: &str) -> bool
+    ensures { IsTrue result ↔ IsNoneOf text.now attribute_structure_names }
+{
+    is_none_of(text, &ATTRIBUTE_STRUCTURE_NAMES)
 }
 
 impl<A: Allocator> AttributeStructure<A> {
@@ -70,12 +94,13 @@ impl<A: Allocator> AttributeStructure<A> {
             AttributeStructure::Link(_) => text == "Link",
             AttributeStructure::ApplicationSpecificInformation(_) => text
                 == "Application Specific Information",
+            AttributeStructure::Other(_) => is_no_attribute_structure(text),
         }
     }
 }
 
 // The rules of the variants, in their order.
-const ATTRIBUTE_STRUCTURE_RULES: [RuleParts; 11] = [
+const ATTRIBUTE_STRUCTURE_RULES: [RuleParts; 12] = [
     RuleParts::Texts {
         tag: 0x42000A,
         texts: &["Name"],
@@ -120,6 +145,7 @@ const ATTRIBUTE_STRUCTURE_RULES: [RuleParts; 11] = [
         tag: 0x42000A,
         texts: &["Application Specific Information"],
     },
+    RuleParts::Type(TtlvType::Structure),
 ];
 
 impl<A: Allocator + Copy> Choice<A> for AttributeStructure<A> {
@@ -135,6 +161,7 @@ impl<A: Allocator + Copy> Choice<A> for AttributeStructure<A> {
       revocation_reason = held ⟦<Of<RevocationReason<A>, 0x42000B> as Element<A>>⟧.rules refl refl (λ x y e. e);
       link = held ⟦<Of<Link<A>, 0x42000B> as Element<A>>⟧.rules refl refl (λ x y e. e);
       application_specific_information = held ⟦<Of<ApplicationSpecificInformation<A>, 0x42000B> as Element<A>>⟧.rules refl refl (λ x y e. e);
+      other = held ⟦<Of<Kept<A>, 0x42000B> as Element<A>>⟧.rules refl refl (λ x y e. e);
     } };
 
     #[tactic(auto, unfolding(kmip_ttlv_reader::specs::RuleParts::parts_of, kmip_ttlv_reader::specs::RuleParts::equal_sides))]
@@ -188,6 +215,9 @@ impl<A: Allocator + Copy> Choice<A> for AttributeStructure<A> {
                 ApplicationSpecificInformation<A>,
                 0x42000B,
             > as Element<A>>::read_one(scope, cursor)?)),
+            11 => Ok(AttributeStructure::Other(<Of<Kept<A>, 0x42000B> as Element<A>>::read_one(
+                scope, cursor,
+            )?)),
             _ => unreachable!(),
         }
     }
@@ -221,6 +251,7 @@ impl<A: Allocator + Copy> Choice<A> for AttributeStructure<A> {
             AttributeStructure::ApplicationSpecificInformation(inner) => W::item::<
                 Of<ApplicationSpecificInformation<A>, 0x42000B>,
             >(state, inner),
+            AttributeStructure::Other(inner) => W::item::<Of<Kept<A>, 0x42000B>>(state, inner),
         }
     }
 }

@@ -5,12 +5,13 @@ ghost use Rattle.std.specs.Prelude.{refl, true};
 ghost use Rattle.kmip_ttlv_kinds.specs.Parts.{structure};
 
 use crate::values::{
-    BlockCipherMode, HashingAlgorithm, KeyFormatType, KeyRoleType, LinkType, NameType,
-    PaddingMethod, RecommendedCurve, RevocationReasonCode, State, UsageLimitsUnit,
+    BlockCipherMode, CryptographicAlgorithm, HashingAlgorithm, KeyFormatType, KeyRoleType,
+    LinkType, NameType, PaddingMethod, RecommendedCurve, RevocationReasonCode, State,
+    UsageLimitsUnit,
 };
 use kmip_ttlv_kinds::{
-    Any, FromParts, Holds, Leaf, LeafItem, Maybe, MaybeLeaf, One, PartList, Structure, Walk,
-    read_structure,
+    Alone, Any, Four, FromParts, Holds, Leaf, LeafItem, Maybe, MaybeLeaf, One, PartList, Structure,
+    Walk, read_structure,
 };
 use kmip_ttlv_parts::reader::{Cursor, Scope, Step};
 use std::alloc::{AllocError, Allocator, Global};
@@ -58,29 +59,95 @@ pub struct CryptographicParameters {
     pub hashing_algorithm: Option<HashingAlgorithm>,
     /// What the key is for.
     pub key_role_type: Option<KeyRoleType>,
+    /// What signs with it (KMIP 1.2).
+    pub digital_signature_algorithm: Option<u32>,
+    /// What it is for (KMIP 1.2).
+    pub cryptographic_algorithm: Option<CryptographicAlgorithm>,
+    /// Whether the server makes the initialization vector (KMIP 1.2).
+    pub random_iv: Option<bool>,
+    /// How long that is, in bits (KMIP 1.2).
+    pub iv_length: Option<i32>,
+    /// How long the authentication tag is, in bytes (KMIP 1.2).
+    pub tag_length: Option<i32>,
+    /// How long the fixed field of a counter is, in bits (KMIP 1.2).
+    pub fixed_field_length: Option<i32>,
+    /// How long its invocation field is, in bits (KMIP 1.2).
+    pub invocation_field_length: Option<i32>,
+    /// How long the counter is, in bits (KMIP 1.2).
+    pub counter_length: Option<i32>,
+    /// What the counter begins with (KMIP 1.2).
+    pub initial_counter_value: Option<i32>,
 }
 
-type CryptographicParametersParts = (
+type CryptographicParametersFirst = (
     Maybe<BlockCipherMode, 0x420011>,
     Maybe<PaddingMethod, 0x42005F>,
     Maybe<HashingAlgorithm, 0x420038>,
     Maybe<KeyRoleType, 0x420083>,
 );
 
+type CryptographicParametersSecond = (
+    MaybeLeaf<u32, 0x4200AE>,
+    Maybe<CryptographicAlgorithm, 0x420028>,
+    MaybeLeaf<bool, 0x4200C5>,
+    MaybeLeaf<i32, 0x4200CD>,
+);
+
+type CryptographicParametersThird = (
+    MaybeLeaf<i32, 0x4200CE>,
+    MaybeLeaf<i32, 0x4200CF>,
+    MaybeLeaf<i32, 0x4200D2>,
+    MaybeLeaf<i32, 0x4200D0>,
+);
+
+type CryptographicParametersFourth = Alone<MaybeLeaf<i32, 0x4200D1>>;
+
+type CryptographicParametersParts = Four<
+    CryptographicParametersFirst,
+    Four<
+        CryptographicParametersSecond,
+        Four<CryptographicParametersThird, CryptographicParametersFourth>,
+    >,
+>;
+
 impl<A: Allocator + Copy> FromParts<A, CryptographicParametersParts> for CryptographicParameters {
-    ghost parts = { λ x. (x.block_cipher_mode, x.padding_method, x.hashing_algorithm, x.key_role_type) };
+    ghost parts = { λ x. (x.block_cipher_mode, x.padding_method, x.hashing_algorithm, x.key_role_type, (x.digital_signature_algorithm, x.cryptographic_algorithm, x.random_iv, x.iv_length, (x.tag_length, x.fixed_field_length, x.invocation_field_length, x.counter_length, x.initial_counter_value))) };
 
     fn from_parts(
-        (block_cipher_mode, padding_method, hashing_algorithm, key_role_type): Holds<
-            CryptographicParametersParts,
-            A,
-        >,
+        (
+            block_cipher_mode,
+            padding_method,
+            hashing_algorithm,
+            key_role_type,
+            (
+                digital_signature_algorithm,
+                cryptographic_algorithm,
+                random_iv,
+                iv_length,
+                (
+                    tag_length,
+                    fixed_field_length,
+                    invocation_field_length,
+                    counter_length,
+                    initial_counter_value,
+                ),
+            ),
+        ): Holds<CryptographicParametersParts, A>,
     ) -> Self {
         CryptographicParameters {
             block_cipher_mode,
             padding_method,
             hashing_algorithm,
             key_role_type,
+            digital_signature_algorithm,
+            cryptographic_algorithm,
+            random_iv,
+            iv_length,
+            tag_length,
+            fixed_field_length,
+            invocation_field_length,
+            counter_length,
+            initial_counter_value,
         }
     }
 }
@@ -104,7 +171,33 @@ impl<A: Allocator + Copy> Structure<A> for CryptographicParameters {
             &self.padding_method,
             &self.hashing_algorithm,
             &self.key_role_type,
-        )
+        )?;
+        W::four::<
+            MaybeLeaf<u32, 0x4200AE>,
+            Maybe<CryptographicAlgorithm, 0x420028>,
+            MaybeLeaf<bool, 0x4200C5>,
+            MaybeLeaf<i32, 0x4200CD>,
+        >(
+            state,
+            &self.digital_signature_algorithm,
+            &self.cryptographic_algorithm,
+            &self.random_iv,
+            &self.iv_length,
+        )?;
+        W::four::<
+            MaybeLeaf<i32, 0x4200CE>,
+            MaybeLeaf<i32, 0x4200CF>,
+            MaybeLeaf<i32, 0x4200D2>,
+            MaybeLeaf<i32, 0x4200D0>,
+        >(
+            state,
+            &self.tag_length,
+            &self.fixed_field_length,
+            &self.invocation_field_length,
+            &self.counter_length,
+        )?;
+        W::one::<MaybeLeaf<i32, 0x4200D1>>(state, &self.initial_counter_value)?;
+        Ok(())
     }
 }
 

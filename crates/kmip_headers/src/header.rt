@@ -1,19 +1,20 @@
 // Written by codegen from types.table: change that, and run codegen/codegen.
 //! What messages begin with (KMIP 1.0, section 6).
 
-ghost use Rattle.std.specs.Prelude.{◌≡◌, ◌+◌, false, refl, true};
-ghost use Rattle.std.proofs.Common.{ap};
-ghost use Rattle.kmip_ttlv_parts.specs.Returns.{text_of_number};
+ghost use Rattle.std.specs.Prelude.{◌↔◌, ◌+◌, IsTrue, refl, true};
+ghost use Rattle.kmip_ttlv_parts.specs.Returns.{IsNoneOf, text_of_number};
 ghost use Rattle.kmip_ttlv_kinds.specs.Parts.{structure, structure_where};
 ghost use Rattle.kmip_ttlv_kinds.specs.Choices.{held};
-ghost use Rattle.kmip_headers.specs.Choices.{credential_value_choice, credential_value_chosen_by};
+ghost use Rattle.kmip_headers.specs.Choices.{credential_value_choice, ChoosesCredentialValue, credential_value_names};
 
 use kmip_ttlv_kinds::{
     Alone, Choice, Decided, Element, Four, FromParts, Holds, Leaf, Maybe, MaybeLeaf, Of, One,
     OneOf, PartList, Several, Structure, Walk, read_structure,
 };
-use kmip_ttlv_parts::Enumeration;
+use kmip_ttlv_parts::laws::is_none_of;
 use kmip_ttlv_parts::reader::{Cursor, DateTime, RuleParts, Scope, Step};
+use kmip_ttlv_parts::types::TtlvType;
+use kmip_ttlv_parts::{Enumeration, Kept};
 use std::alloc::{AllocError, Allocator, Global};
 
 /// The version of the protocol (section 6.1).
@@ -188,22 +189,35 @@ pub enum CredentialValue<A: Allocator = Global> {
     UsernameAndPassword(UsernameAndPassword<A>),
     /// What a device knows of itself.
     Device(Device<A>),
+    /// What a credential of any other type says.
+    Other(Kept<A>),
+}
+
+// The texts that choose a variant, whatever the type of its item is.
+const CREDENTIAL_VALUE_NAMES: [&str; 2] = ["0x00000001", "0x00000002"];
+
+// Whether a text is none of these.
+fn is_no_credential_value(text: &str) -> bool
+    ensures { IsTrue result ↔ IsNoneOf text.now credential_value_names }
+{
+    is_none_of(text, &CREDENTIAL_VALUE_NAMES)
 }
 
 impl<A: Allocator> CredentialValue<A> {
-    /// The number that chooses it, of the Enumeration 0x420024.
-    pub fn chosen_by(&self) -> u32
-        ensures { result ≡ credential_value_chosen_by self.now }
+    /// Whether this text, if it is that of 0x420024, chooses it.
+    pub fn is_chosen_by(&self, text: &str) -> bool
+        ensures { IsTrue result ↔ ChoosesCredentialValue text.now self.now }
     {
         match self {
-            CredentialValue::UsernameAndPassword(_) => 0x00000001,
-            CredentialValue::Device(_) => 0x00000002,
+            CredentialValue::UsernameAndPassword(_) => text == "0x00000001",
+            CredentialValue::Device(_) => text == "0x00000002",
+            CredentialValue::Other(_) => is_no_credential_value(text),
         }
     }
 }
 
 // The rules of the variants, in their order.
-const CREDENTIAL_VALUE_RULES: [RuleParts; 2] = [
+const CREDENTIAL_VALUE_RULES: [RuleParts; 3] = [
     RuleParts::Texts {
         tag: 0x420024,
         texts: &["0x00000001"],
@@ -212,12 +226,14 @@ const CREDENTIAL_VALUE_RULES: [RuleParts; 2] = [
         tag: 0x420024,
         texts: &["0x00000002"],
     },
+    RuleParts::Type(TtlvType::Structure),
 ];
 
 impl<A: Allocator + Copy> Choice<A> for CredentialValue<A> {
     ghost chosen = { credential_value_choice ⟦<CredentialValue<A> as PartialEq>⟧.eq record {
       username_and_password = held ⟦<Of<UsernameAndPassword<A>, 0x420025> as Element<A>>⟧.rules refl refl (λ x y e. e);
       device = held ⟦<Of<Device<A>, 0x420025> as Element<A>>⟧.rules refl refl (λ x y e. e);
+      other = held ⟦<Of<Kept<A>, 0x420025> as Element<A>>⟧.rules refl refl (λ x y e. e);
     } };
 
     #[tactic(auto, unfolding(kmip_ttlv_reader::specs::RuleParts::parts_of, kmip_ttlv_reader::specs::RuleParts::equal_sides))]
@@ -238,6 +254,9 @@ impl<A: Allocator + Copy> Choice<A> for CredentialValue<A> {
             1 => Ok(CredentialValue::Device(<Of<Device<A>, 0x420025> as Element<A>>::read_one(
                 scope, cursor,
             )?)),
+            2 => Ok(CredentialValue::Other(<Of<Kept<A>, 0x420025> as Element<A>>::read_one(
+                scope, cursor,
+            )?)),
             _ => unreachable!(),
         }
     }
@@ -248,6 +267,7 @@ impl<A: Allocator + Copy> Choice<A> for CredentialValue<A> {
                 Of<UsernameAndPassword<A>, 0x420025>,
             >(state, inner),
             CredentialValue::Device(inner) => W::item::<Of<Device<A>, 0x420025>>(state, inner),
+            CredentialValue::Other(inner) => W::item::<Of<Kept<A>, 0x420025>>(state, inner),
         }
     }
 }
@@ -263,10 +283,11 @@ pub struct Credential<A: Allocator = Global> {
 }
 
 impl<A: Allocator> Decided for Credential<A> {
-    ghost IsDecided = { λ x. (x.credential_type.number ≡ credential_value_chosen_by x.credential_value) };
+    ghost IsDecided = { λ x. (ChoosesCredentialValue (text_of_number x.credential_type.number) x.credential_value) };
 
     fn is_decided(&self) -> bool {
-        self.credential_value.chosen_by() == self.credential_type.number
+        self.credential_value
+            .is_chosen_by(self.credential_type.number_text().as_str())
     }
 }
 
@@ -285,7 +306,7 @@ impl<A: Allocator + Copy> FromParts<A, CredentialParts<A>> for Credential<A> {
 
 impl<A: Allocator + Copy> Structure<A> for Credential<A> {
     ghost rules = { structure_where true ⟦<CredentialParts<A> as PartList<A>>⟧.rules ⟦<Credential<A> as FromParts<A, CredentialParts<A>>>⟧.parts refl
-        (λ x. (x.credential_type.number ≡ credential_value_chosen_by x.credential_value)) (λ x d. (tt, (ap text_of_number d))) ⟦<Credential<A> as PartialEq>⟧.eq (λ x y e. e) };
+        (λ x. (ChoosesCredentialValue (text_of_number x.credential_type.number) x.credential_value)) (λ x d. (tt, (d))) ⟦<Credential<A> as PartialEq>⟧.eq (λ x y e. e) };
 
     fn read<'b>(scope: &Scope<'b, A>, tag: u32, cursor: &mut Cursor<'b, A>) -> Step<Self, A> {
         read_structure::<CredentialParts<A>, Self, A>(scope, tag, true, cursor)
@@ -564,7 +585,7 @@ pub mod operation {
     pub const DISCOVER_VERSIONS: Operation = Operation { number: 0x0000001E };
 }
 
-/// What a vendor adds (section 6.16). Its Vendor Extension is ignored, and lost when it is encoded again.
+/// What a vendor adds (section 6.16).
 #[derive(Drop)]
 #[derive_where(PartialEq)]
 pub struct MessageExtension<A: Allocator = Global> {
@@ -572,35 +593,50 @@ pub struct MessageExtension<A: Allocator = Global> {
     pub vendor_identification: String<A>,
     /// Whether who doesn't know it has to refuse the item.
     pub criticality_indicator: bool,
+    /// What it is: any items.
+    pub vendor_extension: Option<Kept<A>>,
 }
 
-type MessageExtensionParts<A> = (Leaf<String<A>, 0x42009D>, Leaf<bool, 0x420026>);
+type MessageExtensionParts<A> = (
+    Leaf<String<A>, 0x42009D>,
+    Leaf<bool, 0x420026>,
+    Maybe<Of<Kept<A>, 0x42009C>, 0x42009C>,
+);
 
 impl<A: Allocator + Copy> FromParts<A, MessageExtensionParts<A>> for MessageExtension<A> {
-    ghost parts = { λ x. (x.vendor_identification, x.criticality_indicator) };
+    ghost parts = { λ x. (x.vendor_identification, x.criticality_indicator, x.vendor_extension) };
 
     fn from_parts(
-        (vendor_identification, criticality_indicator): Holds<MessageExtensionParts<A>, A>,
+        (vendor_identification, criticality_indicator, vendor_extension): Holds<
+            MessageExtensionParts<A>,
+            A,
+        >,
     ) -> Self {
         MessageExtension {
             vendor_identification,
             criticality_indicator,
+            vendor_extension,
         }
     }
 }
 
 impl<A: Allocator + Copy> Structure<A> for MessageExtension<A> {
-    ghost rules = { structure false ⟦<MessageExtensionParts<A> as PartList<A>>⟧.rules ⟦<MessageExtension<A> as FromParts<A, MessageExtensionParts<A>>>⟧.parts refl ⟦<MessageExtension<A> as PartialEq>⟧.eq (λ x y e. e) };
+    ghost rules = { structure true ⟦<MessageExtensionParts<A> as PartList<A>>⟧.rules ⟦<MessageExtension<A> as FromParts<A, MessageExtensionParts<A>>>⟧.parts refl ⟦<MessageExtension<A> as PartialEq>⟧.eq (λ x y e. e) };
 
     fn read<'b>(scope: &Scope<'b, A>, tag: u32, cursor: &mut Cursor<'b, A>) -> Step<Self, A> {
-        read_structure::<MessageExtensionParts<A>, Self, A>(scope, tag, false, cursor)
+        read_structure::<MessageExtensionParts<A>, Self, A>(scope, tag, true, cursor)
     }
 
     fn tell_parts<W: Walk<A>>(&self, state: &mut W::State) -> Result<(), AllocError> {
-        W::two::<Leaf<String<A>, 0x42009D>, Leaf<bool, 0x420026>>(
+        W::three::<
+            Leaf<String<A>, 0x42009D>,
+            Leaf<bool, 0x420026>,
+            Maybe<Of<Kept<A>, 0x42009C>, 0x42009C>,
+        >(
             state,
             &self.vendor_identification,
             &self.criticality_indicator,
+            &self.vendor_extension,
         )
     }
 }

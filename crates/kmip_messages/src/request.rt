@@ -2,10 +2,9 @@
 //! A request: what its items ask for (KMIP 1.0, section 7).
 
 ghost use Rattle.std.specs.Prelude.{◌≡◌, refl, true};
-ghost use Rattle.std.proofs.Common.{ap};
 ghost use Rattle.kmip_ttlv_parts.specs.Returns.{text_of_number};
 ghost use Rattle.kmip_ttlv_kinds.specs.Parts.{structure, structure_where};
-ghost use Rattle.kmip_requests.specs.Choices.{request_payload_chosen_by};
+ghost use Rattle.kmip_requests.specs.Choices.{ChoosesRequestPayload};
 
 use kmip_attributes::values::State;
 use kmip_headers::header::{MessageExtension, Operation, RequestHeader};
@@ -37,10 +36,11 @@ pub struct RequestItem<A: Allocator = Global> {
 }
 
 impl<A: Allocator> Decided for RequestItem<A> {
-    ghost IsDecided = { λ x. (x.operation.number ≡ request_payload_chosen_by x.payload) };
+    ghost IsDecided = { λ x. (ChoosesRequestPayload (text_of_number x.operation.number) x.payload) };
 
     fn is_decided(&self) -> bool {
-        self.payload.chosen_by() == self.operation.number
+        self.payload
+            .is_chosen_by(self.operation.number_text().as_str())
     }
 }
 
@@ -71,7 +71,7 @@ impl<A: Allocator + Copy> FromParts<A, RequestItemParts<A>> for RequestItem<A> {
 
 impl<A: Allocator + Copy> Structure<A> for RequestItem<A> {
     ghost rules = { structure_where true ⟦<RequestItemParts<A> as PartList<A>>⟧.rules ⟦<RequestItem<A> as FromParts<A, RequestItemParts<A>>>⟧.parts refl
-        (λ x. (x.operation.number ≡ request_payload_chosen_by x.payload)) (λ x d. (tt, (tt, (ap text_of_number d, (tt))))) ⟦<RequestItem<A> as PartialEq>⟧.eq (λ x y e. e) };
+        (λ x. (ChoosesRequestPayload (text_of_number x.operation.number) x.payload)) (λ x d. (tt, (tt, (d, (tt))))) ⟦<RequestItem<A> as PartialEq>⟧.eq (λ x y e. e) };
 
     fn read<'b>(scope: &Scope<'b, A>, tag: u32, cursor: &mut Cursor<'b, A>) -> Step<Self, A> {
         read_structure::<RequestItemParts<A>, Self, A>(scope, tag, true, cursor)

@@ -3,9 +3,10 @@
 
 ghost use Rattle.std.specs.Prelude.{◌≡◌, IfSome, refl, true};
 ghost use Rattle.std.specs.Option.{IsSomeAnd};
+ghost use Rattle.kmip_ttlv_parts.specs.Returns.{text_of_number};
 ghost use Rattle.kmip_ttlv_kinds.specs.Parts.{structure, structure_where};
-ghost use Rattle.kmip_ttlv_kinds.specs.Choices.{numbered_where};
-ghost use Rattle.kmip_responses.specs.Choices.{response_payload_chosen_by};
+ghost use Rattle.kmip_ttlv_kinds.specs.Choices.{texted_where};
+ghost use Rattle.kmip_responses.specs.Choices.{ChoosesResponsePayload};
 
 use kmip_attributes::values::State;
 use kmip_headers::header::{MessageExtension, Operation, ResponseHeader};
@@ -112,11 +113,11 @@ pub struct ResponseItem<A: Allocator = Global> {
 }
 
 impl<A: Allocator> Decided for ResponseItem<A> {
-    ghost IsDecided = { λ x. IfSome x.payload (λ y. IsSomeAnd x.operation (λ z. z.number ≡ response_payload_chosen_by y)) };
+    ghost IsDecided = { λ x. IfSome x.payload (λ y. IsSomeAnd x.operation (λ z. ChoosesResponsePayload (text_of_number z.number) y)) };
 
     fn is_decided(&self) -> bool {
         match (&self.operation, &self.payload) {
-            (Some(said), Some(inner)) => inner.chosen_by() == said.number,
+            (Some(said), Some(inner)) => inner.is_chosen_by(said.number_text().as_str()),
             (None, Some(_)) => false,
             (_, None) => true,
         }
@@ -166,7 +167,7 @@ impl<A: Allocator + Copy> FromParts<A, ResponseItemParts<A>> for ResponseItem<A>
 
 impl<A: Allocator + Copy> Structure<A> for ResponseItem<A> {
     ghost rules = { structure_where true ⟦<ResponseItemParts<A> as PartList<A>>⟧.rules ⟦<ResponseItem<A> as FromParts<A, ResponseItemParts<A>>>⟧.parts refl
-        (λ x. IfSome x.payload (λ y. IsSomeAnd x.operation (λ z. z.number ≡ response_payload_chosen_by y))) (λ x d. (tt, (tt, (tt, (tt, (tt, (tt, (numbered_where response_payload_chosen_by x.operation x.payload d, (tt))))))))) ⟦<ResponseItem<A> as PartialEq>⟧.eq (λ x y e. e) };
+        (λ x. IfSome x.payload (λ y. IsSomeAnd x.operation (λ z. ChoosesResponsePayload (text_of_number z.number) y))) (λ x d. (tt, (tt, (tt, (tt, (tt, (tt, (texted_where ChoosesResponsePayload x.operation x.payload d, (tt))))))))) ⟦<ResponseItem<A> as PartialEq>⟧.eq (λ x y e. e) };
 
     fn read<'b>(scope: &Scope<'b, A>, tag: u32, cursor: &mut Cursor<'b, A>) -> Step<Self, A> {
         read_structure::<ResponseItemParts<A>, Self, A>(scope, tag, true, cursor)

@@ -18,53 +18,53 @@ use Rattle.kmip_objects.specs.declared.key.KeyMaterial.{KeyMaterial}
 use Rattle.kmip_objects.specs.declared.key.KeyMaterial.TheVariants as key_material
 use Rattle.kmip_objects.specs.declared.key.KeyValue.{KeyValue}
 use Rattle.kmip_objects.specs.declared.key.KeyValue.TheVariants as key_value
-use Rattle.kmip_objects.specs.declared.key.TransparentSymmetricKey.{TransparentSymmetricKey}
+use Rattle.kmip_ttlv_parts.specs.declared.kept.Kept.{Kept}
 use Rattle.kmip_objects.specs.declared.key.PlainKeyValue.{PlainKeyValue}
 
 -- the type of the item of a `KeyMaterial`
 abbrev pub key_material_typ : {A : Type 0} → KeyMaterial A → TtlvType
 key_material_typ (key_material.Bytes x) = types.ByteString
-key_material_typ (key_material.TransparentSymmetricKey x) = types.Structure
+key_material_typ (key_material.Structure x) = types.Structure
 
 -- what each thing means that a `KeyMaterial` may hold
 pub record KeyMaterialCases (A : Type 0) : Type 1 where
   pub bytes : Vec ℕ A → Meaning
-  pub transparent_symmetric_key : TransparentSymmetricKey A → Meaning
+  pub structure : Kept A → Meaning
 
 -- what it means
 unfoldable pub key_material_by : {A : Type 0} → KeyMaterialCases A → KeyMaterial A → Meaning
 key_material_by f (key_material.Bytes x) = f.bytes x
-key_material_by f (key_material.TransparentSymmetricKey x) = f.transparent_symmetric_key x
+key_material_by f (key_material.Structure x) = f.structure x
 
 -- what a `KeyMaterial` may hold
 pub record KeyMaterialItems (A : Type 0) (eq : KeyMaterial A → KeyMaterial A → Boole) : Type 1 where
   pub bytes : Held 0x420043 types.ByteString key_material.Bytes eq
-  pub transparent_symmetric_key : Held 0x420043 types.Structure key_material.TransparentSymmetricKey eq
+  pub structure : Held 0x420043 types.Structure key_material.Structure eq
 
 -- its variants, by their rules
 abbrev pub key_material_variants : {A : Type 0} {eq : KeyMaterial A → KeyMaterial A → Boole} → KeyMaterialItems A eq → Variants
 key_material_variants i =
     variant (codes "if type==ByteString") (wrapped i.bytes.form) (
-    variant (codes "if type==Structure") (wrapped i.transparent_symmetric_key.form) no_variants)
+    variant (codes "if type==Structure") (wrapped i.structure.form) no_variants)
 
 abbrev pub key_material_cases : {A : Type 0} {eq : KeyMaterial A → KeyMaterial A → Boole} → KeyMaterialItems A eq → KeyMaterialCases A
 key_material_cases i = record {
   bytes = as_item (codes "material") (codes "if type==ByteString") i.bytes;
-  transparent_symmetric_key = as_item (codes "material") (codes "if type==Structure") i.transparent_symmetric_key;
+  structure = as_item (codes "material") (codes "if type==Structure") i.structure;
 }
 
 pub key_material_case : {A : Type 0} {eq : KeyMaterial A → KeyMaterial A → Boole} (i : KeyMaterialItems A eq) (x : KeyMaterial A)
     → TypedCase 0x420043 (key_material_typ x) (enum (codes "material") (key_material_variants i)) (key_material_by (key_material_cases i) x)
 unfolding tag_of number rule sides equal at_least member in_brackets trim_end chars trim_start encode key_material_by
 key_material_case i (key_material.Bytes x) = typed_case i.bytes x first_variant (λ k. refl)
-key_material_case i (key_material.TransparentSymmetricKey x) = typed_case i.transparent_symmetric_key x (later_variant first_variant) (λ k. refl)
+key_material_case i (key_material.Structure x) = typed_case i.structure x (later_variant first_variant) (λ k. refl)
 
 pub key_material_same : {A : Type 0} {eq : KeyMaterial A → KeyMaterial A → Boole} (i : KeyMaterialItems A eq) (x y : KeyMaterial A)
     → (key_material_by (key_material_cases i) x).value ≡ (key_material_by (key_material_cases i) y).value
     → eq x y ≡ true
 unfolding key_material_by
 key_material_same i (key_material.Bytes x) (key_material.Bytes y) e = i.bytes.same x y (i.bytes.rules.same x y (in_variant e))
-key_material_same i (key_material.TransparentSymmetricKey x) (key_material.TransparentSymmetricKey y) e = i.transparent_symmetric_key.same x y (i.transparent_symmetric_key.rules.same x y (in_variant e))
+key_material_same i (key_material.Structure x) (key_material.Structure y) e = i.structure.same x y (i.structure.rules.same x y (in_variant e))
 key_material_same i x y e = absurd (apart e refl)
 
 -- the choice

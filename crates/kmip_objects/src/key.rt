@@ -17,7 +17,7 @@ use kmip_ttlv_kinds::{
 };
 use kmip_ttlv_parts::reader::{Cursor, RuleParts, Scope, Step};
 use kmip_ttlv_parts::types::TtlvType;
-use kmip_ttlv_parts::{Boxed, Enumeration};
+use kmip_ttlv_parts::{Boxed, Enumeration, Kept};
 use std::alloc::{AllocError, Allocator, Global};
 
 /// How the point of an elliptic curve is written (KMIP 1.0, section 9.1.3.2.2).
@@ -349,8 +349,8 @@ impl<A: Allocator + Copy> Structure<A> for TransparentSymmetricKey<A> {
 pub enum KeyMaterial<A: Allocator = Global> {
     /// Its bytes.
     Bytes(Vec<u8, A>),
-    /// A symmetric key as a structure.
-    TransparentSymmetricKey(TransparentSymmetricKey<A>),
+    /// One in a transparent form: a `TransparentSymmetricKey`, or any other.
+    Structure(Kept<A>),
 }
 
 // The rules of the variants, in their order.
@@ -362,7 +362,7 @@ const KEY_MATERIAL_RULES: [RuleParts; 2] = [
 impl<A: Allocator + Copy> Choice<A> for KeyMaterial<A> {
     ghost chosen = { key_material_choice ⟦<KeyMaterial<A> as PartialEq>⟧.eq record {
       bytes = held ⟦<LeafItem<Vec<u8, A>, 0x420043> as Element<A>>⟧.rules refl refl (λ x y e. e);
-      transparent_symmetric_key = held ⟦<Of<TransparentSymmetricKey<A>, 0x420043> as Element<A>>⟧.rules refl refl (λ x y e. e);
+      structure = held ⟦<Of<Kept<A>, 0x420043> as Element<A>>⟧.rules refl refl (λ x y e. e);
     } };
 
     #[tactic(auto, unfolding(kmip_ttlv_reader::specs::RuleParts::parts_of, kmip_ttlv_reader::specs::RuleParts::equal_sides))]
@@ -379,10 +379,9 @@ impl<A: Allocator + Copy> Choice<A> for KeyMaterial<A> {
             0 => Ok(KeyMaterial::Bytes(<LeafItem<Vec<u8, A>, 0x420043> as Element<A>>::read_one(
                 scope, cursor,
             )?)),
-            1 => Ok(KeyMaterial::TransparentSymmetricKey(<Of<
-                TransparentSymmetricKey<A>,
-                0x420043,
-            > as Element<A>>::read_one(scope, cursor)?)),
+            1 => Ok(KeyMaterial::Structure(<Of<Kept<A>, 0x420043> as Element<A>>::read_one(
+                scope, cursor,
+            )?)),
             _ => unreachable!(),
         }
     }
@@ -390,9 +389,7 @@ impl<A: Allocator + Copy> Choice<A> for KeyMaterial<A> {
     fn tell_held<W: Walk<A>>(&self, state: &mut W::State) -> Result<(), AllocError> {
         match self {
             KeyMaterial::Bytes(inner) => W::item::<LeafItem<Vec<u8, A>, 0x420043>>(state, inner),
-            KeyMaterial::TransparentSymmetricKey(inner) => W::item::<
-                Of<TransparentSymmetricKey<A>, 0x420043>,
-            >(state, inner),
+            KeyMaterial::Structure(inner) => W::item::<Of<Kept<A>, 0x420043>>(state, inner),
         }
     }
 }

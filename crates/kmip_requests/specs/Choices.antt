@@ -2,21 +2,22 @@
 -- Which rules choose what, and what is there of what may be.
 use Rattle.std.proofs.Common.{ap, refl, true, ◌∙◌}
 use Rattle.std.specs.Option.{IsSomeAnd}
-use Rattle.std.specs.Prelude.{None, Option, Some, codes, ℕ, ◌+◌, ◌≡◌}
+use Rattle.std.specs.Prelude.{List, None, Option, Some, codes, ℕ, ◌+◌, ◌≡◌, [], ◌∷◌}
 use Rattle.std.specs.Str.{chars, trim_end, trim_start}
 use lib.Utf8.{encode}
 use Rattle.kmip_ttlv_kinds.specs.Choices.{Case, ChoiceOf, Held, Meaning, as_item, case_of, choice_by}
 use Rattle.kmip_ttlv_parts.proofs.Equal.{apart, in_variant}
+use Rattle.kmip_ttlv_parts.proofs.MessageRules.{not_first}
 use Rattle.kmip_ttlv_parts.specs.Agreements.{first_variant, later_variant}
 use Rattle.kmip_ttlv_parts.specs.Forms.{Variants, enum, no_variants, variant, wrapped}
 use Rattle.kmip_ttlv_parts.specs.MessageParts.{there}
 use Rattle.kmip_ttlv_parts.specs.Names.{number, tag_of}
-use Rattle.kmip_ttlv_parts.specs.Returns.{text_of_number}
-use Rattle.kmip_ttlv_parts.specs.Rules.{at_least, equal, in_brackets, member, rule, sides}
+use Rattle.kmip_ttlv_parts.specs.Returns.{IsNoneOf}
+use Rattle.kmip_ttlv_parts.specs.Rules.{at_least, chosen, choice, equal, in_brackets, member, past, rule, sides}
+use Rattle.kmip_ttlv_parts.specs.TagValues.{TagValue, last}
 use Rattle.std.proofs.Common.{Bool as Boole}
 use Rattle.kmip_ttlv_parts.specs.declared.types.TtlvType.{TtlvType}
 use Rattle.kmip_ttlv_parts.specs.declared.types.TtlvType.TheVariants as types
-use Rattle.kmip_ttlv_parts.specs.declared.enumeration.Enumeration.{Enumeration}
 use Rattle.kmip_requests.specs.declared.request_payload.RegisterRequest.{RegisterRequest}
 use Rattle.kmip_requests.specs.declared.request_payload.RequestPayload.{RequestPayload}
 use Rattle.kmip_requests.specs.declared.request_payload.RequestPayload.TheVariants as request_payload
@@ -33,6 +34,7 @@ use Rattle.kmip_requests.specs.declared.request_payload.DeleteAttributeRequest.{
 use Rattle.kmip_requests.specs.declared.request_payload.RevokeRequest.{RevokeRequest}
 use Rattle.kmip_requests.specs.declared.request_payload.QueryRequest.{QueryRequest}
 use Rattle.kmip_requests.specs.declared.request_payload.DiscoverVersionsRequest.{DiscoverVersionsRequest}
+use Rattle.kmip_ttlv_parts.specs.declared.kept.Kept.{Kept}
 
 -- which `object` of a `RegisterRequest` is there, if it is exactly one
 abbrev pub IsRegisterRequestObject : {A : Type 0} → RegisterRequest A → Option (ManagedObject A) → Type 0
@@ -46,23 +48,44 @@ IsRegisterRequestObject x (Some (managed_object.Template inner)) = (x.certificat
 IsRegisterRequestObject x (Some (managed_object.SecretData inner)) = (x.certificate ≡ None) × (x.symmetric_key ≡ None) × (x.public_key ≡ None) × (x.private_key ≡ None) × (x.split_key ≡ None) × (x.template ≡ None) × (IsSomeAnd x.secret_data (λ y. y.inner.value ≡ inner.now)) × (x.opaque_object ≡ None)
 IsRegisterRequestObject x (Some (managed_object.OpaqueObject inner)) = (x.certificate ≡ None) × (x.symmetric_key ≡ None) × (x.public_key ≡ None) × (x.private_key ≡ None) × (x.split_key ≡ None) × (x.template ≡ None) × (x.secret_data ≡ None) × (x.opaque_object ≡ Some inner.now)
 
--- the number that chooses what is in a `RequestPayload`, of the Enumeration 42005C
-abbrev pub request_payload_chosen_by : {A : Type 0} → RequestPayload A → ℕ
-request_payload_chosen_by (request_payload.Create x) = 0x00000001
-request_payload_chosen_by (request_payload.CreateKeyPair x) = 0x00000002
-request_payload_chosen_by (request_payload.Register x) = 0x00000003
-request_payload_chosen_by (request_payload.Locate x) = 0x00000008
-request_payload_chosen_by (request_payload.Get x) = 0x0000000A
-request_payload_chosen_by (request_payload.GetAttributes x) = 0x0000000B
-request_payload_chosen_by (request_payload.GetAttributeList x) = 0x0000000C
-request_payload_chosen_by (request_payload.AddAttribute x) = 0x0000000D
-request_payload_chosen_by (request_payload.ModifyAttribute x) = 0x0000000E
-request_payload_chosen_by (request_payload.DeleteAttribute x) = 0x0000000F
-request_payload_chosen_by (request_payload.Activate x) = 0x00000012
-request_payload_chosen_by (request_payload.Revoke x) = 0x00000013
-request_payload_chosen_by (request_payload.Destroy x) = 0x00000014
-request_payload_chosen_by (request_payload.Query x) = 0x00000018
-request_payload_chosen_by (request_payload.DiscoverVersions x) = 0x0000001E
+-- the texts of 42005C that choose a variant of a `RequestPayload` whatever the type of its item is
+abbrev pub request_payload_names : List (List ℕ)
+request_payload_names =
+    codes "0x00000001" ∷
+    codes "0x00000002" ∷
+    codes "0x00000003" ∷
+    codes "0x00000008" ∷
+    codes "0x0000000A" ∷
+    codes "0x0000000B" ∷
+    codes "0x0000000C" ∷
+    codes "0x0000000D" ∷
+    codes "0x0000000E" ∷
+    codes "0x0000000F" ∷
+    codes "0x00000012" ∷
+    codes "0x00000013" ∷
+    codes "0x00000014" ∷
+    codes "0x00000018" ∷
+    codes "0x0000001E" ∷
+    []
+
+-- what is said, if it is the text of 42005C, chooses what is in a `RequestPayload`
+abbrev pub ChoosesRequestPayload : {A : Type 0} → List ℕ → RequestPayload A → Type 0
+ChoosesRequestPayload said (request_payload.Create x) = (said ≡ codes "0x00000001")
+ChoosesRequestPayload said (request_payload.CreateKeyPair x) = (said ≡ codes "0x00000002")
+ChoosesRequestPayload said (request_payload.Register x) = (said ≡ codes "0x00000003")
+ChoosesRequestPayload said (request_payload.Locate x) = (said ≡ codes "0x00000008")
+ChoosesRequestPayload said (request_payload.Get x) = (said ≡ codes "0x0000000A")
+ChoosesRequestPayload said (request_payload.GetAttributes x) = (said ≡ codes "0x0000000B")
+ChoosesRequestPayload said (request_payload.GetAttributeList x) = (said ≡ codes "0x0000000C")
+ChoosesRequestPayload said (request_payload.AddAttribute x) = (said ≡ codes "0x0000000D")
+ChoosesRequestPayload said (request_payload.ModifyAttribute x) = (said ≡ codes "0x0000000E")
+ChoosesRequestPayload said (request_payload.DeleteAttribute x) = (said ≡ codes "0x0000000F")
+ChoosesRequestPayload said (request_payload.Activate x) = (said ≡ codes "0x00000012")
+ChoosesRequestPayload said (request_payload.Revoke x) = (said ≡ codes "0x00000013")
+ChoosesRequestPayload said (request_payload.Destroy x) = (said ≡ codes "0x00000014")
+ChoosesRequestPayload said (request_payload.Query x) = (said ≡ codes "0x00000018")
+ChoosesRequestPayload said (request_payload.DiscoverVersions x) = (said ≡ codes "0x0000001E")
+ChoosesRequestPayload said (request_payload.Other x) = IsNoneOf said request_payload_names
 
 -- what each thing means that a `RequestPayload` may hold
 pub record RequestPayloadCases (A : Type 0) : Type 1 where
@@ -81,6 +104,7 @@ pub record RequestPayloadCases (A : Type 0) : Type 1 where
   pub destroy : ObjectRequest A → Meaning
   pub query : QueryRequest A → Meaning
   pub discover_versions : DiscoverVersionsRequest A → Meaning
+  pub other : Kept A → Meaning
 
 -- what it means
 unfoldable pub request_payload_by : {A : Type 0} → RequestPayloadCases A → RequestPayload A → Meaning
@@ -99,6 +123,7 @@ request_payload_by f (request_payload.Revoke x) = f.revoke x
 request_payload_by f (request_payload.Destroy x) = f.destroy x
 request_payload_by f (request_payload.Query x) = f.query x
 request_payload_by f (request_payload.DiscoverVersions x) = f.discover_versions x
+request_payload_by f (request_payload.Other x) = f.other x
 
 -- what a `RequestPayload` may hold
 pub record RequestPayloadItems (A : Type 0) (eq : RequestPayload A → RequestPayload A → Boole) : Type 1 where
@@ -117,6 +142,7 @@ pub record RequestPayloadItems (A : Type 0) (eq : RequestPayload A → RequestPa
   pub destroy : Held 0x420079 types.Structure request_payload.Destroy eq
   pub query : Held 0x420079 types.Structure request_payload.Query eq
   pub discover_versions : Held 0x420079 types.Structure request_payload.DiscoverVersions eq
+  pub other : Held 0x420079 types.Structure request_payload.Other eq
 
 -- its variants, by their rules
 abbrev pub request_payload_variants : {A : Type 0} {eq : RequestPayload A → RequestPayload A → Boole} → RequestPayloadItems A eq → Variants
@@ -135,7 +161,8 @@ request_payload_variants i =
     variant (codes "if 0x42005C==0x00000013") (wrapped i.revoke.form) (
     variant (codes "if 0x42005C==0x00000014") (wrapped i.destroy.form) (
     variant (codes "if 0x42005C==0x00000018") (wrapped i.query.form) (
-    variant (codes "if 0x42005C==0x0000001E") (wrapped i.discover_versions.form) no_variants))))))))))))))
+    variant (codes "if 0x42005C==0x0000001E") (wrapped i.discover_versions.form) (
+    variant (codes "if type==Structure") (wrapped i.other.form) no_variants)))))))))))))))
 
 abbrev pub request_payload_cases : {A : Type 0} {eq : RequestPayload A → RequestPayload A → Boole} → RequestPayloadItems A eq → RequestPayloadCases A
 request_payload_cases i = record {
@@ -154,10 +181,36 @@ request_payload_cases i = record {
   destroy = as_item (codes "payload") (codes "if 0x42005C==0x00000014") i.destroy;
   query = as_item (codes "payload") (codes "if 0x42005C==0x00000018") i.query;
   discover_versions = as_item (codes "payload") (codes "if 0x42005C==0x0000001E") i.discover_versions;
+  other = as_item (codes "payload") (codes "if type==Structure") i.other;
 }
 
+-- where what is said is none of the names, the type of the item chooses
+request_payload_unnamed : {A : Type 0} {eq : RequestPayload A → RequestPayload A → Boole} (i : RequestPayloadItems A eq) (said : List ℕ) (k : List TagValue) (typ : TtlvType) (n : ℕ)
+    → IsNoneOf said request_payload_names → last k 0x42005C ≡ Some said
+    → choice (variant (codes "if type==Structure") (wrapped i.other.form) no_variants) k typ ≡ chosen n
+    → choice (request_payload_variants i) k typ ≡ past 1 (past 1 (past 1 (past 1 (past 1 (past 1 (past 1 (past 1 (past 1 (past 1 (past 1 (past 1 (past 1 (past 1 (past 1 (chosen n)))))))))))))))
+unfolding tag_of number rule sides equal at_least member in_brackets trim_end chars trim_start encode
+request_payload_unnamed i said k typ n none found e =
+    let n0 = not_first said (codes "0x00000001") (codes "0x00000002" ∷ codes "0x00000003" ∷ codes "0x00000008" ∷ codes "0x0000000A" ∷ codes "0x0000000B" ∷ codes "0x0000000C" ∷ codes "0x0000000D" ∷ codes "0x0000000E" ∷ codes "0x0000000F" ∷ codes "0x00000012" ∷ codes "0x00000013" ∷ codes "0x00000014" ∷ codes "0x00000018" ∷ codes "0x0000001E" ∷ []) none in
+    let n1 = not_first said (codes "0x00000002") (codes "0x00000003" ∷ codes "0x00000008" ∷ codes "0x0000000A" ∷ codes "0x0000000B" ∷ codes "0x0000000C" ∷ codes "0x0000000D" ∷ codes "0x0000000E" ∷ codes "0x0000000F" ∷ codes "0x00000012" ∷ codes "0x00000013" ∷ codes "0x00000014" ∷ codes "0x00000018" ∷ codes "0x0000001E" ∷ []) n0.1 in
+    let n2 = not_first said (codes "0x00000003") (codes "0x00000008" ∷ codes "0x0000000A" ∷ codes "0x0000000B" ∷ codes "0x0000000C" ∷ codes "0x0000000D" ∷ codes "0x0000000E" ∷ codes "0x0000000F" ∷ codes "0x00000012" ∷ codes "0x00000013" ∷ codes "0x00000014" ∷ codes "0x00000018" ∷ codes "0x0000001E" ∷ []) n1.1 in
+    let n3 = not_first said (codes "0x00000008") (codes "0x0000000A" ∷ codes "0x0000000B" ∷ codes "0x0000000C" ∷ codes "0x0000000D" ∷ codes "0x0000000E" ∷ codes "0x0000000F" ∷ codes "0x00000012" ∷ codes "0x00000013" ∷ codes "0x00000014" ∷ codes "0x00000018" ∷ codes "0x0000001E" ∷ []) n2.1 in
+    let n4 = not_first said (codes "0x0000000A") (codes "0x0000000B" ∷ codes "0x0000000C" ∷ codes "0x0000000D" ∷ codes "0x0000000E" ∷ codes "0x0000000F" ∷ codes "0x00000012" ∷ codes "0x00000013" ∷ codes "0x00000014" ∷ codes "0x00000018" ∷ codes "0x0000001E" ∷ []) n3.1 in
+    let n5 = not_first said (codes "0x0000000B") (codes "0x0000000C" ∷ codes "0x0000000D" ∷ codes "0x0000000E" ∷ codes "0x0000000F" ∷ codes "0x00000012" ∷ codes "0x00000013" ∷ codes "0x00000014" ∷ codes "0x00000018" ∷ codes "0x0000001E" ∷ []) n4.1 in
+    let n6 = not_first said (codes "0x0000000C") (codes "0x0000000D" ∷ codes "0x0000000E" ∷ codes "0x0000000F" ∷ codes "0x00000012" ∷ codes "0x00000013" ∷ codes "0x00000014" ∷ codes "0x00000018" ∷ codes "0x0000001E" ∷ []) n5.1 in
+    let n7 = not_first said (codes "0x0000000D") (codes "0x0000000E" ∷ codes "0x0000000F" ∷ codes "0x00000012" ∷ codes "0x00000013" ∷ codes "0x00000014" ∷ codes "0x00000018" ∷ codes "0x0000001E" ∷ []) n6.1 in
+    let n8 = not_first said (codes "0x0000000E") (codes "0x0000000F" ∷ codes "0x00000012" ∷ codes "0x00000013" ∷ codes "0x00000014" ∷ codes "0x00000018" ∷ codes "0x0000001E" ∷ []) n7.1 in
+    let n9 = not_first said (codes "0x0000000F") (codes "0x00000012" ∷ codes "0x00000013" ∷ codes "0x00000014" ∷ codes "0x00000018" ∷ codes "0x0000001E" ∷ []) n8.1 in
+    let n10 = not_first said (codes "0x00000012") (codes "0x00000013" ∷ codes "0x00000014" ∷ codes "0x00000018" ∷ codes "0x0000001E" ∷ []) n9.1 in
+    let n11 = not_first said (codes "0x00000013") (codes "0x00000014" ∷ codes "0x00000018" ∷ codes "0x0000001E" ∷ []) n10.1 in
+    let n12 = not_first said (codes "0x00000014") (codes "0x00000018" ∷ codes "0x0000001E" ∷ []) n11.1 in
+    let n13 = not_first said (codes "0x00000018") (codes "0x0000001E" ∷ []) n12.1 in
+    let n14 = not_first said (codes "0x0000001E") ([]) n13.1 in
+    rw (found, n0.0, n1.0, n2.0, n3.0, n4.0, n5.0, n6.0, n7.0, n8.0, n9.0, n10.0, n11.0, n12.0, n13.0, n14.0)
+    (ap (λ c. past 1 (past 1 (past 1 (past 1 (past 1 (past 1 (past 1 (past 1 (past 1 (past 1 (past 1 (past 1 (past 1 (past 1 (past 1 (c)))))))))))))))) e)
+
 pub request_payload_case : {A : Type 0} {eq : RequestPayload A → RequestPayload A → Boole} (i : RequestPayloadItems A eq) (x : RequestPayload A)
-    → Case 0x420079 0x42005C types.Structure (enum (codes "payload") (request_payload_variants i)) (λ said. said ≡ text_of_number (request_payload_chosen_by x)) (request_payload_by (request_payload_cases i) x)
+    → Case 0x420079 0x42005C types.Structure (enum (codes "payload") (request_payload_variants i)) (λ said. ChoosesRequestPayload said x) (request_payload_by (request_payload_cases i) x)
 unfolding tag_of number rule sides equal at_least member in_brackets trim_end chars trim_start encode request_payload_by
 request_payload_case i (request_payload.Create x) = case_of i.create x first_variant (λ said chooses k found. rw (found ∙ ap Some chooses) refl)
 request_payload_case i (request_payload.CreateKeyPair x) = case_of i.create_key_pair x (later_variant first_variant) (λ said chooses k found. rw (found ∙ ap Some chooses) refl)
@@ -174,6 +227,7 @@ request_payload_case i (request_payload.Revoke x) = case_of i.revoke x (later_va
 request_payload_case i (request_payload.Destroy x) = case_of i.destroy x (later_variant (later_variant (later_variant (later_variant (later_variant (later_variant (later_variant (later_variant (later_variant (later_variant (later_variant (later_variant first_variant)))))))))))) (λ said chooses k found. rw (found ∙ ap Some chooses) refl)
 request_payload_case i (request_payload.Query x) = case_of i.query x (later_variant (later_variant (later_variant (later_variant (later_variant (later_variant (later_variant (later_variant (later_variant (later_variant (later_variant (later_variant (later_variant first_variant))))))))))))) (λ said chooses k found. rw (found ∙ ap Some chooses) refl)
 request_payload_case i (request_payload.DiscoverVersions x) = case_of i.discover_versions x (later_variant (later_variant (later_variant (later_variant (later_variant (later_variant (later_variant (later_variant (later_variant (later_variant (later_variant (later_variant (later_variant (later_variant first_variant)))))))))))))) (λ said chooses k found. rw (found ∙ ap Some chooses) refl)
+request_payload_case i (request_payload.Other x) = case_of i.other x (later_variant (later_variant (later_variant (later_variant (later_variant (later_variant (later_variant (later_variant (later_variant (later_variant (later_variant (later_variant (later_variant (later_variant (later_variant first_variant))))))))))))))) (λ said none k found. request_payload_unnamed i said k types.Structure 0 none found refl)
 
 pub request_payload_same : {A : Type 0} {eq : RequestPayload A → RequestPayload A → Boole} (i : RequestPayloadItems A eq) (x y : RequestPayload A)
     → (request_payload_by (request_payload_cases i) x).value ≡ (request_payload_by (request_payload_cases i) y).value
@@ -194,8 +248,9 @@ request_payload_same i (request_payload.Revoke x) (request_payload.Revoke y) e =
 request_payload_same i (request_payload.Destroy x) (request_payload.Destroy y) e = i.destroy.same x y (i.destroy.rules.same x y (in_variant e))
 request_payload_same i (request_payload.Query x) (request_payload.Query y) e = i.query.same x y (i.query.rules.same x y (in_variant e))
 request_payload_same i (request_payload.DiscoverVersions x) (request_payload.DiscoverVersions y) e = i.discover_versions.same x y (i.discover_versions.rules.same x y (in_variant e))
+request_payload_same i (request_payload.Other x) (request_payload.Other y) e = i.other.same x y (i.other.rules.same x y (in_variant e))
 request_payload_same i x y e = absurd (apart e refl)
 
 -- the choice
 abbrev pub request_payload_choice : {A : Type 0} (eq : RequestPayload A → RequestPayload A → Boole) → RequestPayloadItems A eq → ChoiceOf (RequestPayload A)
-request_payload_choice eq i = choice_by {typ = (λ x. types.Structure)} {C = (λ said x. said ≡ text_of_number (request_payload_chosen_by x))} {m = request_payload_by (request_payload_cases i)} 0x420079 0x42005C (request_payload_case i) eq (request_payload_same i)
+request_payload_choice eq i = choice_by {typ = (λ x. types.Structure)} {C = ChoosesRequestPayload} {m = request_payload_by (request_payload_cases i)} 0x420079 0x42005C (request_payload_case i) eq (request_payload_same i)

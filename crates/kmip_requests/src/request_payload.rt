@@ -1,11 +1,12 @@
 // Written by codegen from types.table: change that, and run codegen/codegen.
 //! What is asked for (KMIP 1.0, section 4).
 
-ghost use Rattle.std.specs.Prelude.{◌≡◌, ◌+◌, None, Some, refl, true};
+ghost use Rattle.std.specs.Prelude.{◌≡◌, ◌↔◌, ◌+◌, None, IsTrue, Some, refl, true};
+ghost use Rattle.kmip_ttlv_parts.specs.Returns.{IsNoneOf};
 ghost use Rattle.kmip_ttlv_kinds.specs.Parts.{structure, structure_where};
 ghost use Rattle.kmip_ttlv_kinds.specs.Choices.{held};
 ghost use Rattle.kmip_ttlv_parts.specs.MessageParts.{there};
-ghost use Rattle.kmip_requests.specs.Choices.{IsRegisterRequestObject, request_payload_choice, request_payload_chosen_by};
+ghost use Rattle.kmip_requests.specs.Choices.{IsRegisterRequestObject, request_payload_choice, ChoosesRequestPayload, request_payload_names};
 
 use kmip_attributes::attribute::Attribute;
 use kmip_attributes::values::{KeyFormatType, ObjectType, RevocationReasonCode, State};
@@ -26,8 +27,10 @@ use kmip_ttlv_kinds::{
     Alone, Any, Choice, Decided, Element, Four, FromParts, Holds, InBox, Leaf, LeafItem, Maybe,
     MaybeLeaf, Of, One, PartList, Several, Structure, Walk, read_structure,
 };
+use kmip_ttlv_parts::laws::is_none_of;
 use kmip_ttlv_parts::reader::{Cursor, DateTime, RuleParts, Scope, Step};
-use kmip_ttlv_parts::{Boxed, Enumeration};
+use kmip_ttlv_parts::types::TtlvType;
+use kmip_ttlv_parts::{Boxed, Enumeration, Kept};
 use std::alloc::{AllocError, Allocator, Global};
 
 /// A symmetric key is to be made (section 4.1).
@@ -294,27 +297,41 @@ impl<A: Allocator + Copy> Structure<A> for RegisterRequest<A> {
 pub struct LocateRequest<A: Allocator = Global> {
     /// How many at most.
     pub maximum_items: Option<i32>,
+    /// How many are left out before the first (KMIP 1.3).
+    pub offset_items: Option<i32>,
     /// Where they are kept.
     pub storage_status_mask: Option<i32>,
+    /// Which of a group (KMIP 1.1).
+    pub object_group_member: Option<u32>,
     /// What each of them has; without any, all objects are sought.
     pub attributes: Vec<Attribute<A>, A>,
 }
 
-type LocateRequestParts<A> = (
+type LocateRequestFirst = (
     MaybeLeaf<i32, 0x42004F>,
+    MaybeLeaf<i32, 0x4200D4>,
     MaybeLeaf<i32, 0x42008E>,
-    Any<Of<Attribute<A>, 0x420008>, 0x420008>,
+    MaybeLeaf<u32, 0x4200AC>,
 );
 
+type LocateRequestSecond<A> = Alone<Any<Of<Attribute<A>, 0x420008>, 0x420008>>;
+
+type LocateRequestParts<A> = Four<LocateRequestFirst, LocateRequestSecond<A>>;
+
 impl<A: Allocator + Copy> FromParts<A, LocateRequestParts<A>> for LocateRequest<A> {
-    ghost parts = { λ x. (x.maximum_items, x.storage_status_mask, x.attributes) };
+    ghost parts = { λ x. (x.maximum_items, x.offset_items, x.storage_status_mask, x.object_group_member, x.attributes) };
 
     fn from_parts(
-        (maximum_items, storage_status_mask, attributes): Holds<LocateRequestParts<A>, A>,
+        (maximum_items, offset_items, storage_status_mask, object_group_member, attributes): Holds<
+            LocateRequestParts<A>,
+            A,
+        >,
     ) -> Self {
         LocateRequest {
             maximum_items,
+            offset_items,
             storage_status_mask,
+            object_group_member,
             attributes,
         }
     }
@@ -328,16 +345,20 @@ impl<A: Allocator + Copy> Structure<A> for LocateRequest<A> {
     }
 
     fn tell_parts<W: Walk<A>>(&self, state: &mut W::State) -> Result<(), AllocError> {
-        W::three::<
+        W::four::<
             MaybeLeaf<i32, 0x42004F>,
+            MaybeLeaf<i32, 0x4200D4>,
             MaybeLeaf<i32, 0x42008E>,
-            Any<Of<Attribute<A>, 0x420008>, 0x420008>,
+            MaybeLeaf<u32, 0x4200AC>,
         >(
             state,
             &self.maximum_items,
+            &self.offset_items,
             &self.storage_status_mask,
-            &self.attributes,
-        )
+            &self.object_group_member,
+        )?;
+        W::one::<Any<Of<Attribute<A>, 0x420008>, 0x420008>>(state, &self.attributes)?;
+        Ok(())
     }
 }
 
@@ -860,35 +881,64 @@ pub enum RequestPayload<A: Allocator = Global> {
     Query(QueryRequest<A>),
     /// Which versions the server has.
     DiscoverVersions(DiscoverVersionsRequest<A>),
+    /// What any other operation needs.
+    Other(Kept<A>),
+}
+
+// The texts that choose a variant, whatever the type of its item is.
+const REQUEST_PAYLOAD_NAMES: [&str; 15] = [
+    "0x00000001",
+    "0x00000002",
+    "0x00000003",
+    "0x00000008",
+    "0x0000000A",
+    "0x0000000B",
+    "0x0000000C",
+    "0x0000000D",
+    "0x0000000E",
+    "0x0000000F",
+    "0x00000012",
+    "0x00000013",
+    "0x00000014",
+    "0x00000018",
+    "0x0000001E",
+];
+
+// Whether a text is none of these.
+fn is_no_request_payload(text: &str) -> bool
+    ensures { IsTrue result ↔ IsNoneOf text.now request_payload_names }
+{
+    is_none_of(text, &REQUEST_PAYLOAD_NAMES)
 }
 
 impl<A: Allocator> RequestPayload<A> {
-    /// The number that chooses it, of the Enumeration 0x42005C.
-    pub fn chosen_by(&self) -> u32
-        ensures { result ≡ request_payload_chosen_by self.now }
+    /// Whether this text, if it is that of 0x42005C, chooses it.
+    pub fn is_chosen_by(&self, text: &str) -> bool
+        ensures { IsTrue result ↔ ChoosesRequestPayload text.now self.now }
     {
         match self {
-            RequestPayload::Create(_) => 0x00000001,
-            RequestPayload::CreateKeyPair(_) => 0x00000002,
-            RequestPayload::Register(_) => 0x00000003,
-            RequestPayload::Locate(_) => 0x00000008,
-            RequestPayload::Get(_) => 0x0000000A,
-            RequestPayload::GetAttributes(_) => 0x0000000B,
-            RequestPayload::GetAttributeList(_) => 0x0000000C,
-            RequestPayload::AddAttribute(_) => 0x0000000D,
-            RequestPayload::ModifyAttribute(_) => 0x0000000E,
-            RequestPayload::DeleteAttribute(_) => 0x0000000F,
-            RequestPayload::Activate(_) => 0x00000012,
-            RequestPayload::Revoke(_) => 0x00000013,
-            RequestPayload::Destroy(_) => 0x00000014,
-            RequestPayload::Query(_) => 0x00000018,
-            RequestPayload::DiscoverVersions(_) => 0x0000001E,
+            RequestPayload::Create(_) => text == "0x00000001",
+            RequestPayload::CreateKeyPair(_) => text == "0x00000002",
+            RequestPayload::Register(_) => text == "0x00000003",
+            RequestPayload::Locate(_) => text == "0x00000008",
+            RequestPayload::Get(_) => text == "0x0000000A",
+            RequestPayload::GetAttributes(_) => text == "0x0000000B",
+            RequestPayload::GetAttributeList(_) => text == "0x0000000C",
+            RequestPayload::AddAttribute(_) => text == "0x0000000D",
+            RequestPayload::ModifyAttribute(_) => text == "0x0000000E",
+            RequestPayload::DeleteAttribute(_) => text == "0x0000000F",
+            RequestPayload::Activate(_) => text == "0x00000012",
+            RequestPayload::Revoke(_) => text == "0x00000013",
+            RequestPayload::Destroy(_) => text == "0x00000014",
+            RequestPayload::Query(_) => text == "0x00000018",
+            RequestPayload::DiscoverVersions(_) => text == "0x0000001E",
+            RequestPayload::Other(_) => is_no_request_payload(text),
         }
     }
 }
 
 // The rules of the variants, in their order.
-const REQUEST_PAYLOAD_RULES: [RuleParts; 15] = [
+const REQUEST_PAYLOAD_RULES: [RuleParts; 16] = [
     RuleParts::Texts {
         tag: 0x42005C,
         texts: &["0x00000001"],
@@ -949,6 +999,7 @@ const REQUEST_PAYLOAD_RULES: [RuleParts; 15] = [
         tag: 0x42005C,
         texts: &["0x0000001E"],
     },
+    RuleParts::Type(TtlvType::Structure),
 ];
 
 impl<A: Allocator + Copy> Choice<A> for RequestPayload<A> {
@@ -968,6 +1019,7 @@ impl<A: Allocator + Copy> Choice<A> for RequestPayload<A> {
       destroy = held ⟦<Of<ObjectRequest<A>, 0x420079> as Element<A>>⟧.rules refl refl (λ x y e. e);
       query = held ⟦<Of<QueryRequest<A>, 0x420079> as Element<A>>⟧.rules refl refl (λ x y e. e);
       discover_versions = held ⟦<Of<DiscoverVersionsRequest<A>, 0x420079> as Element<A>>⟧.rules refl refl (λ x y e. e);
+      other = held ⟦<Of<Kept<A>, 0x420079> as Element<A>>⟧.rules refl refl (λ x y e. e);
     } };
 
     #[tactic(auto, unfolding(kmip_ttlv_reader::specs::RuleParts::parts_of, kmip_ttlv_reader::specs::RuleParts::equal_sides))]
@@ -1028,6 +1080,9 @@ impl<A: Allocator + Copy> Choice<A> for RequestPayload<A> {
                 DiscoverVersionsRequest<A>,
                 0x420079,
             > as Element<A>>::read_one(scope, cursor)?)),
+            15 => Ok(RequestPayload::Other(<Of<Kept<A>, 0x420079> as Element<A>>::read_one(
+                scope, cursor,
+            )?)),
             _ => unreachable!(),
         }
     }
@@ -1075,6 +1130,7 @@ impl<A: Allocator + Copy> Choice<A> for RequestPayload<A> {
             RequestPayload::DiscoverVersions(inner) => W::item::<
                 Of<DiscoverVersionsRequest<A>, 0x420079>,
             >(state, inner),
+            RequestPayload::Other(inner) => W::item::<Of<Kept<A>, 0x420079>>(state, inner),
         }
     }
 }

@@ -2,21 +2,22 @@
 -- Which rules choose what, and what is there of what may be.
 use Rattle.std.proofs.Common.{ap, refl, true, ◌∙◌}
 use Rattle.std.specs.Option.{IsSomeAnd}
-use Rattle.std.specs.Prelude.{None, Option, Some, codes, ℕ, ◌+◌, ◌≡◌}
+use Rattle.std.specs.Prelude.{List, None, Option, Some, codes, ℕ, ◌+◌, ◌≡◌, [], ◌∷◌}
 use Rattle.std.specs.Str.{chars, trim_end, trim_start}
 use lib.Utf8.{encode}
 use Rattle.kmip_ttlv_kinds.specs.Choices.{Case, ChoiceOf, Held, Meaning, as_item, case_of, choice_by}
 use Rattle.kmip_ttlv_parts.proofs.Equal.{apart, in_variant}
+use Rattle.kmip_ttlv_parts.proofs.MessageRules.{not_first}
 use Rattle.kmip_ttlv_parts.specs.Agreements.{first_variant, later_variant}
 use Rattle.kmip_ttlv_parts.specs.Forms.{Variants, enum, no_variants, variant, wrapped}
 use Rattle.kmip_ttlv_parts.specs.MessageParts.{there}
 use Rattle.kmip_ttlv_parts.specs.Names.{number, tag_of}
-use Rattle.kmip_ttlv_parts.specs.Returns.{text_of_number}
-use Rattle.kmip_ttlv_parts.specs.Rules.{at_least, equal, in_brackets, member, rule, sides}
+use Rattle.kmip_ttlv_parts.specs.Returns.{IsNoneOf}
+use Rattle.kmip_ttlv_parts.specs.Rules.{at_least, chosen, choice, equal, in_brackets, member, past, rule, sides}
+use Rattle.kmip_ttlv_parts.specs.TagValues.{TagValue, last}
 use Rattle.std.proofs.Common.{Bool as Boole}
 use Rattle.kmip_ttlv_parts.specs.declared.types.TtlvType.{TtlvType}
 use Rattle.kmip_ttlv_parts.specs.declared.types.TtlvType.TheVariants as types
-use Rattle.kmip_ttlv_parts.specs.declared.enumeration.Enumeration.{Enumeration}
 use Rattle.kmip_responses.specs.declared.response_payload.GetResponse.{GetResponse}
 use Rattle.kmip_responses.specs.declared.response_payload.ResponsePayload.{ResponsePayload}
 use Rattle.kmip_responses.specs.declared.response_payload.ResponsePayload.TheVariants as response_payload
@@ -32,6 +33,7 @@ use Rattle.kmip_responses.specs.declared.response_payload.AttributeResponse.{Att
 use Rattle.kmip_responses.specs.declared.response_payload.ObjectResponse.{ObjectResponse}
 use Rattle.kmip_responses.specs.declared.response_payload.QueryResponse.{QueryResponse}
 use Rattle.kmip_responses.specs.declared.response_payload.DiscoverVersionsResponse.{DiscoverVersionsResponse}
+use Rattle.kmip_ttlv_parts.specs.declared.kept.Kept.{Kept}
 
 -- which `object` of a `GetResponse` is there, if it is exactly one
 abbrev pub IsGetResponseObject : {A : Type 0} → GetResponse A → Option (ManagedObject A) → Type 0
@@ -45,23 +47,44 @@ IsGetResponseObject x (Some (managed_object.Template inner)) = (x.certificate �
 IsGetResponseObject x (Some (managed_object.SecretData inner)) = (x.certificate ≡ None) × (x.symmetric_key ≡ None) × (x.public_key ≡ None) × (x.private_key ≡ None) × (x.split_key ≡ None) × (x.template ≡ None) × (IsSomeAnd x.secret_data (λ y. y.inner.value ≡ inner.now)) × (x.opaque_object ≡ None)
 IsGetResponseObject x (Some (managed_object.OpaqueObject inner)) = (x.certificate ≡ None) × (x.symmetric_key ≡ None) × (x.public_key ≡ None) × (x.private_key ≡ None) × (x.split_key ≡ None) × (x.template ≡ None) × (x.secret_data ≡ None) × (x.opaque_object ≡ Some inner.now)
 
--- the number that chooses what is in a `ResponsePayload`, of the Enumeration 42005C
-abbrev pub response_payload_chosen_by : {A : Type 0} → ResponsePayload A → ℕ
-response_payload_chosen_by (response_payload.Create x) = 0x00000001
-response_payload_chosen_by (response_payload.CreateKeyPair x) = 0x00000002
-response_payload_chosen_by (response_payload.Register x) = 0x00000003
-response_payload_chosen_by (response_payload.Locate x) = 0x00000008
-response_payload_chosen_by (response_payload.Get x) = 0x0000000A
-response_payload_chosen_by (response_payload.GetAttributes x) = 0x0000000B
-response_payload_chosen_by (response_payload.GetAttributeList x) = 0x0000000C
-response_payload_chosen_by (response_payload.AddAttribute x) = 0x0000000D
-response_payload_chosen_by (response_payload.ModifyAttribute x) = 0x0000000E
-response_payload_chosen_by (response_payload.DeleteAttribute x) = 0x0000000F
-response_payload_chosen_by (response_payload.Activate x) = 0x00000012
-response_payload_chosen_by (response_payload.Revoke x) = 0x00000013
-response_payload_chosen_by (response_payload.Destroy x) = 0x00000014
-response_payload_chosen_by (response_payload.Query x) = 0x00000018
-response_payload_chosen_by (response_payload.DiscoverVersions x) = 0x0000001E
+-- the texts of 42005C that choose a variant of a `ResponsePayload` whatever the type of its item is
+abbrev pub response_payload_names : List (List ℕ)
+response_payload_names =
+    codes "0x00000001" ∷
+    codes "0x00000002" ∷
+    codes "0x00000003" ∷
+    codes "0x00000008" ∷
+    codes "0x0000000A" ∷
+    codes "0x0000000B" ∷
+    codes "0x0000000C" ∷
+    codes "0x0000000D" ∷
+    codes "0x0000000E" ∷
+    codes "0x0000000F" ∷
+    codes "0x00000012" ∷
+    codes "0x00000013" ∷
+    codes "0x00000014" ∷
+    codes "0x00000018" ∷
+    codes "0x0000001E" ∷
+    []
+
+-- what is said, if it is the text of 42005C, chooses what is in a `ResponsePayload`
+abbrev pub ChoosesResponsePayload : {A : Type 0} → List ℕ → ResponsePayload A → Type 0
+ChoosesResponsePayload said (response_payload.Create x) = (said ≡ codes "0x00000001")
+ChoosesResponsePayload said (response_payload.CreateKeyPair x) = (said ≡ codes "0x00000002")
+ChoosesResponsePayload said (response_payload.Register x) = (said ≡ codes "0x00000003")
+ChoosesResponsePayload said (response_payload.Locate x) = (said ≡ codes "0x00000008")
+ChoosesResponsePayload said (response_payload.Get x) = (said ≡ codes "0x0000000A")
+ChoosesResponsePayload said (response_payload.GetAttributes x) = (said ≡ codes "0x0000000B")
+ChoosesResponsePayload said (response_payload.GetAttributeList x) = (said ≡ codes "0x0000000C")
+ChoosesResponsePayload said (response_payload.AddAttribute x) = (said ≡ codes "0x0000000D")
+ChoosesResponsePayload said (response_payload.ModifyAttribute x) = (said ≡ codes "0x0000000E")
+ChoosesResponsePayload said (response_payload.DeleteAttribute x) = (said ≡ codes "0x0000000F")
+ChoosesResponsePayload said (response_payload.Activate x) = (said ≡ codes "0x00000012")
+ChoosesResponsePayload said (response_payload.Revoke x) = (said ≡ codes "0x00000013")
+ChoosesResponsePayload said (response_payload.Destroy x) = (said ≡ codes "0x00000014")
+ChoosesResponsePayload said (response_payload.Query x) = (said ≡ codes "0x00000018")
+ChoosesResponsePayload said (response_payload.DiscoverVersions x) = (said ≡ codes "0x0000001E")
+ChoosesResponsePayload said (response_payload.Other x) = IsNoneOf said response_payload_names
 
 -- what each thing means that a `ResponsePayload` may hold
 pub record ResponsePayloadCases (A : Type 0) : Type 1 where
@@ -80,6 +103,7 @@ pub record ResponsePayloadCases (A : Type 0) : Type 1 where
   pub destroy : ObjectResponse A → Meaning
   pub query : QueryResponse A → Meaning
   pub discover_versions : DiscoverVersionsResponse A → Meaning
+  pub other : Kept A → Meaning
 
 -- what it means
 unfoldable pub response_payload_by : {A : Type 0} → ResponsePayloadCases A → ResponsePayload A → Meaning
@@ -98,6 +122,7 @@ response_payload_by f (response_payload.Revoke x) = f.revoke x
 response_payload_by f (response_payload.Destroy x) = f.destroy x
 response_payload_by f (response_payload.Query x) = f.query x
 response_payload_by f (response_payload.DiscoverVersions x) = f.discover_versions x
+response_payload_by f (response_payload.Other x) = f.other x
 
 -- what a `ResponsePayload` may hold
 pub record ResponsePayloadItems (A : Type 0) (eq : ResponsePayload A → ResponsePayload A → Boole) : Type 1 where
@@ -116,6 +141,7 @@ pub record ResponsePayloadItems (A : Type 0) (eq : ResponsePayload A → Respons
   pub destroy : Held 0x42007C types.Structure response_payload.Destroy eq
   pub query : Held 0x42007C types.Structure response_payload.Query eq
   pub discover_versions : Held 0x42007C types.Structure response_payload.DiscoverVersions eq
+  pub other : Held 0x42007C types.Structure response_payload.Other eq
 
 -- its variants, by their rules
 abbrev pub response_payload_variants : {A : Type 0} {eq : ResponsePayload A → ResponsePayload A → Boole} → ResponsePayloadItems A eq → Variants
@@ -134,7 +160,8 @@ response_payload_variants i =
     variant (codes "if 0x42005C==0x00000013") (wrapped i.revoke.form) (
     variant (codes "if 0x42005C==0x00000014") (wrapped i.destroy.form) (
     variant (codes "if 0x42005C==0x00000018") (wrapped i.query.form) (
-    variant (codes "if 0x42005C==0x0000001E") (wrapped i.discover_versions.form) no_variants))))))))))))))
+    variant (codes "if 0x42005C==0x0000001E") (wrapped i.discover_versions.form) (
+    variant (codes "if type==Structure") (wrapped i.other.form) no_variants)))))))))))))))
 
 abbrev pub response_payload_cases : {A : Type 0} {eq : ResponsePayload A → ResponsePayload A → Boole} → ResponsePayloadItems A eq → ResponsePayloadCases A
 response_payload_cases i = record {
@@ -153,10 +180,36 @@ response_payload_cases i = record {
   destroy = as_item (codes "payload") (codes "if 0x42005C==0x00000014") i.destroy;
   query = as_item (codes "payload") (codes "if 0x42005C==0x00000018") i.query;
   discover_versions = as_item (codes "payload") (codes "if 0x42005C==0x0000001E") i.discover_versions;
+  other = as_item (codes "payload") (codes "if type==Structure") i.other;
 }
 
+-- where what is said is none of the names, the type of the item chooses
+response_payload_unnamed : {A : Type 0} {eq : ResponsePayload A → ResponsePayload A → Boole} (i : ResponsePayloadItems A eq) (said : List ℕ) (k : List TagValue) (typ : TtlvType) (n : ℕ)
+    → IsNoneOf said response_payload_names → last k 0x42005C ≡ Some said
+    → choice (variant (codes "if type==Structure") (wrapped i.other.form) no_variants) k typ ≡ chosen n
+    → choice (response_payload_variants i) k typ ≡ past 1 (past 1 (past 1 (past 1 (past 1 (past 1 (past 1 (past 1 (past 1 (past 1 (past 1 (past 1 (past 1 (past 1 (past 1 (chosen n)))))))))))))))
+unfolding tag_of number rule sides equal at_least member in_brackets trim_end chars trim_start encode
+response_payload_unnamed i said k typ n none found e =
+    let n0 = not_first said (codes "0x00000001") (codes "0x00000002" ∷ codes "0x00000003" ∷ codes "0x00000008" ∷ codes "0x0000000A" ∷ codes "0x0000000B" ∷ codes "0x0000000C" ∷ codes "0x0000000D" ∷ codes "0x0000000E" ∷ codes "0x0000000F" ∷ codes "0x00000012" ∷ codes "0x00000013" ∷ codes "0x00000014" ∷ codes "0x00000018" ∷ codes "0x0000001E" ∷ []) none in
+    let n1 = not_first said (codes "0x00000002") (codes "0x00000003" ∷ codes "0x00000008" ∷ codes "0x0000000A" ∷ codes "0x0000000B" ∷ codes "0x0000000C" ∷ codes "0x0000000D" ∷ codes "0x0000000E" ∷ codes "0x0000000F" ∷ codes "0x00000012" ∷ codes "0x00000013" ∷ codes "0x00000014" ∷ codes "0x00000018" ∷ codes "0x0000001E" ∷ []) n0.1 in
+    let n2 = not_first said (codes "0x00000003") (codes "0x00000008" ∷ codes "0x0000000A" ∷ codes "0x0000000B" ∷ codes "0x0000000C" ∷ codes "0x0000000D" ∷ codes "0x0000000E" ∷ codes "0x0000000F" ∷ codes "0x00000012" ∷ codes "0x00000013" ∷ codes "0x00000014" ∷ codes "0x00000018" ∷ codes "0x0000001E" ∷ []) n1.1 in
+    let n3 = not_first said (codes "0x00000008") (codes "0x0000000A" ∷ codes "0x0000000B" ∷ codes "0x0000000C" ∷ codes "0x0000000D" ∷ codes "0x0000000E" ∷ codes "0x0000000F" ∷ codes "0x00000012" ∷ codes "0x00000013" ∷ codes "0x00000014" ∷ codes "0x00000018" ∷ codes "0x0000001E" ∷ []) n2.1 in
+    let n4 = not_first said (codes "0x0000000A") (codes "0x0000000B" ∷ codes "0x0000000C" ∷ codes "0x0000000D" ∷ codes "0x0000000E" ∷ codes "0x0000000F" ∷ codes "0x00000012" ∷ codes "0x00000013" ∷ codes "0x00000014" ∷ codes "0x00000018" ∷ codes "0x0000001E" ∷ []) n3.1 in
+    let n5 = not_first said (codes "0x0000000B") (codes "0x0000000C" ∷ codes "0x0000000D" ∷ codes "0x0000000E" ∷ codes "0x0000000F" ∷ codes "0x00000012" ∷ codes "0x00000013" ∷ codes "0x00000014" ∷ codes "0x00000018" ∷ codes "0x0000001E" ∷ []) n4.1 in
+    let n6 = not_first said (codes "0x0000000C") (codes "0x0000000D" ∷ codes "0x0000000E" ∷ codes "0x0000000F" ∷ codes "0x00000012" ∷ codes "0x00000013" ∷ codes "0x00000014" ∷ codes "0x00000018" ∷ codes "0x0000001E" ∷ []) n5.1 in
+    let n7 = not_first said (codes "0x0000000D") (codes "0x0000000E" ∷ codes "0x0000000F" ∷ codes "0x00000012" ∷ codes "0x00000013" ∷ codes "0x00000014" ∷ codes "0x00000018" ∷ codes "0x0000001E" ∷ []) n6.1 in
+    let n8 = not_first said (codes "0x0000000E") (codes "0x0000000F" ∷ codes "0x00000012" ∷ codes "0x00000013" ∷ codes "0x00000014" ∷ codes "0x00000018" ∷ codes "0x0000001E" ∷ []) n7.1 in
+    let n9 = not_first said (codes "0x0000000F") (codes "0x00000012" ∷ codes "0x00000013" ∷ codes "0x00000014" ∷ codes "0x00000018" ∷ codes "0x0000001E" ∷ []) n8.1 in
+    let n10 = not_first said (codes "0x00000012") (codes "0x00000013" ∷ codes "0x00000014" ∷ codes "0x00000018" ∷ codes "0x0000001E" ∷ []) n9.1 in
+    let n11 = not_first said (codes "0x00000013") (codes "0x00000014" ∷ codes "0x00000018" ∷ codes "0x0000001E" ∷ []) n10.1 in
+    let n12 = not_first said (codes "0x00000014") (codes "0x00000018" ∷ codes "0x0000001E" ∷ []) n11.1 in
+    let n13 = not_first said (codes "0x00000018") (codes "0x0000001E" ∷ []) n12.1 in
+    let n14 = not_first said (codes "0x0000001E") ([]) n13.1 in
+    rw (found, n0.0, n1.0, n2.0, n3.0, n4.0, n5.0, n6.0, n7.0, n8.0, n9.0, n10.0, n11.0, n12.0, n13.0, n14.0)
+    (ap (λ c. past 1 (past 1 (past 1 (past 1 (past 1 (past 1 (past 1 (past 1 (past 1 (past 1 (past 1 (past 1 (past 1 (past 1 (past 1 (c)))))))))))))))) e)
+
 pub response_payload_case : {A : Type 0} {eq : ResponsePayload A → ResponsePayload A → Boole} (i : ResponsePayloadItems A eq) (x : ResponsePayload A)
-    → Case 0x42007C 0x42005C types.Structure (enum (codes "payload") (response_payload_variants i)) (λ said. said ≡ text_of_number (response_payload_chosen_by x)) (response_payload_by (response_payload_cases i) x)
+    → Case 0x42007C 0x42005C types.Structure (enum (codes "payload") (response_payload_variants i)) (λ said. ChoosesResponsePayload said x) (response_payload_by (response_payload_cases i) x)
 unfolding tag_of number rule sides equal at_least member in_brackets trim_end chars trim_start encode response_payload_by
 response_payload_case i (response_payload.Create x) = case_of i.create x first_variant (λ said chooses k found. rw (found ∙ ap Some chooses) refl)
 response_payload_case i (response_payload.CreateKeyPair x) = case_of i.create_key_pair x (later_variant first_variant) (λ said chooses k found. rw (found ∙ ap Some chooses) refl)
@@ -173,6 +226,7 @@ response_payload_case i (response_payload.Revoke x) = case_of i.revoke x (later_
 response_payload_case i (response_payload.Destroy x) = case_of i.destroy x (later_variant (later_variant (later_variant (later_variant (later_variant (later_variant (later_variant (later_variant (later_variant (later_variant (later_variant (later_variant first_variant)))))))))))) (λ said chooses k found. rw (found ∙ ap Some chooses) refl)
 response_payload_case i (response_payload.Query x) = case_of i.query x (later_variant (later_variant (later_variant (later_variant (later_variant (later_variant (later_variant (later_variant (later_variant (later_variant (later_variant (later_variant (later_variant first_variant))))))))))))) (λ said chooses k found. rw (found ∙ ap Some chooses) refl)
 response_payload_case i (response_payload.DiscoverVersions x) = case_of i.discover_versions x (later_variant (later_variant (later_variant (later_variant (later_variant (later_variant (later_variant (later_variant (later_variant (later_variant (later_variant (later_variant (later_variant (later_variant first_variant)))))))))))))) (λ said chooses k found. rw (found ∙ ap Some chooses) refl)
+response_payload_case i (response_payload.Other x) = case_of i.other x (later_variant (later_variant (later_variant (later_variant (later_variant (later_variant (later_variant (later_variant (later_variant (later_variant (later_variant (later_variant (later_variant (later_variant (later_variant first_variant))))))))))))))) (λ said none k found. response_payload_unnamed i said k types.Structure 0 none found refl)
 
 pub response_payload_same : {A : Type 0} {eq : ResponsePayload A → ResponsePayload A → Boole} (i : ResponsePayloadItems A eq) (x y : ResponsePayload A)
     → (response_payload_by (response_payload_cases i) x).value ≡ (response_payload_by (response_payload_cases i) y).value
@@ -193,8 +247,9 @@ response_payload_same i (response_payload.Revoke x) (response_payload.Revoke y) 
 response_payload_same i (response_payload.Destroy x) (response_payload.Destroy y) e = i.destroy.same x y (i.destroy.rules.same x y (in_variant e))
 response_payload_same i (response_payload.Query x) (response_payload.Query y) e = i.query.same x y (i.query.rules.same x y (in_variant e))
 response_payload_same i (response_payload.DiscoverVersions x) (response_payload.DiscoverVersions y) e = i.discover_versions.same x y (i.discover_versions.rules.same x y (in_variant e))
+response_payload_same i (response_payload.Other x) (response_payload.Other y) e = i.other.same x y (i.other.rules.same x y (in_variant e))
 response_payload_same i x y e = absurd (apart e refl)
 
 -- the choice
 abbrev pub response_payload_choice : {A : Type 0} (eq : ResponsePayload A → ResponsePayload A → Boole) → ResponsePayloadItems A eq → ChoiceOf (ResponsePayload A)
-response_payload_choice eq i = choice_by {typ = (λ x. types.Structure)} {C = (λ said x. said ≡ text_of_number (response_payload_chosen_by x))} {m = response_payload_by (response_payload_cases i)} 0x42007C 0x42005C (response_payload_case i) eq (response_payload_same i)
+response_payload_choice eq i = choice_by {typ = (λ x. types.Structure)} {C = ChoosesResponsePayload} {m = response_payload_by (response_payload_cases i)} 0x42007C 0x42005C (response_payload_case i) eq (response_payload_same i)

@@ -1,11 +1,12 @@
 // Written by codegen from types.table: change that, and run codegen/codegen.
 //! What was done (KMIP 1.0, section 4).
 
-ghost use Rattle.std.specs.Prelude.{◌≡◌, ◌+◌, None, Some, refl, true};
+ghost use Rattle.std.specs.Prelude.{◌≡◌, ◌↔◌, ◌+◌, None, IsTrue, Some, refl, true};
+ghost use Rattle.kmip_ttlv_parts.specs.Returns.{IsNoneOf};
 ghost use Rattle.kmip_ttlv_kinds.specs.Parts.{structure, structure_where};
 ghost use Rattle.kmip_ttlv_kinds.specs.Choices.{held};
 ghost use Rattle.kmip_ttlv_parts.specs.MessageParts.{there};
-ghost use Rattle.kmip_responses.specs.Choices.{IsGetResponseObject, response_payload_choice, response_payload_chosen_by};
+ghost use Rattle.kmip_responses.specs.Choices.{IsGetResponseObject, response_payload_choice, ChoosesResponsePayload, response_payload_names};
 
 use kmip_attributes::attribute::Attribute;
 use kmip_attributes::values::{ObjectType, State};
@@ -21,8 +22,10 @@ use kmip_ttlv_kinds::{
     Alone, Any, Choice, Decided, Element, Four, FromParts, Holds, InBox, Leaf, LeafItem, Maybe,
     MaybeLeaf, Of, One, PartList, Structure, Walk, read_structure,
 };
-use kmip_ttlv_parts::Boxed;
+use kmip_ttlv_parts::laws::is_none_of;
 use kmip_ttlv_parts::reader::{Cursor, RuleParts, Scope, Step};
+use kmip_ttlv_parts::types::TtlvType;
+use kmip_ttlv_parts::{Boxed, Kept};
 use std::alloc::{AllocError, Allocator, Global};
 
 /// A symmetric key was made (section 4.1).
@@ -190,17 +193,25 @@ impl<A: Allocator + Copy> Structure<A> for RegisterResponse<A> {
 #[derive(Drop)]
 #[derive_where(PartialEq)]
 pub struct LocateResponse<A: Allocator = Global> {
+    /// How many there are in all (KMIP 1.3).
+    pub located_items: Option<i32>,
     /// Their identifiers.
     pub unique_identifiers: Vec<String<A>, A>,
 }
 
-type LocateResponseParts<A> = Alone<Any<LeafItem<String<A>, 0x420094>, 0x420094>>;
+type LocateResponseParts<A> = (
+    MaybeLeaf<i32, 0x4200D5>,
+    Any<LeafItem<String<A>, 0x420094>, 0x420094>,
+);
 
 impl<A: Allocator + Copy> FromParts<A, LocateResponseParts<A>> for LocateResponse<A> {
-    ghost parts = { λ x. x.unique_identifiers };
+    ghost parts = { λ x. (x.located_items, x.unique_identifiers) };
 
-    fn from_parts(unique_identifiers: Holds<LocateResponseParts<A>, A>) -> Self {
-        LocateResponse { unique_identifiers }
+    fn from_parts((located_items, unique_identifiers): Holds<LocateResponseParts<A>, A>) -> Self {
+        LocateResponse {
+            located_items,
+            unique_identifiers,
+        }
     }
 }
 
@@ -212,7 +223,11 @@ impl<A: Allocator + Copy> Structure<A> for LocateResponse<A> {
     }
 
     fn tell_parts<W: Walk<A>>(&self, state: &mut W::State) -> Result<(), AllocError> {
-        W::one::<Any<LeafItem<String<A>, 0x420094>, 0x420094>>(state, &self.unique_identifiers)
+        W::two::<MaybeLeaf<i32, 0x4200D5>, Any<LeafItem<String<A>, 0x420094>, 0x420094>>(
+            state,
+            &self.located_items,
+            &self.unique_identifiers,
+        )
     }
 }
 
@@ -555,31 +570,83 @@ pub struct QueryResponse<A: Allocator = Global> {
     pub object_types: Vec<ObjectType, A>,
     /// Who made it.
     pub vendor_identification: Option<String<A>>,
+    /// What it says of itself: any items.
+    pub server_information: Option<Kept<A>>,
     /// The namespaces that it knows.
     pub application_namespaces: Vec<String<A>, A>,
+    /// The tags that it has beside the standard's (KMIP 1.1).
+    pub extensions: Vec<Kept<A>, A>,
+    /// How a client may prove what it runs (KMIP 1.2).
+    pub attestation_types: Vec<u32, A>,
+    /// Where its random numbers come from (KMIP 1.3).
+    pub rng_parameters: Vec<Kept<A>, A>,
+    /// Which profiles of KMIP it has (KMIP 1.3).
+    pub profiles: Vec<Kept<A>, A>,
+    /// What it was validated as (KMIP 1.3).
+    pub validations: Vec<Kept<A>, A>,
+    /// What it is capable of (KMIP 1.3).
+    pub capabilities: Vec<Kept<A>, A>,
+    /// How clients are made known to it (KMIP 1.3).
+    pub client_registration_methods: Vec<u32, A>,
 }
 
-type QueryResponseParts<A> = (
+type QueryResponseFirst<A> = (
     Any<Operation, 0x42005C>,
     Any<ObjectType, 0x420057>,
     MaybeLeaf<String<A>, 0x42009D>,
-    Any<LeafItem<String<A>, 0x420003>, 0x420003>,
+    Maybe<Of<Kept<A>, 0x420088>, 0x420088>,
 );
 
+type QueryResponseSecond<A> = (
+    Any<LeafItem<String<A>, 0x420003>, 0x420003>,
+    Any<Of<Kept<A>, 0x4200A4>, 0x4200A4>,
+    Any<LeafItem<u32, 0x4200C7>, 0x4200C7>,
+    Any<Of<Kept<A>, 0x4200D9>, 0x4200D9>,
+);
+
+type QueryResponseThird<A> = (
+    Any<Of<Kept<A>, 0x4200EB>, 0x4200EB>,
+    Any<Of<Kept<A>, 0x4200DF>, 0x4200DF>,
+    Any<Of<Kept<A>, 0x4200F7>, 0x4200F7>,
+    Any<LeafItem<u32, 0x4200F6>, 0x4200F6>,
+);
+
+type QueryResponseParts<A> = Four<
+    QueryResponseFirst<A>,
+    Four<QueryResponseSecond<A>, QueryResponseThird<A>>,
+>;
+
 impl<A: Allocator + Copy> FromParts<A, QueryResponseParts<A>> for QueryResponse<A> {
-    ghost parts = { λ x. (x.operations, x.object_types, x.vendor_identification, x.application_namespaces) };
+    ghost parts = { λ x. (x.operations, x.object_types, x.vendor_identification, x.server_information, (x.application_namespaces, x.extensions, x.attestation_types, x.rng_parameters, (x.profiles, x.validations, x.capabilities, x.client_registration_methods))) };
 
     fn from_parts(
-        (operations, object_types, vendor_identification, application_namespaces): Holds<
-            QueryResponseParts<A>,
-            A,
-        >,
+        (
+            operations,
+            object_types,
+            vendor_identification,
+            server_information,
+            (
+                application_namespaces,
+                extensions,
+                attestation_types,
+                rng_parameters,
+                (profiles, validations, capabilities, client_registration_methods),
+            ),
+        ): Holds<QueryResponseParts<A>, A>,
     ) -> Self {
         QueryResponse {
             operations,
             object_types,
             vendor_identification,
+            server_information,
             application_namespaces,
+            extensions,
+            attestation_types,
+            rng_parameters,
+            profiles,
+            validations,
+            capabilities,
+            client_registration_methods,
         }
     }
 }
@@ -596,14 +663,39 @@ impl<A: Allocator + Copy> Structure<A> for QueryResponse<A> {
             Any<Operation, 0x42005C>,
             Any<ObjectType, 0x420057>,
             MaybeLeaf<String<A>, 0x42009D>,
-            Any<LeafItem<String<A>, 0x420003>, 0x420003>,
+            Maybe<Of<Kept<A>, 0x420088>, 0x420088>,
         >(
             state,
             &self.operations,
             &self.object_types,
             &self.vendor_identification,
+            &self.server_information,
+        )?;
+        W::four::<
+            Any<LeafItem<String<A>, 0x420003>, 0x420003>,
+            Any<Of<Kept<A>, 0x4200A4>, 0x4200A4>,
+            Any<LeafItem<u32, 0x4200C7>, 0x4200C7>,
+            Any<Of<Kept<A>, 0x4200D9>, 0x4200D9>,
+        >(
+            state,
             &self.application_namespaces,
-        )
+            &self.extensions,
+            &self.attestation_types,
+            &self.rng_parameters,
+        )?;
+        W::four::<
+            Any<Of<Kept<A>, 0x4200EB>, 0x4200EB>,
+            Any<Of<Kept<A>, 0x4200DF>, 0x4200DF>,
+            Any<Of<Kept<A>, 0x4200F7>, 0x4200F7>,
+            Any<LeafItem<u32, 0x4200F6>, 0x4200F6>,
+        >(
+            state,
+            &self.profiles,
+            &self.validations,
+            &self.capabilities,
+            &self.client_registration_methods,
+        )?;
+        Ok(())
     }
 }
 
@@ -672,35 +764,64 @@ pub enum ResponsePayload<A: Allocator = Global> {
     Query(QueryResponse<A>),
     /// Which versions the server has.
     DiscoverVersions(DiscoverVersionsResponse<A>),
+    /// What any other operation did.
+    Other(Kept<A>),
+}
+
+// The texts that choose a variant, whatever the type of its item is.
+const RESPONSE_PAYLOAD_NAMES: [&str; 15] = [
+    "0x00000001",
+    "0x00000002",
+    "0x00000003",
+    "0x00000008",
+    "0x0000000A",
+    "0x0000000B",
+    "0x0000000C",
+    "0x0000000D",
+    "0x0000000E",
+    "0x0000000F",
+    "0x00000012",
+    "0x00000013",
+    "0x00000014",
+    "0x00000018",
+    "0x0000001E",
+];
+
+// Whether a text is none of these.
+fn is_no_response_payload(text: &str) -> bool
+    ensures { IsTrue result ↔ IsNoneOf text.now response_payload_names }
+{
+    is_none_of(text, &RESPONSE_PAYLOAD_NAMES)
 }
 
 impl<A: Allocator> ResponsePayload<A> {
-    /// The number that chooses it, of the Enumeration 0x42005C.
-    pub fn chosen_by(&self) -> u32
-        ensures { result ≡ response_payload_chosen_by self.now }
+    /// Whether this text, if it is that of 0x42005C, chooses it.
+    pub fn is_chosen_by(&self, text: &str) -> bool
+        ensures { IsTrue result ↔ ChoosesResponsePayload text.now self.now }
     {
         match self {
-            ResponsePayload::Create(_) => 0x00000001,
-            ResponsePayload::CreateKeyPair(_) => 0x00000002,
-            ResponsePayload::Register(_) => 0x00000003,
-            ResponsePayload::Locate(_) => 0x00000008,
-            ResponsePayload::Get(_) => 0x0000000A,
-            ResponsePayload::GetAttributes(_) => 0x0000000B,
-            ResponsePayload::GetAttributeList(_) => 0x0000000C,
-            ResponsePayload::AddAttribute(_) => 0x0000000D,
-            ResponsePayload::ModifyAttribute(_) => 0x0000000E,
-            ResponsePayload::DeleteAttribute(_) => 0x0000000F,
-            ResponsePayload::Activate(_) => 0x00000012,
-            ResponsePayload::Revoke(_) => 0x00000013,
-            ResponsePayload::Destroy(_) => 0x00000014,
-            ResponsePayload::Query(_) => 0x00000018,
-            ResponsePayload::DiscoverVersions(_) => 0x0000001E,
+            ResponsePayload::Create(_) => text == "0x00000001",
+            ResponsePayload::CreateKeyPair(_) => text == "0x00000002",
+            ResponsePayload::Register(_) => text == "0x00000003",
+            ResponsePayload::Locate(_) => text == "0x00000008",
+            ResponsePayload::Get(_) => text == "0x0000000A",
+            ResponsePayload::GetAttributes(_) => text == "0x0000000B",
+            ResponsePayload::GetAttributeList(_) => text == "0x0000000C",
+            ResponsePayload::AddAttribute(_) => text == "0x0000000D",
+            ResponsePayload::ModifyAttribute(_) => text == "0x0000000E",
+            ResponsePayload::DeleteAttribute(_) => text == "0x0000000F",
+            ResponsePayload::Activate(_) => text == "0x00000012",
+            ResponsePayload::Revoke(_) => text == "0x00000013",
+            ResponsePayload::Destroy(_) => text == "0x00000014",
+            ResponsePayload::Query(_) => text == "0x00000018",
+            ResponsePayload::DiscoverVersions(_) => text == "0x0000001E",
+            ResponsePayload::Other(_) => is_no_response_payload(text),
         }
     }
 }
 
 // The rules of the variants, in their order.
-const RESPONSE_PAYLOAD_RULES: [RuleParts; 15] = [
+const RESPONSE_PAYLOAD_RULES: [RuleParts; 16] = [
     RuleParts::Texts {
         tag: 0x42005C,
         texts: &["0x00000001"],
@@ -761,6 +882,7 @@ const RESPONSE_PAYLOAD_RULES: [RuleParts; 15] = [
         tag: 0x42005C,
         texts: &["0x0000001E"],
     },
+    RuleParts::Type(TtlvType::Structure),
 ];
 
 impl<A: Allocator + Copy> Choice<A> for ResponsePayload<A> {
@@ -780,6 +902,7 @@ impl<A: Allocator + Copy> Choice<A> for ResponsePayload<A> {
       destroy = held ⟦<Of<ObjectResponse<A>, 0x42007C> as Element<A>>⟧.rules refl refl (λ x y e. e);
       query = held ⟦<Of<QueryResponse<A>, 0x42007C> as Element<A>>⟧.rules refl refl (λ x y e. e);
       discover_versions = held ⟦<Of<DiscoverVersionsResponse<A>, 0x42007C> as Element<A>>⟧.rules refl refl (λ x y e. e);
+      other = held ⟦<Of<Kept<A>, 0x42007C> as Element<A>>⟧.rules refl refl (λ x y e. e);
     } };
 
     #[tactic(auto, unfolding(kmip_ttlv_reader::specs::RuleParts::parts_of, kmip_ttlv_reader::specs::RuleParts::equal_sides))]
@@ -842,6 +965,9 @@ impl<A: Allocator + Copy> Choice<A> for ResponsePayload<A> {
                 DiscoverVersionsResponse<A>,
                 0x42007C,
             > as Element<A>>::read_one(scope, cursor)?)),
+            15 => Ok(ResponsePayload::Other(<Of<Kept<A>, 0x42007C> as Element<A>>::read_one(
+                scope, cursor,
+            )?)),
             _ => unreachable!(),
         }
     }
@@ -891,6 +1017,7 @@ impl<A: Allocator + Copy> Choice<A> for ResponsePayload<A> {
             ResponsePayload::DiscoverVersions(inner) => W::item::<
                 Of<DiscoverVersionsResponse<A>, 0x42007C>,
             >(state, inner),
+            ResponsePayload::Other(inner) => W::item::<Of<Kept<A>, 0x42007C>>(state, inner),
         }
     }
 }

@@ -5,7 +5,7 @@
 //! and, for types that read themselves, in `reader`; printing in `util` and `names`; flat items in `items` and
 //! `writing`; the parts of message types in `messages`; an allocator with limits in `memory`; and in `laws` what
 //! is true of encoding and decoding together. A large part of a message is `Boxed`, an Enumeration of any number
-//! `Enumeration`. Its only code is `reread`.
+//! `Enumeration`, a structure that holds anything `Kept`. Its only code is `reread`.
 //!
 //! The lemmas for the proofs of a user's `from_data`, `shape` and `visit` are in proofs/Views, proofs/Shapes
 //! and proofs/Visiting of `kmip_ttlv_base`.
@@ -23,7 +23,7 @@ pub use kmip_ttlv_de::{
 pub use kmip_ttlv_items as items;
 pub use kmip_ttlv_memory as memory;
 pub use kmip_ttlv_names as names;
-pub use kmip_ttlv_parts::{Boxed, Enumeration};
+pub use kmip_ttlv_parts::{Boxed, Enumeration, Kept};
 pub use kmip_ttlv_reader::reader;
 pub use kmip_ttlv_ser as ser;
 pub use kmip_ttlv_ser::{to_vec, to_writer};

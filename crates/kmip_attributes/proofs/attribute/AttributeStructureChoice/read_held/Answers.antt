@@ -92,3 +92,11 @@ returns-in_err-read_one-in-10-clause-read g c =
 pub returns-in_ok-read_one-in-10-clause-read : goal.returns-in_ok-read_one-in-10-clause-read
 unfolding attribute_structure_by
 returns-in_ok-read_one-in-10-clause-read g c = is_held_at _ _ _ _ _ c.in_ok-read_one-in-10.ensures.read c.in-10.is refl refl
+
+pub returns-in_err-read_one-in-11-clause-read : goal.returns-in_err-read_one-in-11-clause-read
+returns-in_err-read_one-in-11-clause-read g c =
+    is_failed_at _ _ _ _ _ _ c.in_err-read_one-in-11.ensures.read c.from_residual-in_err-read_one-in-11.ensures.1 c.in-11.is refl
+
+pub returns-in_ok-read_one-in-11-clause-read : goal.returns-in_ok-read_one-in-11-clause-read
+unfolding attribute_structure_by
+returns-in_ok-read_one-in-11-clause-read g c = is_held_at _ _ _ _ _ c.in_ok-read_one-in-11.ensures.read c.in-11.is refl refl

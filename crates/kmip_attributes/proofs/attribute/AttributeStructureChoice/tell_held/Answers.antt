@@ -48,3 +48,7 @@ returns-in-Link-clause-told g c = told_as (attribute_structure_by _) (λ t. OnOk
 pub returns-in-ApplicationSpecificInformation-clause-told : goal.returns-in-ApplicationSpecificInformation-clause-told
 unfolding attribute_structure_by
 returns-in-ApplicationSpecificInformation-clause-told g c = told_as (attribute_structure_by _) (λ t. OnOk c.item-in-ApplicationSpecificInformation.result (g.W.Walk.steps.Takes c.args.state.now t c.item-in-ApplicationSpecificInformation.new.state)) c.in-ApplicationSpecificInformation.is c.item-in-ApplicationSpecificInformation.ensures.told
+
+pub returns-in-Other-clause-told : goal.returns-in-Other-clause-told
+unfolding attribute_structure_by
+returns-in-Other-clause-told g c = told_as (attribute_structure_by _) (λ t. OnOk c.item-in-Other.result (g.W.Walk.steps.Takes c.args.state.now t c.item-in-Other.new.state)) c.in-Other.is c.item-in-Other.ensures.told

@@ -20,3 +20,11 @@ returns-in_err-read_one-in-1-clause-read g c =
 pub returns-in_ok-read_one-in-1-clause-read : goal.returns-in_ok-read_one-in-1-clause-read
 unfolding credential_value_by
 returns-in_ok-read_one-in-1-clause-read g c = is_held_at _ _ _ _ _ c.in_ok-read_one-in-1.ensures.read c.in-1.is refl refl
+
+pub returns-in_err-read_one-in-2-clause-read : goal.returns-in_err-read_one-in-2-clause-read
+returns-in_err-read_one-in-2-clause-read g c =
+    is_failed_at _ _ _ _ _ _ c.in_err-read_one-in-2.ensures.read c.from_residual-in_err-read_one-in-2.ensures.1 c.in-2.is refl
+
+pub returns-in_ok-read_one-in-2-clause-read : goal.returns-in_ok-read_one-in-2-clause-read
+unfolding credential_value_by
+returns-in_ok-read_one-in-2-clause-read g c = is_held_at _ _ _ _ _ c.in_ok-read_one-in-2.ensures.read c.in-2.is refl refl

@@ -12,3 +12,7 @@ returns-in-UsernameAndPassword-clause-told g c = told_as (credential_value_by _)
 pub returns-in-Device-clause-told : goal.returns-in-Device-clause-told
 unfolding credential_value_by
 returns-in-Device-clause-told g c = told_as (credential_value_by _) (λ t. OnOk c.item-in-Device.result (g.W.Walk.steps.Takes c.args.state.now t c.item-in-Device.new.state)) c.in-Device.is c.item-in-Device.ensures.told
+
+pub returns-in-Other-clause-told : goal.returns-in-Other-clause-told
+unfolding credential_value_by
+returns-in-Other-clause-told g c = told_as (credential_value_by _) (λ t. OnOk c.item-in-Other.result (g.W.Walk.steps.Takes c.args.state.now t c.item-in-Other.new.state)) c.in-Other.is c.item-in-Other.ensures.told

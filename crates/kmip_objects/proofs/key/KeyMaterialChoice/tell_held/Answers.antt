@@ -9,6 +9,6 @@ pub returns-in-Bytes-clause-told : goal.returns-in-Bytes-clause-told
 unfolding key_material_by
 returns-in-Bytes-clause-told g c = told_as (key_material_by _) (λ t. OnOk c.item.result (g.W.Walk.steps.Takes c.args.state.now t c.item.new.state)) c.in-Bytes.is c.item.ensures.told
 
-pub returns-in-TransparentSymmetricKey-clause-told : goal.returns-in-TransparentSymmetricKey-clause-told
+pub returns-in-Structure-clause-told : goal.returns-in-Structure-clause-told
 unfolding key_material_by
-returns-in-TransparentSymmetricKey-clause-told g c = told_as (key_material_by _) (λ t. OnOk c.item-in-TransparentSymmetricKey.result (g.W.Walk.steps.Takes c.args.state.now t c.item-in-TransparentSymmetricKey.new.state)) c.in-TransparentSymmetricKey.is c.item-in-TransparentSymmetricKey.ensures.told
+returns-in-Structure-clause-told g c = told_as (key_material_by _) (λ t. OnOk c.item-in-Structure.result (g.W.Walk.steps.Takes c.args.state.now t c.item-in-Structure.new.state)) c.in-Structure.is c.item-in-Structure.ensures.told

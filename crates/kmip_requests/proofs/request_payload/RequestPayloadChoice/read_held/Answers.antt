@@ -124,3 +124,11 @@ returns-in_err-read_one-in-14-clause-read g c =
 pub returns-in_ok-read_one-in-14-clause-read : goal.returns-in_ok-read_one-in-14-clause-read
 unfolding request_payload_by
 returns-in_ok-read_one-in-14-clause-read g c = is_held_at _ _ _ _ _ c.in_ok-read_one-in-14.ensures.read c.in-14.is refl refl
+
+pub returns-in_err-read_one-in-15-clause-read : goal.returns-in_err-read_one-in-15-clause-read
+returns-in_err-read_one-in-15-clause-read g c =
+    is_failed_at _ _ _ _ _ _ c.in_err-read_one-in-15.ensures.read c.from_residual-in_err-read_one-in-15.ensures.1 c.in-15.is refl
+
+pub returns-in_ok-read_one-in-15-clause-read : goal.returns-in_ok-read_one-in-15-clause-read
+unfolding request_payload_by
+returns-in_ok-read_one-in-15-clause-read g c = is_held_at _ _ _ _ _ c.in_ok-read_one-in-15.ensures.read c.in-15.is refl refl

@@ -64,3 +64,7 @@ returns-in-Query-clause-told g c = told_as (response_payload_by _) (λ t. OnOk c
 pub returns-in-DiscoverVersions-clause-told : goal.returns-in-DiscoverVersions-clause-told
 unfolding response_payload_by
 returns-in-DiscoverVersions-clause-told g c = told_as (response_payload_by _) (λ t. OnOk c.item-in-DiscoverVersions.result (g.W.Walk.steps.Takes c.args.state.now t c.item-in-DiscoverVersions.new.state)) c.in-DiscoverVersions.is c.item-in-DiscoverVersions.ensures.told
+
+pub returns-in-Other-clause-told : goal.returns-in-Other-clause-told
+unfolding response_payload_by
+returns-in-Other-clause-told g c = told_as (response_payload_by _) (λ t. OnOk c.item-in-Other.result (g.W.Walk.steps.Takes c.args.state.now t c.item-in-Other.new.state)) c.in-Other.is c.item-in-Other.ensures.told
