@@ -222,17 +222,16 @@ def subject(items, operations):
 
 def peer():
     """The file of the peer's messages: those members that don't follow from others."""
-    tests, reason, operations = [], "", value_names(0x42005C)
+    tests, operations = [], value_names(0x42005C)
     with open(f"{HERE}/../message_vectors/stdin", encoding="utf-8") as lines:
         for name, _, rest in (line.rstrip("\n").partition(" ") for line in lines):
-            reason = f". Not for kmip_messages: {rest[:1].lower()}{rest[1:]}" if name == "##" else reason
             if name and not name.startswith("#"):
                 message = bytes.fromhex(rest)
                 members = known(message, ())
                 for it in ("text", "hidden_json"):
                     members.pop(it, None)
                 members["diagnostics"] = [it for it in known(message)["diagnostics"] if it["closed"]]
-                tests.append({"name": name, "comment": subject(walk(message)[0], operations) + reason, **members})
+                tests.append({"name": name, "comment": subject(walk(message)[0], operations), **members})
     source = "PyKMIP 0.10.0 (the Debian package python3-pykmip), whose classes have encoded all of the messages; where it has no class for a"
     source += " whole message, the name ends in _handmade, and the order of the items was set by hand, as KMIP has it. What is printed of"
     source += " them is by reference.py."

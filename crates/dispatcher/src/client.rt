@@ -9,7 +9,11 @@ use kmip_messages::response::{Response, ResponseItem, result_reason, result_stat
 use kmip_messages::response_payload::ResponsePayload;
 use kmip_ttlv::error::Error;
 use kmip_ttlv::{from_slice, to_vec};
+use kmip_ttlv_kinds::convert;
 use std::alloc::{AllocError, Global};
+
+// The tag of a payload.
+const PAYLOAD: u32 = 0x420079;
 
 // An item of a batch, which this byte names.
 fn item(
@@ -26,20 +30,25 @@ fn item(
     })
 }
 
-/// The bytes of a request: what the server can do, which versions it has, and that an object be destroyed.
+/// The bytes of a request: what the server can do, that an object be archived, which versions it has, and that it be destroyed.
 pub fn request(alloc: Global) -> Result<Vec<u8>, Error> {
     let mut functions = Vec::new(alloc);
     functions.push(query_function::QUERY_OPERATIONS)?;
     let query = RequestPayload::Query(QueryRequest { functions });
+    // an operation that the tables have no payload for takes any structure: that of Archive has the items of this type
+    let unique_identifier = Some("1".to_string(alloc)?);
+    let object = ObjectRequest { unique_identifier };
+    let archive = RequestPayload::Other(convert(alloc, object, PAYLOAD)?);
     let versions = Vec::new(alloc);
     let discover = RequestPayload::DiscoverVersions(DiscoverVersionsRequest { versions });
     let unique_identifier = Some("1".to_string(alloc)?);
     let destroy = RequestPayload::Destroy(ObjectRequest { unique_identifier });
     let mut items = Vec::new(alloc);
     items.push(item(alloc, 1, operation::QUERY, query)?)?;
-    items.push(item(alloc, 2, operation::DISCOVER_VERSIONS, discover)?)?;
-    items.push(item(alloc, 3, operation::DESTROY, destroy)?)?;
-    let header = RequestHeader::new(ProtocolVersion { major: 1, minor: 0 }, 3);
+    items.push(item(alloc, 2, operation::ARCHIVE, archive)?)?;
+    items.push(item(alloc, 3, operation::DISCOVER_VERSIONS, discover)?)?;
+    items.push(item(alloc, 4, operation::DESTROY, destroy)?)?;
+    let header = RequestHeader::new(ProtocolVersion { major: 1, minor: 0 }, 4);
     to_vec(alloc, &Request { header, items })
 }
 

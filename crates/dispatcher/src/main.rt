@@ -32,7 +32,7 @@ fn main(rt: HostRuntime) -> io::Result<()> {
     let mut bad = b"\x42\x00\x78\x01\x00\x00\x00\x08\x42\x00\x77\x01\x00\x00\x00\x00".to_vec(
         alloc,
     )?;
-    bad.extend_from_slice(b"\x42\x00\x78\x0C\x00\x00\x00\xF8")?;
+    bad.extend_from_slice(b"\x42\x00\x78\x0C\x00\x00\x01\x38")?;
     bad.extend_from_slice(request.as_slice())?;
     let responses = served(&rt, alloc, bad.as_slice())?;
     println!(rt; "{} bytes of responses", responses.len())

@@ -67,11 +67,19 @@ fn abilities<A: Allocator + Copy>(alloc: A) -> Result<QueryResponse<A>, AllocErr
         operations,
         object_types: Vec::new(alloc),
         vendor_identification: Some("Sieveebony".to_string(alloc)?),
+        server_information: None,
         application_namespaces: Vec::new(alloc),
+        extensions: Vec::new(alloc),
+        attestation_types: Vec::new(alloc),
+        rng_parameters: Vec::new(alloc),
+        profiles: Vec::new(alloc),
+        validations: Vec::new(alloc),
+        capabilities: Vec::new(alloc),
+        client_registration_methods: Vec::new(alloc),
     })
 }
 
-// What is done of one item: this server only says what it can do.
+// What is done of one item: this server only says what it can do. The payload of an operation that no table has comes as `Other`.
 fn done<A: Allocator + Copy>(
     alloc: A,
     item: &RequestItem<A>,

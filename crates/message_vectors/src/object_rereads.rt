@@ -176,7 +176,9 @@ fn search(
 ) -> Result<Request, AllocError> {
     let payload = RequestPayload::Locate(LocateRequest {
         maximum_items: None,
+        offset_items: None,
         storage_status_mask: None,
+        object_group_member: None,
         attributes: one(alloc, attribute)?,
     });
     let items = one(alloc, RequestItem::new(operation, payload))?;
