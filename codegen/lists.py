@@ -213,6 +213,24 @@ COUNT = {1: "one", 2: "two", 3: "three", 4: "four"}
 ORDER = ["First", "Second", "Third", "Fourth", "Fifth"]
 
 
+# What isn't told where telling four parts fails.
+NOT_TOLD_USES = [
+    "use Rattle.std.proofs.Common.{◌≡◌, Err, Result, subst, sym}",
+    "use Rattle.std.specs.Prelude.{OnOk}",
+    "use Rattle.std.proofs.lemmas.Result.{err_from_is_err_and}",
+]
+NOT_TOLD = """
+-- of an error nothing is told
+not_told : {T E : Type 0} (P : Type 0) (r : Result T E) (e : E) → r ≡ Err e → OnOk r P
+not_told P r e is = subst (λ x. OnOk x P) (sym is) tt
+
+pub returns-in_err-four-clause-told : goal.returns-in_err-four-clause-told
+returns-in_err-four-clause-told g c =
+    let p = err_from_is_err_and c.from_residual.result c.from_residual.ensures.1 in
+    not_told _ c.from_residual.result p.0 p.1
+"""
+
+
 class Writer:
     """The files of a table."""
 
@@ -660,8 +678,11 @@ class Writer:
             told = f"(g.W.Walk.steps.behind _ _ _ _ _ {call} {told})"
         if t.choices or t.one_ofs:
             told = f"(g.W.Walk.steps.checked _ _ _ _ _ {told} c.check.ensures)"
-        rows = f"\npub returns-clause-told : goal.returns-clause-told\nreturns-clause-told g c = {told[1:-1]}\n"
-        return self.answers(t, "Structure", "tell_parts", [], rows)
+        imports, rows = [], ""
+        if counts == {"four": 1} and any(found.part.type.names_numbers and found.part.type.typed for found in t.choices):
+            imports, rows = NOT_TOLD_USES, NOT_TOLD  # which the search doesn't find
+        rows += f"\npub returns-clause-told : goal.returns-clause-told\nreturns-clause-told g c = {told[1:-1]}\n"
+        return self.answers(t, "Structure", "tell_parts", imports, rows)
 
     # ---- definitions
 
