@@ -1,5 +1,5 @@
 -- Items of any tags and types: what is read of them is encoded as items that are read as the same.
-use Rattle.std.proofs.Common.{◌≡◌, ◌<◌, ◌^◌, ◌%◌, ◌+◌, ◌-◌, ℕ, suc, true, false, List, ◌++◌, length, Option, None, Some, refl, subst, arith}
+use Rattle.std.proofs.Common.{◌≡◌, ◌<◌, ◌^◌, ◌%◌, ◌+◌, ◌-◌, ℕ, suc, true, false, List, [], ◌∷◌, ◌++◌, length, Option, None, Some, refl, subst, arith}
 use Rattle.std.proofs.Common.{inl, inr}
 use Rattle.std.proofs.lemmas.{Bool.cases_lt, Bool.eqb-true, List.get_or_append_left, List.get_or-append_right, List.get_or_past}
 use Rattle.std.specs.Int.{w32, w64, from_be_bytes}
@@ -53,17 +53,22 @@ leaf_back ByteString c is plain valid full all = is_leaf is as_octets
 leaf_back DateTime c is plain valid full all = is_leaf is (as_date_time (sfits_to_z record { fits = eight c all }))
 leaf_back Interval c is plain valid full all = is_leaf is (as_interval (four c all))
 
+-- the head of the first of these items, if there are any
+abbrev pub first_head : List Raw → Option Head
+first_head [] = None
+first_head (h ∷ hs) = Some record { tag = h.tag; typ = h.typ }
+
 mutual
   item_back : {d : ℕ} {h : Raw} {v : Value} → IsAny d h v → h.tag < 2 ^ 24 → AreBytes h.content → IsItem d v record { tag = h.tag; typ = h.typ }
   item_back (any_leaf {d = d} {h = h} plain valid full) small all = leaf_back {d = d} h.typ h.content (omega (arith, small)) plain valid full all
   item_back (any_structure {d = d} {h = h} {vs = vs} is splits are) small all =
       let below = items_back h.content splits all are in
-      rw is (is_node {t = h.tag} (omega (arith, small)) below.1)
+      rw is (is_node {t = h.tag} (omega (arith, small)) below)
 
   -- the items that bytes are split into
-  pub items_back : {d : ℕ} {xs : List Raw} {vs : Values} (c : List ℕ) → Splits xs c → AreBytes c → AreAny d xs vs → (y : Option Head) × AreItems d vs y
-  items_back c splits all no_item = (None, are_none)
+  pub items_back : {d : ℕ} {xs : List Raw} {vs : Values} (c : List ℕ) → Splits xs c → AreBytes c → AreAny d xs vs → AreItems d vs (first_head xs)
+  items_back c splits all no_item = are_none
   items_back c (text, rest, t, parts, others) all (one_item {h = h} i are) =
       let both : AreBytes (text ++ rest) = subst AreBytes parts all in
       let later = items_back rest others (bytes_right text rest both) are in
-      (Some record { tag = h.tag; typ = h.typ }, are_more (item_back i t.tag_fits (content_bytes h text t (bytes_left text rest both))) later.1)
+      are_more (item_back i t.tag_fits (content_bytes h text t (bytes_left text rest both))) later

@@ -1,19 +1,20 @@
 -- Items that are kept: what is read of them is encoded as their bytes, and read of these again.
-use Rattle.std.proofs.Common.{◌≡◌, ◌==◌, ◌-◌, ◌≤◌, ℕ, zero, suc, Bool, true, ◌&&◌, List, [], ◌∷◌, length, map, take, drop, Option}
+use Rattle.std.proofs.Common.{◌≡◌, ◌==◌, ◌-◌, ◌<◌, ◌≤◌, ℕ, zero, suc, Bool, true, false, ◌&&◌, List, [], ◌∷◌, length, map, take, drop, Option}
 use Rattle.std.proofs.Common.{Some, nat_lt, refl, ap, sym, subst, ◌∙◌, arith}
 use Rattle.std.specs.{Cmp.Lexicographic.pointwise, List.list_all, Str.bytes_eq}
 use Rattle.std.proofs.lemmas.{Bool.and_parts, Bool.lt-ltb, Bool.ltb-true, List.append-nil, List.take-append-drop, Slice.Eq.bytes_eq-Decides}
-use Rattle.kmip_ttlv_types.specs.{Items.Splits, Places.ItemsAt, Trees.Tree, Trees.bytes_all, Trees.raw_of}
+use Rattle.kmip_ttlv_types.specs.{Items.Raw, Items.Splits, Places.ItemsAt, Trees.Tree, Trees.bytes_all, Trees.raw_of}
 use Rattle.kmip_ttlv_types.proofs.PlaceLemmas.{items_at_splits, splits_items_at}
-use Rattle.kmip_ttlv_base.specs.Values.{Values, bytes_value, seq_value}
+use Rattle.kmip_ttlv_base.specs.Values.{Values, bytes_value, no_values, seq_value}
 use Rattle.kmip_ttlv_ser.specs.{EncodeResults.IsWrittenAs, Sizes.FitsAfter, WrittenItems.items_in, declared.pending.PendingTag.TheVariants.Nothing}
-use Rattle.kmip_ttlv_reader.specs.{ReadLaws.AreBytes, Reads.most_levels}
+use Rattle.kmip_ttlv_reader.specs.{Outcomes.each_outcome, ReadLaws.AreBytes, Reads.most_levels}
 use Rattle.kmip_ttlv_reader.specs.Steps.{Outcome, gives, ends_early, fails}
 use Rattle.kmip_ttlv_reader.proofs.{Founding.items_there, Giving.each_given, Giving.in_order}
 use Rattle.kmip_ttlv_parts.specs.Agreements.{AreItems, Head}
+use Rattle.kmip_ttlv_parts.specs.KeptItems.{first_tag}
 use Rattle.kmip_ttlv_parts.specs.Kept.{bytes_of_trees, given_values, is_given, is_kept, items_outcome, kept_values}
-use Rattle.kmip_ttlv_parts.proofs.{Agreeing.items_are_read, AnyItems.bytes_left, AnyItems.bytes_right, AnyItems.items_back, Contents.all_split}
-use Rattle.kmip_ttlv_parts.proofs.{Equal.bytes_equal}
+use Rattle.kmip_ttlv_parts.proofs.AnyItems.{bytes_left, bytes_right, first_head, items_back}
+use Rattle.kmip_ttlv_parts.proofs.{Agreeing.items_are_read, Contents.all_split, Equal.bytes_equal, TagNumbers.is_first, TagNumbers.is_tagged}
 use Rattle.kmip_ttlv_parts.proofs.Made.{AllMade, Any, any_texts_in, items_in_made}
 
 -- ---- bytes
@@ -35,12 +36,28 @@ small_all (x ∷ xs) e (suc i) = small_all xs (and_parts (nat_lt x 256) (list_al
 
 -- ---- items of a message
 
--- what is read of them agrees with itself
+-- they are whole, and what is read of them agrees with itself
+agree_there : (b : List ℕ) (p e : ℕ) (vs : Values) → AreBytes b → p ≤ e → p ≤ length b → items_outcome b p e ≡ gives vs
+    → (xs : List Raw) × ItemsAt b p e xs × AreItems most_levels vs (first_head xs)
+agree_there b p e vs bytes le in_bytes is =
+    let there = items_there most_levels b p e vs bytes le in_bytes is in
+    (there.0, there.1, items_back (take (e - p) (drop p b)) (splits_items_at b p e there.0 in_bytes there.1) (part_bytes b p (e - p) bytes) there.2)
+
 pub items_agree : (b : List ℕ) (p e : ℕ) (vs : Values) → AreBytes b → p ≤ e → p ≤ length b → items_outcome b p e ≡ gives vs
     → (y : Option Head) × AreItems most_levels vs y
-items_agree b p e vs bytes le in_bytes is =
-    let there = items_there most_levels b p e vs bytes le in_bytes is in
-    items_back (take (e - p) (drop p b)) (splits_items_at b p e there.0 in_bytes there.1) (part_bytes b p (e - p) bytes) there.2
+items_agree b p e vs bytes le in_bytes is = let there = agree_there b p e vs bytes le in_bytes is in (first_head there.0, there.2)
+
+-- where bytes are items, the first of these has the tag that they begin with
+head_there : (b : List ℕ) (xs : List Raw) → ItemsAt b 0 (length b) xs → (u : ℕ) → is_first u (first_tag b) ≡ false → is_tagged u (first_head xs) ≡ false
+head_there b [] items u e = refl
+head_there [] (x ∷ xs) items u e = let none : ⊥ = omega (arith, items.0.there) in absurd none
+head_there (n ∷ b) (x ∷ xs) items u e = rw items.0.tag e
+
+-- and a header of its own
+long_there : (b : List ℕ) (xs : List Raw) → ItemsAt b 0 (length b) xs → (length b == 0) ≡ false → 3 ≤ length b
+long_there [] xs items some = absurd cc
+long_there (n ∷ b) [] items some = omega (arith, items)
+long_there (n ∷ b) (x ∷ xs) items some = omega (arith, items.0.there)
 
 -- ---- what is written of them
 
@@ -108,9 +125,27 @@ kept_is b kept =
 pub kept_read : (b : List ℕ) → is_kept b ≡ true → items_outcome b 0 (length b) ≡ gives (kept_values b)
 kept_read b kept = (kept_is b kept).read
 
--- they agree with themselves
-pub kept_agree : (b : List ℕ) → is_kept b ≡ true → (y : Option Head) × AreItems most_levels (kept_values b) y
-kept_agree b kept = let k = kept_is b kept in items_agree b 0 (length b) (kept_values b) k.all (omega arith) (omega arith) k.read
+-- the items that they are, which agree with themselves
+kept_there : (b : List ℕ) → is_kept b ≡ true → (xs : List Raw) × ItemsAt b 0 (length b) xs × AreItems most_levels (kept_values b) (first_head xs)
+kept_there b kept = let k = kept_is b kept in agree_there b 0 (length b) (kept_values b) k.all (omega arith) (omega arith) k.read
+
+-- they agree with themselves, and the first has the tag that they begin with
+pub kept_agree : (b : List ℕ) → is_kept b ≡ true
+    → (y : Option Head) × AreItems most_levels (kept_values b) y × ((u : ℕ) → is_first u (first_tag b) ≡ false → is_tagged u y ≡ false)
+kept_agree b kept = let there = kept_there b kept in (first_head there.0, there.2, head_there b there.0 there.1)
+
+-- where there are any bytes, there are those of a tag
+pub kept_long : (b : List ℕ) → is_kept b ≡ true → (length b == 0) ≡ false → 3 ≤ length b
+kept_long b kept some = let there = kept_there b kept in long_there b there.0 there.1 some
+
+-- no bytes are no items
+pub empty_is_kept : is_kept [] ≡ true
+unfolding is_kept kept_values each_outcome
+empty_is_kept = refl
+
+pub empty_values : kept_values [] ≡ no_values
+unfolding kept_values each_outcome
+empty_values = refl
 
 -- equal values are those of equal bytes
 pub kept_same : (a b : List ℕ) → is_kept a ≡ true → is_kept b ≡ true → kept_values a ≡ kept_values b → a ≡ b

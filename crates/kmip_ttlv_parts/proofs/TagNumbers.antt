@@ -29,7 +29,7 @@ unfolding take_tag
 takes_overriding t u = rw (tag_of_number t) refl
 
 -- its text is the name of that tag alone
-has_that : (t u : ℕ) → IsTag t → has_tag (tag_text t) u ≡ (t == u)
+pub has_that : (t u : ℕ) → IsTag t → has_tag (tag_text t) u ≡ (t == u)
 has_that t u is = rw (tag_of_number t, is) refl
 
 pub has_own : (t : ℕ) → IsTag t → has_tag (tag_text t) t ≡ true
@@ -39,6 +39,11 @@ has_own t is = has_that t t is ∙ eq-eqb t t refl
 abbrev pub is_tagged : ℕ → Option Head → Boole
 is_tagged t None = false
 is_tagged t (Some x) = t == x.tag
+
+-- there is a tag, and it is this one
+abbrev pub is_first : ℕ → Option ℕ → Boole
+is_first u None = false
+is_first u (Some t) = u == t
 
 pub named_is_tagged : (t : ℕ) (y : Option Head) → IsTag t → is_named (tag_text t) y ≡ is_tagged t y
 named_is_tagged t None is = refl

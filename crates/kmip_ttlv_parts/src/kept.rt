@@ -4,11 +4,13 @@ ghost use Rattle.std.specs.Prelude.{◌≡◌, ◌≤◌, length, true, IfOk, On
 ghost use Rattle.kmip_ttlv_base.specs.Values.{seq_value};
 ghost use Rattle.kmip_ttlv_base.specs.Visits.{ReceivesEach};
 ghost use Rattle.kmip_ttlv_reader.specs.ReadLaws.{AreBytes};
-ghost use Rattle.kmip_ttlv_parts.specs.Kept.{given_values, is_given, is_kept, items_outcome};
+ghost use Rattle.kmip_ttlv_parts.specs.Kept.{given_values, is_given, is_kept, items_outcome, kept_values};
 
 use crate::visited::visit_items;
 use kmip_ttlv_base::parts::{begin_seq, end_seq};
 use kmip_ttlv_base::shape::Serialize;
+use kmip_ttlv_base::types::TtlvTag;
+use kmip_ttlv_base::types::places::tag_at;
 use kmip_ttlv_base::visit::Visitor;
 use kmip_ttlv_reader::any_item::MOST_LEVELS;
 use kmip_ttlv_ser::to_vec;
@@ -50,7 +52,17 @@ pub struct Kept<A: Allocator = Global> {
 }
 
 impl<A: Allocator + Copy> Kept<A> {
-    ghost use Rattle.kmip_ttlv_parts.specs.KeptItems.{bytes_kept, values_kept};
+    ghost use Rattle.kmip_ttlv_base.specs.Values.{no_values};
+    ghost use Rattle.kmip_ttlv_parts.specs.KeptItems.{bytes_kept, first_kept, values_kept};
+
+    /// No items.
+    pub fn none(alloc: A) -> Kept<A>
+        ensures { values_kept result ≡ no_values }
+    {
+        Kept {
+            items: Vec::new(alloc),
+        }
+    }
 
     /// The items of a message from one place to another, in bytes from the first byte. The only error is out of memory.
     pub fn from_items(alloc: A, bytes: &[u8], pos: usize, end: usize) -> Result<Kept<A>, AllocError>
@@ -71,9 +83,23 @@ impl<A: Allocator + Copy> Kept<A> {
 
     /// The canonical bytes of its items, one after the other.
     pub fn as_bytes(&self) -> &[u8]
-        ensures { result.now ≡ bytes_kept self.now }
+        ensures canonical { is_kept result.now ≡ true }
+        ensures values { kept_values result.now ≡ values_kept self.now }
+        ensures bytes { result.now ≡ bytes_kept self.now }
     {
         self.items.as_slice()
+    }
+
+    /// The tag of its first item, if it has any.
+    pub fn first_tag(&self) -> Option<TtlvTag>
+        ensures { result ≡ first_kept self.now }
+    {
+        let bytes = self.items.as_slice();
+        if bytes.is_empty() {
+            None
+        } else {
+            Some(tag_at(bytes, 0))
+        }
     }
 
     /// Calls a visitor with its items. The error is the visitor's.
