@@ -10,14 +10,14 @@ use Rattle.kmip_ttlv_base.specs.Forms.{Form, option, seq, Fields, no_fields, fie
 use Rattle.kmip_ttlv_base.specs.Values.{Value, seq_value, Values, no_values, value}
 use Rattle.kmip_ttlv_base.specs.Visits.{joined, optional_field, Event, ReceivesEach, visited_in}
 use Rattle.kmip_ttlv_base.proofs.Visiting.{visited_joined}
-use Rattle.kmip_ttlv_reader.specs.TagValues.{TagValue}
+use Rattle.kmip_ttlv_reader.specs.{Reads.has_tag, Reads.names_tag, TagValues.TagValue}
 use Rattle.kmip_ttlv_reader.specs.Spots.{optional_value, optional_values, structure_form, structure_value, values_by}
 use Rattle.kmip_ttlv_parts.specs.{Boxes.boxed, Boxes.IsBoxed, declared.boxed.Boxed.Boxed}
 use Rattle.kmip_ttlv_parts.specs.{Agreements.Head, Agreements.MessageAgrees, Agreements.is_run, MessageParts.sequence}
 use Rattle.kmip_ttlv_parts.specs.Agreements.{Agrees, none_pending, absent_agrees, field_agrees, option_agrees}
 use Rattle.kmip_ttlv_parts.proofs.{Equal.any_equal, Equal.in_structure, Equal.last_equal, Equal.options_equal, Equal.part_equal, Equal.several_equal}
 use Rattle.kmip_ttlv_parts.proofs.Known.{Finds, Known, finds_left, finds_less, left}
-use Rattle.kmip_ttlv_parts.proofs.TagNumbers.{IsTag, in_its_field, is_tagged, named_is_tagged}
+use Rattle.kmip_ttlv_parts.proofs.TagNumbers.{IsTag, has_that, in_its_field, is_first, is_tagged, named_is_tagged}
 use Rattle.kmip_ttlv_parts.proofs.MessageParts.{PartAgrees, PartsAgree, any_then, ends, every_agrees, head_or, if_present, neither_tagged, nothing_left}
 use Rattle.kmip_ttlv_parts.proofs.MessageParts.{optional_then, part_then, several_then}
 use Rattle.kmip_ttlv_parts.proofs.MessageRules.{PartKeeps, optional_stored_then, stored_then}
@@ -263,16 +263,25 @@ abbrev pub are_distinct : List ℕ → Boole
 are_distinct [] = true
 are_distinct (t ∷ ts) = (t % 2 ^ 24 == t) && (is_none_of t ts && are_distinct ts)
 
--- parts of these tags that are written so come back; their first item has no tag but these
-pub record ListFollows (ts : List ℕ) (known : List Known) (fs : Fields) (ws vs : Values) : Type 0 where
+-- no field has the tag of the first item behind them, if there is one
+abbrev pub is_apart : Fields → Option ℕ → Boole
+is_apart fs None = true
+is_apart fs (Some t) = not (names_tag fs t)
+
+-- parts of these tags that are written so come back, with this tag on the first item behind them, if there is one; their first item has no tag
+-- but these
+pub record ListFollows (ts : List ℕ) (behind : Option ℕ) (known : List Known) (fs : Fields) (ws vs : Values) : Type 0 where
   pub head : Option Head
-  pub other : (u : ℕ) → is_none_of u ts ≡ true → is_tagged u head ≡ false
+  pub other : (u : ℕ) → is_none_of u ts ≡ true → is_first u behind ≡ false → is_tagged u head ≡ false
   pub follows : PartsAgree known fs ws head vs
 
--- of a list of parts: their tags, and what is written of what they hold; `fit` is that each part has the tag of its element, `free` that none
--- needs anything to be known
+-- of a list of parts: their tags, and what is written of what they hold; `behind` is the tag of the first item that is kept behind them, `ends`
+-- that none ever is; `fit` is that each part has the tag of its element, `free` that none needs anything to be known
 pub record ListRules (H : Type 0) (fields : Fields) (values : H → Values) : Type 1 where
   pub tags : List ℕ
+  pub behind : H → Option ℕ
+  pub ends : Boole
+  pub nothing : ends ≡ true → (x : H) → behind x ≡ None
   pub fit : Boole
   pub written : H → Values
   pub IsSound : H → Type 0
@@ -280,37 +289,55 @@ pub record ListRules (H : Type 0) (fields : Fields) (values : H → Values) : Ty
   pub free : Boole
   pub enough : free ≡ true → (x : H) (known : List Known) → Needs x known
   pub eq : H → H → Boole
-  pub agree : fit ≡ true → are_distinct tags ≡ true → (x : H) → IsSound x → (known : List Known) → Needs x known
-      → ListFollows tags known fields (written x) (values x)
+  pub agree : fit ≡ true → are_distinct tags ≡ true → (x : H) → IsSound x → is_apart fields (behind x) ≡ true → (known : List Known) → Needs x known
+      → ListFollows tags (behind x) known fields (written x) (values x)
   pub same : (x y : H) → values x ≡ values y → eq x y ≡ true
 
 not_same : (a b : Boole) → not a && b ≡ true → (a ≡ false) × (b ≡ true)
 not_same a b e = let each = and_parts (not a) b e in (not-true a each.0, each.1)
 
+neither : (a b : Boole) → not (elim a [ true ↦ true | false ↦ b ]) ≡ true → (a ≡ false) × (not b ≡ true)
+neither true b e = absurd cc
+neither false b e = (refl, e)
+
+-- a tag that is apart from a field and others is not the field's, and apart from the others
+apart_parts : (s : Form) (fs : Fields) (t : ℕ) (o : Option ℕ) → IsTag t → is_apart (field (tag_text t) s fs) o ≡ true
+    → (is_first t o ≡ false) × (is_apart fs o ≡ true)
+apart_parts s fs t None is e = (refl, refl)
+apart_parts s fs t (Some u) is e =
+    let each = neither (has_tag (tag_text t) u) (names_tag fs u) e in
+    (sym (has_that t u is) ∙ each.0, each.1)
+
 pub then_law : {t : ℕ} {ts : List ℕ} {s : Form} {us vs : Values} {v : Value} {fs : Fields} {Needs : List Known → Type 0} {after : List Known → List Known}
-    (ws : Values) (known : List Known) → are_distinct (t ∷ ts) ≡ true
+    (ws : Values) (known : List Known) (o : Option ℕ) → are_distinct (t ∷ ts) ≡ true
+    → is_apart (field (tag_text t) s fs) o ≡ true
     → PartLaw t s ws v Needs after
     → Needs known
-    → (are_distinct ts ≡ true → ListFollows ts (after known) fs us vs)
-    → ListFollows (t ∷ ts) known (field (tag_text t) s fs) (joined ws us) (value v vs)
-then_law {t} {ts} ws known distinct part needs rest =
+    → (are_distinct ts ≡ true → is_apart fs o ≡ true → ListFollows ts o (after known) fs us vs)
+    → ListFollows (t ∷ ts) o known (field (tag_text t) s fs) (joined ws us) (value v vs)
+then_law {t} {ts} {s = s} {fs = fs} ws known o distinct apart part needs rest =
     let tags = and_parts (t % 2 ^ 24 == t) (is_none_of t ts && are_distinct ts) distinct in
     let others = and_parts (is_none_of t ts) (are_distinct ts) tags.1 in
-    let r = rest others.1 in
-    let p = part known _ _ r.head _ (eqb-true (t % 2 ^ 24) t tags.0) (r.other t others.0) needs r.follows in
+    let is = eqb-true (t % 2 ^ 24) t tags.0 in
+    let from = apart_parts s fs t o is apart in
+    let r = rest others.1 from.1 in
+    let p = part known _ _ r.head _ is (r.other t others.0 from.0) needs r.follows in
     record {
       head = p.head;
-      other = λ u e. let each = not_same (u == t) (is_none_of u ts) e in p.other u each.0 (r.other u each.1);
+      other = λ u e first. let each = not_same (u == t) (is_none_of u ts) e in p.other u each.0 (r.other u each.1 first);
       follows = p.follows;
     }
 
-pub nothing_follows : (known : List Known) → ListFollows [] known no_fields no_values no_values
-nothing_follows known = record { head = None; other = λ u e. refl; follows = nothing_left }
+pub nothing_follows : (known : List Known) → ListFollows [] None known no_fields no_values no_values
+nothing_follows known = record { head = None; other = λ u e first. refl; follows = nothing_left }
 
 -- one part, with no other behind it
 abbrev pub last : {H : Type 0} {s : Form} {g : H → Value} (p : PartRules H s g) → ListRules H (field (tag_text p.tag) s no_fields) (λ x. value (g x) no_values)
 last p = record {
   tags = p.tag ∷ [];
+  behind = λ x. None;
+  ends = true;
+  nothing = λ ends x. refl;
   fit = p.fits;
   written = λ x. joined (p.written x) no_values;
   IsSound = p.IsSound;
@@ -318,8 +345,8 @@ last p = record {
   free = p.free;
   enough = p.enough;
   eq = p.eq;
-  agree = λ fit distinct x sound known needs.
-      then_law (p.written x) known distinct (p.agrees fit x sound) needs (λ d. nothing_follows (p.after x known));
+  agree = λ fit distinct x sound apart known needs.
+      then_law (p.written x) known None distinct refl (p.agrees fit x sound) needs (λ d a. nothing_follows (p.after x known));
   same = λ x y e. last_equal (p.same x y) e;
 }
 
@@ -328,6 +355,9 @@ abbrev pub then : {H K : Type 0} {s : Form} {g : H → Value} {fs : Fields} {vs 
     → ListRules (H × K) (field (tag_text p.tag) s fs) (λ x. value (g x.0) (vs x.1))
 then p r = record {
   tags = p.tag ∷ r.tags;
+  behind = λ x. r.behind x.1;
+  ends = r.ends;
+  nothing = λ ends x. r.nothing ends x.1;
   fit = p.fits && r.fit;
   written = λ x. joined (p.written x.0) (r.written x.1);
   IsSound = λ x. p.IsSound x.0 × r.IsSound x.1;
@@ -335,10 +365,10 @@ then p r = record {
   free = p.free && r.free;
   enough = λ free x known. let each = and_parts p.free r.free free in (p.enough each.0 x.0 known, r.enough each.1 x.1 (p.after x.0 known));
   eq = λ x y. p.eq x.0 y.0 && r.eq x.1 y.1;
-  agree = λ fit distinct x sound known needs.
+  agree = λ fit distinct x sound apart known needs.
       let fits = and_parts p.fits r.fit fit in
-      then_law (p.written x.0) known distinct (p.agrees fits.0 x.0 sound.0) needs.0
-      (λ d. r.agree fits.1 d x.1 sound.1 (p.after x.0 known) needs.1);
+      then_law (p.written x.0) known (r.behind x.1) distinct apart (p.agrees fits.0 x.0 sound.0) needs.0
+      (λ d a. r.agree fits.1 d x.1 sound.1 a (p.after x.0 known) needs.1);
   same = λ x y e. part_equal (p.same x.0 y.0) (r.same x.1 y.1) e;
 }
 
@@ -346,6 +376,9 @@ then p r = record {
 abbrev pub of : {H K : Type 0} {fs : Fields} {vs : K → Values} (f : H → K) → ListRules K fs vs → ListRules H fs (λ x. vs (f x))
 of f r = record {
   tags = r.tags;
+  behind = λ x. r.behind (f x);
+  ends = r.ends;
+  nothing = λ ends x. r.nothing ends (f x);
   fit = r.fit;
   written = λ x. r.written (f x);
   IsSound = λ x. r.IsSound (f x);
@@ -398,6 +431,9 @@ abbrev pub in_blocks : {H : Type 0} {fs : Fields} {vs : H → Values} (f : H →
     → ListRules H fs vs
 in_blocks {fs = fs} {vs = vs} f P r equal sound_of = record {
   tags = r.tags;
+  behind = r.behind;
+  ends = r.ends;
+  nothing = r.nothing;
   fit = r.fit;
   written = f;
   IsSound = P;
@@ -405,8 +441,8 @@ in_blocks {fs = fs} {vs = vs} f P r equal sound_of = record {
   free = r.free;
   enough = r.enough;
   eq = r.eq;
-  agree = λ fit distinct x sound known needs.
-      subst (λ ws. ListFollows r.tags known fs ws (vs x)) (equal x) (r.agree fit distinct x (sound_of x sound) known needs);
+  agree = λ fit distinct x sound apart known needs.
+      subst (λ ws. ListFollows r.tags (r.behind x) known fs ws (vs x)) (equal x) (r.agree fit distinct x (sound_of x sound) apart known needs);
   same = r.same;
 }
 
@@ -430,6 +466,11 @@ joined_first : (a b c : Values) → joined a (joined b c) ≡ joined (joined a b
 joined_first no_values b c = refl
 joined_first (value v vs) b c = ap (value v) (joined_first vs b c)
 
+-- one, and those behind it
+pub is_one_more : (a behind : Values) → joined a behind ≡ blocks (block (a ∷ [])) behind
+unfolding block blocks
+is_one_more a behind = joined_first a no_values behind
+
 -- four, and those behind them
 pub are_more : (a b c d behind : Values) → joined a (joined b (joined c (joined d behind))) ≡ blocks (block (a ∷ b ∷ c ∷ d ∷ [])) behind
 unfolding block blocks
@@ -442,12 +483,20 @@ are_more a b c d behind =
 -- ---- structures
 
 -- no two of these parts have one tag, and each has that of its element
+abbrev pub are_fit : {H : Type 0} {fs : Fields} {vs : H → Values} → ListRules H fs vs → Boole
+are_fit r = r.fit && are_distinct r.tags
+
+-- and nothing is kept behind them
 abbrev pub is_fit : {H : Type 0} {fs : Fields} {vs : H → Values} → ListRules H fs vs → Boole
-is_fit r = r.fit && are_distinct r.tags
+is_fit r = are_fit r && r.ends
 
 -- and none needs anything to be known
 abbrev pub is_good : {H : Type 0} {fs : Fields} {vs : H → Values} → ListRules H fs vs → Boole
 is_good r = is_fit r && r.free
+
+-- no two of these parts have one tag, each has that of its element, and none needs anything to be known
+abbrev pub are_good : {H : Type 0} {fs : Fields} {vs : H → Values} → ListRules H fs vs → Boole
+are_good r = are_fit r && r.free
 
 -- what a walk is told: what is written, and whether it is sound
 pub record Told : Type 1 where
@@ -483,13 +532,18 @@ pub record StructureRules (H : Type 0) : Type 1 where
       → PartAgrees (structure_form n fields closed) (structure_value n written x) record { tag = n; typ = types.Structure } (structure_value n values x)
   pub same : (x y : H) → values x ≡ values y → eq x y ≡ true
 
-pub list_agrees : {K : Type 0} {fs : Fields} {vs : K → Values} (n : ℕ) (closed : Boole) (r : ListRules K fs vs) → is_fit r ≡ true → IsTag n
+pub list_agrees : {K : Type 0} {fs : Fields} {vs : K → Values} (n : ℕ) (closed : Boole) (r : ListRules K fs vs) → are_fit r ≡ true → IsTag n
     → (k : K) → r.IsSound k
+    → is_apart fs (r.behind k) ≡ true
     → r.Needs k []
     → PartAgrees (structure_form n fs closed) (structure_value n r.written k) record { tag = n; typ = types.Structure } (structure_value n vs k)
-list_agrees n closed r fit is k sound needs =
+list_agrees n closed r fit is k sound apart needs =
     let each = and_parts r.fit (are_distinct r.tags) fit in
-    messages.structure n is (r.agree each.0 each.1 k sound [] needs).follows
+    messages.structure n is (r.agree each.0 each.1 k sound apart [] needs).follows
+
+-- where nothing is kept behind parts, they are apart from it
+pub nothing_apart : {K : Type 0} {fs : Fields} {vs : K → Values} (r : ListRules K fs vs) → r.ends ≡ true → (k : K) → is_apart fs (r.behind k) ≡ true
+nothing_apart r ends k = rw (r.nothing ends k) refl
 
 -- a structure of these parts, by the `==` of its type
 abbrev pub structure : {H K : Type 0} {fs : Fields} {vs : K → Values} (closed : Boole) (r : ListRules K fs vs) (parts : H → K) → is_good r ≡ true
@@ -498,6 +552,7 @@ abbrev pub structure : {H K : Type 0} {fs : Fields} {vs : K → Values} (closed 
     → StructureRules H
 structure {fs = fs} {vs = vs} closed r parts good eq equal =
     let each = and_parts (is_fit r) r.free good in
+    let fit = and_parts (are_fit r) r.ends each.0 in
     record {
       fields = fs;
       closed = closed;
@@ -505,7 +560,30 @@ structure {fs = fs} {vs = vs} closed r parts good eq equal =
       written = λ x. r.written (parts x);
       IsSound = λ x. r.IsSound (parts x);
       eq = eq;
-      agrees = λ n is x sound. list_agrees n closed r each.0 is (parts x) sound (r.enough each.1 (parts x) []);
+      agrees = λ n is x sound.
+          list_agrees n closed r fit.0 is (parts x) sound (nothing_apart r fit.1 (parts x)) (r.enough each.1 (parts x) []);
+      same = λ x y e. equal x y (r.same (parts x) (parts y) e);
+    }
+
+-- what is kept behind the parts of a structure begins with no item of a part's tag
+abbrev pub IsApart : {H K : Type 0} {fs : Fields} {vs : K → Values} → ListRules K fs vs → (H → K) → H → Type 0
+IsApart {fs = fs} r parts x = is_apart fs (r.behind (parts x)) ≡ true
+
+-- a structure of these parts that keeps what stands behind them: it is sound if they are, and this begins with no item of a part's tag
+abbrev pub keeping_structure : {H K : Type 0} {fs : Fields} {vs : K → Values} (r : ListRules K fs vs) (parts : H → K) → are_good r ≡ true
+    → (eq : H → H → Boole)
+    → ((x y : H) → r.eq (parts x) (parts y) ≡ true → eq x y ≡ true)
+    → StructureRules H
+keeping_structure {fs = fs} {vs = vs} r parts good eq equal =
+    let each = and_parts (are_fit r) r.free good in
+    record {
+      fields = fs;
+      closed = true;
+      values = λ x. vs (parts x);
+      written = λ x. r.written (parts x);
+      IsSound = λ x. r.IsSound (parts x) × IsApart r parts x;
+      eq = eq;
+      agrees = λ n is x sound. list_agrees n true r each.0 is (parts x) sound.0 sound.1 (r.enough each.1 (parts x) []);
       same = λ x y e. equal x y (r.same (parts x) (parts y) e);
     }
 
@@ -516,16 +594,18 @@ abbrev pub structure_where : {H K : Type 0} {fs : Fields} {vs : K → Values} (c
     → (eq : H → H → Boole)
     → ((x y : H) → r.eq (parts x) (parts y) ≡ true → eq x y ≡ true)
     → StructureRules H
-structure_where {fs = fs} {vs = vs} closed r parts fit Decides needed eq equal = record {
-  fields = fs;
-  closed = closed;
-  values = λ x. vs (parts x);
-  written = λ x. r.written (parts x);
-  IsSound = λ x. r.IsSound (parts x) × Decides x;
-  eq = eq;
-  agrees = λ n is x sound. list_agrees n closed r fit is (parts x) sound.0 (needed x sound.1);
-  same = λ x y e. equal x y (r.same (parts x) (parts y) e);
-}
+structure_where {fs = fs} {vs = vs} closed r parts good Decides needed eq equal =
+    let fit = and_parts (are_fit r) r.ends good in
+    record {
+      fields = fs;
+      closed = closed;
+      values = λ x. vs (parts x);
+      written = λ x. r.written (parts x);
+      IsSound = λ x. r.IsSound (parts x) × Decides x;
+      eq = eq;
+      agrees = λ n is x sound. list_agrees n closed r fit.0 is (parts x) sound.0 (nothing_apart r fit.1 (parts x)) (needed x sound.1);
+      same = λ x y e. equal x y (r.same (parts x) (parts y) e);
+    }
 
 -- what a walk is told of a structure
 abbrev pub told_of : {H : Type 0} → StructureRules H → H → Told

@@ -1,8 +1,8 @@
 //! Message types that are lists of parts: a type names its parts once, each by a kind, and is encoded, decoded, checked and proved to come
 //! back by them.
 //!
-//! A structure implements [`Structure`], with a [`PartList`]: a tuple of up to four kinds, or [`Four`] of them with others behind. A kind is
-//! a count, [`One`], [`Maybe`], [`Several`] or [`Any`], of an element: another structure ([`Of`]), be it one that is kept with any items
+//! A structure implements [`Structure`], with a [`PartList`]: a tuple of up to four kinds, or [`Four`] of them with others behind. It may
+//! end with [`Rest`], which keeps what stands behind its parts. A kind is a count, [`One`], [`Maybe`], [`Several`] or [`Any`], of an element: another structure ([`Of`]), be it one that is kept with any items
 //! in it (`Kept`), or a leaf of a type of Rust under a tag ([`LeafItem`]). [`Leaf`] is one leaf, [`MaybeLeaf`] one that may be absent.
 //!
 //! ```
@@ -37,12 +37,13 @@ pub use crate::choices::{Choice, MaybeOneOf, OneOf, is_choice_whole, read_choice
 pub use crate::conversion::convert;
 pub use crate::counts::{Any, Maybe, One, Part, Several};
 pub use crate::elements::{Element, InBox, Inside, Leaf, LeafItem, MaybeLeaf, Of, Under};
+pub use crate::kept::{Rest, is_apart};
 pub use crate::laws::{
     equal_choices, equal_structures, structures_are_read_back, structures_come_back,
 };
 pub use crate::leaves::LeafKind;
 pub use crate::listed::{Listed, ListedItem};
-pub use crate::lists::{Alone, Four, Holds, PartList};
+pub use crate::lists::{Alone, Before, Four, Holds, PartList};
 pub use crate::reading::{decode_structure, read_structure};
 pub use crate::structure::{FromParts, Structure, Wrapper, is_structure_whole, visit_structure};
 pub use crate::walks::{Decided, Judges, Visits, Walk};

@@ -1,4 +1,5 @@
-//! Lists of parts: one alone, tuples of up to four kinds, or `Four` of them with others behind. What they hold has the same layout.
+//! Lists of parts: one alone, tuples of up to four kinds, or `Before` or `Four` of them with others behind. What they hold has the same
+//! layout.
 
 ghost use Rattle.std.specs.Prelude.{◌≡◌, [], ◌∷◌, IfOk};
 ghost use Rattle.kmip_ttlv_types.specs.Digits.{tag_text};
@@ -7,7 +8,7 @@ ghost use Rattle.kmip_ttlv_base.specs.Values.{no_values, value};
 ghost use Rattle.kmip_ttlv_reader.specs.Reads.{has_fields, names_tag};
 ghost use Rattle.kmip_ttlv_reader.specs.Outcomes.{fields_outcome};
 ghost use Rattle.kmip_ttlv_reader.specs.Spots.{IsReadTo, IsWithin, at};
-ghost use Rattle.kmip_ttlv_kinds.specs.Parts.{AreFour, AreThree, AreTwo, are_four, are_more, are_three, are_two, block, blocks, four_of, in_blocks, is_one, last, more_of, of, then, three_of, two_of};
+ghost use Rattle.kmip_ttlv_kinds.specs.Parts.{AreFour, AreThree, AreTwo, are_four, are_more, are_three, are_two, block, blocks, four_of, in_blocks, is_one, is_one_more, last, more_of, of, then, three_of, two_of};
 
 use crate::counts::Part;
 use kmip_ttlv_base::types::TtlvTag;
@@ -318,5 +319,38 @@ impl<P: Part<A>, Q: Part<A>, R: Part<A>, S: Part<A>, L: PartList<A>, A: Allocato
             }
             Err(failure) => Err(failure),
         }
+    }
+}
+
+/// One part, and others behind it.
+#[derive(Drop)]
+pub struct Before<P, L> {
+    kind: PhantomData<(P, L)>,
+}
+
+impl<P: Part<A>, L: PartList<A>, A: Allocator + Copy> PartList<A> for Before<P, L> {
+    type Holds = (P::Holds, L::Holds);
+
+    ghost fields = { field (tag_text P.rules.tag) P.form L.fields };
+
+    ghost values = { λ x. value (P.value x.0) (L.values x.1) };
+
+    ghost rules = { in_blocks (λ x. blocks (block (P.rules.written x.0 ∷ [])) (L.rules.written x.1)) (λ x. P.rules.IsSound x.0 × L.rules.IsSound x.1)
+        (then P.rules L.rules) (λ x. is_one_more (P.rules.written x.0) (L.rules.written x.1)) (λ x sound. sound) };
+
+    fn has_parts() -> bool {
+        true
+    }
+
+    fn is_part(tag: TtlvTag) -> bool {
+        <Then<P, Behind<L>> as Run<A>>::is_part(tag)
+    }
+
+    #[inline(always)]
+    fn read_list<'b>(
+        scope: &Scope<'b, A>,
+        cursor: &mut Cursor<'b, A>,
+    ) -> Step<(P::Holds, L::Holds), A> {
+        <Then<P, Behind<L>> as Run<A>>::read(scope, cursor)
     }
 }

@@ -27,12 +27,7 @@ use std::alloc::Allocator;
 // Where the content of a structure of this tag ends.
 #[tactic(auto, unfolding(kmip_ttlv_reader::specs::Outcomes::opened), using(kmip_ttlv_reader::proofs::Steps::failure_then))]
 #[inline(always)]
-pub(crate) fn opened<A: Allocator + Copy>(
-    alloc: A,
-    tag: u32,
-    bytes: &[u8],
-    pos: usize,
-) -> Step<usize, A>
+fn opened<A: Allocator + Copy>(alloc: A, tag: u32, bytes: &[u8], pos: usize) -> Step<usize, A>
     requires inside { pos ≤ length bytes.now }
     ensures step { IsStep (λ q. q) (opened (tag_text tag) bytes.now pos) result }
     ensures there { IfOk result (λ q. (pos + 8 ≤ length bytes.now) × (pos + 8 ≤ q)) }

@@ -13,7 +13,7 @@ read_from {A = A} v bytes s g (Ok x) are written h =
     let found = result_found {A = A} s bytes (λ w y. w ≡ g y) (Ok x) are h in
     record { bytes = bytes; written = written; appends = subst (Begins s bytes) found.2 found.1 }
 read_from v bytes s g (Err e) are written h =
-    inr record { bytes = bytes; written = written; appends = result_stands s bytes (λ w y. w ≡ g y) (Err e) h }
+    inr record { bytes = bytes; written = written; appends = (h, result_stands s bytes (λ w y. w ≡ g y) (Err e) h) }
 
 pub returns : goal.returns
 returns g c =
