@@ -2,15 +2,15 @@
 
 import re
 
-from tables import snake
+from tables import REST, snake
 
 CLAIM = "Written by codegen from types.table: change that, and run codegen/codegen."
 
 # What a module imports, by its path, if it names it.
 RUST_NAMES = {
     "kmip_ttlv::error": "Error",
-    "kmip_ttlv_kinds": "Alone Any Choice Decided Element Four FromParts Holds InBox Inside Leaf LeafItem Listed ListedItem Maybe MaybeLeaf MaybeOneOf Of One OneOf"
-    " PartList Several Structure Under Walk Wrapper decode_structure is_structure_whole read_choice read_structure structures_come_back visit_structure",
+    "kmip_ttlv_kinds": "Alone Any Before Choice Decided Element Four FromParts Holds InBox Inside Leaf LeafItem Listed ListedItem Maybe MaybeLeaf MaybeOneOf Of One OneOf"
+    " PartList Rest Several Structure Under Walk Wrapper decode_structure is_apart is_structure_whole read_choice read_structure structures_come_back visit_structure",
     "kmip_ttlv_parts": "Boxed Enumeration Kept",
     "kmip_ttlv_parts::laws": "Message Sound is_none_of",
     "kmip_ttlv_parts::reader": "BigNumber Cursor DateTime Interval RuleParts Scope Step",
@@ -28,7 +28,7 @@ GHOST_NAMES = {
     "Rattle.kmip_ttlv_parts.specs.Digits": "tag_text",
     "Rattle.kmip_ttlv_parts.specs.Returns": "IsNoneOf text_of_number",
     "Rattle.kmip_ttlv_parts.specs.Values": "unit_variant_value",
-    "Rattle.kmip_ttlv_kinds.specs.Parts": "all_enough structure structure_where",
+    "Rattle.kmip_ttlv_kinds.specs.Parts": "IsApart all_enough keeping_structure structure structure_where",
     "Rattle.kmip_ttlv_kinds.specs.Choices": "held held_choice numbered_where texted_where",
     "Rattle.kmip_ttlv_parts.specs.MessageParts": "there",
 }
@@ -94,7 +94,7 @@ def names_of(t):
     if t.kind in ("choice", "group") or t.is_enumeration:
         names.append(t.snake)
     if t.kind in ("structure", "message", "wrapper"):
-        names += [f"{t.name}{order}" for order in ORDER[: (len(t.parts) + 3) // 4] if len(t.parts) > 4] + [f"{t.name}Parts"]
+        names += [f"{t.name}{order}" for order, _ in zip(ORDER, Kinds(t).chunks) if len(t.parts) > 4 - t.keeps_rest] + [f"{t.name}Parts"]
     listed = [t.name] if t.kind == "enumeration" else [part.constant for part in t.parts if part.is_constant]
     listed += [v.constant for v in t.variants if t.kind == "choice" and v.number]
     names += [name for name in listed if name != t.name] + [snake(name) for name in listed if name != t.name]
@@ -176,13 +176,23 @@ class Kinds:
     def lists(self):
         """The lists of its parts by their names, four parts in each, and the whole list, which comes last."""
         chunks, whole = self.chunks, f"{self.t.name}Parts"
-        if len(chunks) == 1:
-            return {whole: self.tuple(chunks[0])}
-        found = {f"{self.t.name}{order}": self.tuple(chunk) for order, chunk in zip(ORDER, chunks)}
-        *firsts, behind = [name + ("<A>" if has_a(listed) else "") for name, listed in found.items()]
+        if len(chunks) == 1 and (len(chunks[0]) < 4 or not self.t.keeps_rest):
+            return {whole: self.behind(chunks[0])}
+        found = {f"{self.t.name}{order}": self.tuple(chunk) if len(chunk) == 4 else self.behind(chunk) for order, chunk in zip(ORDER, chunks)}
+        firsts = [name + ("<A>" if has_a(listed) else "") for name, listed in found.items()]
+        behind = "Rest" if self.t.keeps_rest and len(chunks[-1]) == 4 else firsts.pop()
         for first in reversed(firsts):
             behind = f"Four<{first}, {behind}>"
         return {**found, whole: behind}
+
+    def behind(self, parts):
+        """The list that ends with these."""
+        if not self.t.keeps_rest:
+            return self.tuple(parts)
+        listed = "Rest"
+        for part in reversed(parts):
+            listed = f"Before<{self.kind(part)}, {listed}>"
+        return listed
 
     def tuple(self, parts):
         kinds = [self.kind(part) for part in parts]
@@ -192,18 +202,25 @@ class Kinds:
         """What the list holds, by names: in tuples."""
         if len(names) > 4:
             return f"({', '.join(names[:4])}, {self.held(names[4:])})"
+        if self.t.keeps_rest and len(names) > 1:
+            return f"({names[0]}, {self.held(names[1:])})"
         return f"({', '.join(names)})" if len(names) > 1 else names[0]
 
     @property
     def record(self):
         """The same of x, in definitions."""
         names = [f"{snake(part.constant)}.Only" if part.is_constant else f"x.{part.name}" for part in self.t.parts]
-        return self.held(names)
+        return self.held(names + [f"x.{REST}"] * self.t.keeps_rest)
 
     @property
     def chunks(self):
         parts = self.t.parts
         return [parts[at : at + 4] for at in range(0, len(parts), 4)]
+
+    @property
+    def told(self):
+        """The parts that a walk is told of at a time: of fewer than four before what is kept one by one."""
+        return [one for chunk in self.chunks for one in ([[part] for part in chunk] if self.t.keeps_rest and len(chunk) < 4 else [chunk])]
 
 
 # Numbers with a sign, of which a proof has to find that their bits are those of a number that fits.
@@ -250,7 +267,7 @@ class Writer:
             if folder and t.kind == "choice":
                 files[f"{folder}/{self.impl_of(t, 'Choice')}/tell_held/Answers.antt"] = self.held_told(t)
                 files[f"{folder}/{self.impl_of(t, 'Choice')}/read_held/Answers.antt"] = self.held_read(t)
-            if folder and t.kind in ("structure", "message") and (t.choices or t.one_ofs or len(t.parts) > 4):
+            if folder and t.kind in ("structure", "message") and (t.choices or t.one_ofs or t.keeps_rest or len(t.parts) > 4):
                 files[f"{folder}/{self.impl_of(t, 'Structure')}/tell_parts/Answers.antt"] = self.parts_told(t)
         return {path: f"{'//' if path.endswith('.rt') else '--'} {CLAIM}\n{text}" for path, text in files.items()}
 
@@ -391,21 +408,23 @@ class Writer:
     def structure(self, t):
         k, a = Kinds(t), Kinds.a(t)
         constants = [part for part in t.parts if part.is_constant]
-        text = self.declared(t) + "".join(f"    /// {part.doc}\n    pub {part.name}: {k.rust(part)},\n" for part in t.parts if part not in constants) + "}\n"
+        text = self.declared(t) + "".join(f"    /// {part.doc}\n    pub {part.name}: {k.rust(part)},\n" for part in t.parts if part not in constants)
+        text += f"    /// What stands behind these, whatever it is.\n    pub {REST}: Kept<A>,\n}}\n" if t.keeps_rest else "}\n"
         for part in constants:
             text += self.listed(part.constant, f"What `{part.name}` of a `{t.name}` always is.", part.tag, [("Only", part.number, "The number.")], True)
         for one in t.one_ofs:
             text += self.one_of(t, one)
-        text += self.decision(t)
         lists = k.lists
         *_, whole = lists
         parts = f"{whole}{'<A>' if any(has_a(listed) for listed in lists.values()) else ''}"
+        text += self.kept_apart(t, parts) if t.keeps_rest else self.decision(t)
         for name, listed in lists.items():
             text += f"\ntype {name}{'<A>' if has_a(listed) else ''} = {listed};\n"
         closed = "true" if t.denies else "false"
         decides, needed = self.decides(t)
-        held, names = k.held(["_" if part in constants else part.name for part in t.parts]), ", ".join(part.name for part in t.parts if part not in constants)
-        rules = f"structure{'_where' if decides else ''} {closed} ⟦<{parts} as PartList<A>>⟧.rules ⟦<{t.name}{a} as FromParts<A, {parts}>>⟧.parts refl"
+        rest = [REST] * t.keeps_rest
+        held, names = k.held(["_" if part in constants else part.name for part in t.parts] + rest), ", ".join([part.name for part in t.parts if part not in constants] + rest)
+        rules = f"{'keeping_structure' if t.keeps_rest else f'structure_where {closed}' if decides else f'structure {closed}'} ⟦<{parts} as PartList<A>>⟧.rules ⟦<{t.name}{a} as FromParts<A, {parts}>>⟧.parts refl"
         rules += f"\n        (λ x. {decides}) (λ x d. {needed})" if decides else ""
         return text + (
             f"\nimpl<A: Allocator + Copy> FromParts<A, {parts}> for {t.name}{a} {{\n    ghost parts = {{ λ x. {k.record} }};\n\n"
@@ -431,10 +450,11 @@ class Writer:
         if t.kind == "wrapper" and not inner:
             return f"        Self::tell_inner::<W>(&self.{t.given[0].name}, state)\n"
         calls = []
-        for chunk in k.chunks:
+        for chunk in k.told:
             kinds, lent = ", ".join(k.kind(part) for part in chunk), ", ".join(inner if inner and part is t.given[0] else f"&{k.only(part) if part.kind == 'constant' else f'self.{part.name}'}" for part in chunk)
             calls.append(f"W::{COUNT[len(chunk)]}::<{kinds}>(state, {lent})")
-        decides = bool(t.choices or t.one_ofs)
+        calls += [f"W::kept(state, &self.{REST})"] * t.keeps_rest
+        decides = bool(t.choices or t.one_ofs or t.keeps_rest)
         if len(calls) == 1 and not decides:
             return f"        {calls[0]}\n"
         lines = [f"{call}?;" for call in calls] + (["W::check(state, self);"] if decides else []) + ["Ok(())"]
@@ -467,6 +487,15 @@ class Writer:
         return (
             f"\nimpl{'<A: Allocator>' if t.owns else ''} Decided for {t.name}{Kinds.a(t)} {{\n    ghost IsDecided = {{ λ x. {says[0]} }};\n\n"
             f"    fn is_decided(&self) -> bool {{\n{''.join(f'        {line}{chr(10)}' for line in lines)}    }}\n}}\n"
+        )
+
+    def kept_apart(self, t, parts):
+        """How it is decided that what is kept behind its parts begins with none of their tags."""
+        a = Kinds.a(t)
+        lists = f"⟦<{parts} as PartList<A>>⟧.rules ⟦<{t.name}{a} as FromParts<A, {parts}>>⟧.parts"
+        return (
+            f"\nimpl<A: Allocator + Copy> Decided for {t.name}{a} {{\n    ghost IsDecided = {{ λ x. IsApart {lists} x }};\n\n"
+            f"    fn is_decided(&self) -> bool {{\n        is_apart::<{parts}, A>(&self.{REST})\n    }}\n}}\n"
         )
 
     def relation(self, found):
@@ -545,14 +574,16 @@ class Writer:
             return inner
         if variant.type.is_open:
             return inner if variant.type.tag == t.tag else f"Under<{inner}, 0x{t.tag}>"
-        return Kinds.structure(variant.type, t.tag)
+        element = Kinds.structure(variant.type, t.tag)
+        return f"InBox<{element}>" if variant.is_boxed else element
 
     def inside(self, variant):
         if variant.number:
             return variant.constant
         if variant.wrapper:
             return Kinds.inner(variant.type)
-        return variant.leaf.rust if variant.leaf else f"{variant.type.name}{Kinds.a(variant.type)}"
+        inner = variant.leaf.rust if variant.leaf else f"{variant.type.name}{Kinds.a(variant.type)}"
+        return f"Boxed<{inner}, A>" if variant.is_boxed else inner
 
     def choice(self, t):
         a, bound = Kinds.a(t), "<A: Allocator>" if t.owns else ""
@@ -669,14 +700,13 @@ class Writer:
 
     def parts_told(self, t):
         counts, calls = {}, []
-        for chunk in Kinds(t).chunks:
-            name = COUNT[len(chunk)]
+        for name in [COUNT[len(chunk)] for chunk in Kinds(t).told] + ["kept"] * t.keeps_rest:
             counts[name] = counts.get(name, 0) + 1
             calls.append(f"c.in_ok-{name}{f'-{counts[name]}' if counts[name] > 1 else ''}.ensures.told")
         told = calls[-1]
         for call in reversed(calls[:-1]):
             told = f"(g.W.Walk.steps.behind _ _ _ _ _ {call} {told})"
-        if t.choices or t.one_ofs:
+        if t.choices or t.one_ofs or t.keeps_rest:
             told = f"(g.W.Walk.steps.checked _ _ _ _ _ {told} c.check.ensures)"
         imports, rows = [], ""
         if counts == {"four": 1} and any(found.part.type.names_numbers and found.part.type.typed for found in t.choices):
@@ -713,6 +743,8 @@ class Writer:
         for word in ("DateTime", "Interval"):
             if re.search(rf"\b{word}\b(?! →  *types)", re.sub(r"types\.\w+|codes \"[^\"]*\"", "", body)):
                 lines.append(f"use Rattle.kmip_ttlv_reader.specs.declared.values.{word}.{{{word}}}")
+        if re.search(r"\bBoxed\b", body):
+            lines.append("use Rattle.kmip_ttlv_parts.specs.declared.boxed.Boxed.{Boxed}")
         if "BigNumber" in body:
             lines.append("use Rattle.kmip_ttlv_reader.specs.declared.values.BigNumber.{BigNumber}")
         for t in [*types, *groups.values(), *held.values()]:
@@ -813,7 +845,8 @@ class Writer:
             return f"Enumeration 0x{v.type.tag}"
         if v.wrapper:
             return self.inner_definition(v.type)
-        return f"{v.type.name}{' A' if v.type.owns else ''}"
+        inner = f"{v.type.name}{' A' if v.type.owns else ''}"
+        return f"Boxed {self.in_brackets(inner)} A" if v.is_boxed else inner
 
     def inner_definition(self, wrapper):
         """What is in a wrapper, as a type of definitions."""

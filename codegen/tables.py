@@ -55,9 +55,14 @@ LEAVES = {
 
 # Names that a type can't have, since written files have them in another sense: the parameters of types, and imports.
 TYPE_NAMES = set(
-    "A W AllocError Allocator Box Boxed Clone Copy Debug Drop Enumeration Eq Err Global Kept None Ok Option PartialEq Result Self Some String"
-    " TheVariants Type Vec types".split()
+    "A W AllocError Allocator Alone Any Before BigNumber Box Boxed Choice Clone Copy Cursor DateTime Debug Decided Decode Drop Element Enumeration Eq Err"
+    " Error Four FromParts Global Holds InBox Inside Interval Kept Leaf LeafItem Listed ListedItem Maybe MaybeLeaf MaybeOneOf Message None Of Ok One OneOf"
+    " Option PartList PartialEq Rest Result RuleParts Scope Self Serialize Several Some Sound Step String Structure TheVariants TtlvType Type Under Vec"
+    " Visitor Walk Wrapper types".split()
 )
+
+# The part that holds what stands behind those of a table's rows, where a structure keeps that.
+REST = "other_items"
 
 # Names that a part can't have, since written code has them in another sense; and the module of an Enumeration's constants.
 PART_NAMES = set("alloc cursor reader scope state tag visitor inner".split())
@@ -76,7 +81,7 @@ class Bad(Exception):
     """What is wrong with a row."""
 
 
-BOXED = "'boxed' is for a structure that comes once or may be absent, as a part of another"
+BOXED = "'boxed' is for a structure that comes once or may be absent, as a part of another or a variant"
 
 
 @dataclass(eq=False)
@@ -206,7 +211,7 @@ class Variant:
     rule: str = ""
     is_broken: bool = False
     owner: str = ""  # the type that it is a variant of, as a name of definitions
-    is_boxed: bool = False  # of a group, whether the part that it lends stands on the heap
+    is_boxed: bool = False  # whether what it holds stands on the heap; of a group, the part that it lends
     leaf: Leaf = None  # the kind of leaf that it holds
 
     @property
@@ -309,6 +314,7 @@ class Type:
     shape_name: str = ""  # of a choice
     is_plain: bool = False  # of a choice
     denies: bool = False  # whether a structure is closed: refuses what follows its parts
+    keeps_rest: bool = False  # whether a structure keeps what follows its parts
     one_ofs: list = field(default_factory=list)
     is_broken: bool = False  # whether something is wrong with its rows
     is_by_listed: bool = False  # of a choice, whether the text of a closed Enumeration chooses
@@ -343,7 +349,8 @@ class Type:
     @property
     def owns(self):
         chosen = [found for variant in self.variants for found in (variant.type, variant.leaf) if found]
-        return self.is_kept or any(part.owns for part in self.parts) or any(found.owns for found in chosen)
+        is_boxed = self.kind == "choice" and any(variant.is_boxed for variant in self.variants)
+        return self.is_kept or self.keeps_rest or is_boxed or any(part.owns for part in self.parts) or any(found.owns for found in chosen)
 
     @property
     def given(self):
@@ -483,6 +490,10 @@ class Words:
     def tag(self):
         return self.digits("the tag", 6)
 
+    def next_tag(self):
+        """Takes the next word if it is a tag."""
+        return self.word("") if re.match("[0-9A-F]{6}( |$)", self.rest) else ""
+
     def number(self):
         return self.digits("the number", 8)
 
@@ -620,7 +631,10 @@ class Reader:
             if found.is_open and found.snake in RESERVED | MODULE_NAMES:
                 raise Bad(f"'{found.name}' can't be a type's name: the module of its constants would be '{found.snake}'")
         else:
-            found.denies = words.one_of("a structure's kind", "open", "closed") == "closed"
+            word = words.one_of("a structure's kind", "open", "closed", "kept")
+            found.denies, found.keeps_rest = word != "open", word == "kept"
+            if found.keeps_rest and kind == "wrapper":
+                raise Bad("a wrapper has one part that is always there, and constants")
         found.doc = words.description()
         self.add_type(found)
 
@@ -672,7 +686,8 @@ class Reader:
             kept = self.kept(words.tag())
             return Part(name, "type", kept.tag, words.description(), count, type=kept)
         found = self.known_type(owner, word)
-        return Part(name, "type", found.tag, words.description(), count, type=found, is_boxed=boxed)
+        tag = words.next_tag() if found.kind == "structure" else ""
+        return Part(name, "type", tag or found.tag, words.description(), count, type=found, is_boxed=boxed)
 
     def one_of_row(self, owner, words):
         """Reads a row of parts of which exactly one is to be there: each may be absent."""
@@ -706,7 +721,7 @@ class Reader:
         return found
 
     def check_part(self, owner, part):
-        if part.name in PART_NAMES:
+        if part.name in PART_NAMES or owner.keeps_rest and part.name == REST:
             raise Bad(f"'{part.name}' can't be a part's name: the code that is written has it in another sense")
         if part.is_sequence and part.type and part.type.kind == "choice":
             raise Bad("a choice comes once or may be absent")
@@ -755,7 +770,10 @@ class Reader:
 
     def content(self, owner, variant, words):
         """Reads what is in a variant of a choice."""
+        variant.is_boxed = bool(words.next_is("boxed"))
         word = words.word("what is in the variant")
+        if variant.is_boxed and word in (*LEAVES, "constant", "kept"):
+            raise Bad(BOXED)
         if word == "constant" and not owner.is_plain:
             variant.tag, variant.number = owner.own_tag, words.number()
         elif word in LEAVES and not owner.is_plain:
@@ -770,6 +788,8 @@ class Reader:
                 raise Bad("a choice in a choice has its tag, and neither is plain")
             if found.kind == "wrapper" and not found.module.is_own:
                 raise Bad("a wrapper comes once, in its own crate")
+            if variant.is_boxed and found.kind != "structure":
+                raise Bad(BOXED)
             variant.tag, variant.type = found.tag, found
         others = [other for other in owner.variants[:-1] if not other.is_broken]
         is_known = not (variant.type and variant.type.is_broken)
@@ -817,6 +837,8 @@ class Reader:
                 raise Bad(f"no one part before '{part.name}' decides its rules: an Enumeration, or a text that is always there, with the tag {part.type.rule_tag}")
         if sum(part.is_chosen for part in found.parts) + len(found.one_ofs) > 1:
             raise Bad(f"'{found.name}' has more than one part that a rule or a row 'one_of' chooses, which is not written yet")
+        if found.keeps_rest and (found.one_ofs or any(part.is_chosen for part in found.parts)):
+            raise Bad(f"'{found.name}' keeps what follows its parts, and has one that a rule or a row 'one_of' chooses, which is not written yet")
         repeated = [part for place, part in enumerate(found.parts) if part.tag in [other.tag for other in found.parts[:place]]]
         if repeated:
             self.line = repeated[0].line

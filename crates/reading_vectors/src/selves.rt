@@ -179,11 +179,11 @@ pub struct Whole<A: Allocator = Global> {
     pub number: i32,
     /// A text.
     pub text: Option<String<A>>,
-    /// DDDDDD A structure.
+    /// A structure.
     pub first: Option<Point>,
-    /// EEEEEE Structures, once or more.
+    /// Structures, once or more.
     pub moments: Vec<Moment, A>,
-    /// AAAAAA A structure.
+    /// A structure.
     pub last: Last,
 }
 
@@ -446,7 +446,7 @@ pub struct Maybes<A: Allocator = Global> {
     pub marks: Vec<i32, A>,
     /// Texts.
     pub texts: Vec<String<A>, A>,
-    /// DDDDDD Structures.
+    /// Structures.
     pub points: Vec<Point, A>,
 }
 
