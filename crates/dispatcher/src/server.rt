@@ -15,7 +15,7 @@ use kmip_messages::response_payload::{DiscoverVersionsResponse, QueryResponse, R
 use kmip_ttlv::error::{Error, ErrorKind};
 use kmip_ttlv::items::find_fault;
 use kmip_ttlv::reader::DateTime;
-use kmip_ttlv::{Config, PrettyPrinter, from_reader, to_writer};
+use kmip_ttlv::{Boxed, Config, Kept, PrettyPrinter, from_reader, to_writer};
 use std::alloc::{AllocError, Allocator};
 use std::io::{self, Read, Write};
 
@@ -76,6 +76,7 @@ fn abilities<A: Allocator + Copy>(alloc: A) -> Result<QueryResponse<A>, AllocErr
         validations: Vec::new(alloc),
         capabilities: Vec::new(alloc),
         client_registration_methods: Vec::new(alloc),
+        other_items: Kept::none(alloc),
     })
 }
 
@@ -85,7 +86,10 @@ fn done<A: Allocator + Copy>(
     item: &RequestItem<A>,
 ) -> Result<Result<ResponsePayload<A>, ResultReason>, AllocError> {
     match &item.payload {
-        RequestPayload::Query(_) => Ok(Ok(ResponsePayload::Query(abilities(alloc)?))),
+        RequestPayload::Query(_) => Ok(Ok(ResponsePayload::Query(Boxed::new(
+            alloc,
+            abilities(alloc)?,
+        )?))),
         RequestPayload::DiscoverVersions(_) => {
             let mut versions = Vec::new(alloc);
             versions.push(VERSION)?;

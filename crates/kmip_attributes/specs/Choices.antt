@@ -21,6 +21,7 @@ use Rattle.std.proofs.Common.{String, Vec}
 use Rattle.std.proofs.Common.{ℤ}
 use Rattle.kmip_ttlv_reader.specs.declared.values.DateTime.{DateTime}
 use Rattle.kmip_ttlv_reader.specs.declared.values.Interval.{Interval}
+use Rattle.kmip_ttlv_parts.specs.declared.boxed.Boxed.{Boxed}
 use Rattle.kmip_ttlv_reader.specs.declared.values.BigNumber.{BigNumber}
 use Rattle.kmip_attributes.specs.declared.attribute.AttributeStructure.{AttributeStructure}
 use Rattle.kmip_attributes.specs.declared.attribute.AttributeStructure.TheVariants as attribute_structure
@@ -73,7 +74,7 @@ ChoosesAttributeStructure said (attribute_structure.Other x) = IsNoneOf said att
 -- what each thing means that a `AttributeStructure` may hold
 pub record AttributeStructureCases (A : Type 0) : Type 1 where
   pub name : Name A → Meaning
-  pub cryptographic_parameters : CryptographicParameters → Meaning
+  pub cryptographic_parameters : Boxed CryptographicParameters A → Meaning
   pub cryptographic_domain_parameters : CryptographicDomainParameters → Meaning
   pub certificate_identifier : CertificateIdentifier A → Meaning
   pub certificate_subject : CertificateSubject A → Meaning

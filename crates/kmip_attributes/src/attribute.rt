@@ -14,13 +14,13 @@ use crate::structures::{
 };
 use crate::values::{CertificateType, CryptographicAlgorithm, ObjectType, State};
 use kmip_ttlv_kinds::{
-    Choice, Decided, Element, FromParts, Holds, Leaf, LeafItem, MaybeLeaf, Of, OneOf, PartList,
-    Structure, Under, Walk, read_choice, read_structure,
+    Choice, Decided, Element, FromParts, Holds, InBox, Leaf, LeafItem, MaybeLeaf, Of, OneOf,
+    PartList, Structure, Under, Walk, read_choice, read_structure,
 };
 use kmip_ttlv_parts::laws::is_none_of;
 use kmip_ttlv_parts::reader::{BigNumber, Cursor, DateTime, Interval, RuleParts, Scope, Step};
 use kmip_ttlv_parts::types::TtlvType;
-use kmip_ttlv_parts::{Enumeration, Kept};
+use kmip_ttlv_parts::{Boxed, Enumeration, Kept};
 use std::alloc::{AllocError, Allocator, Global};
 
 /// What an attribute that is a structure says, by its name.
@@ -30,7 +30,7 @@ pub enum AttributeStructure<A: Allocator = Global> {
     /// What users call an object.
     Name(Name<A>),
     /// How a key is used.
-    CryptographicParameters(CryptographicParameters),
+    CryptographicParameters(Boxed<CryptographicParameters, A>),
     /// What a key pair is made over.
     CryptographicDomainParameters(CryptographicDomainParameters),
     /// Who issued a certificate, and as which.
@@ -151,7 +151,7 @@ const ATTRIBUTE_STRUCTURE_RULES: [RuleParts; 12] = [
 impl<A: Allocator + Copy> Choice<A> for AttributeStructure<A> {
     ghost chosen = { attribute_structure_choice ⟦<AttributeStructure<A> as PartialEq>⟧.eq record {
       name = held ⟦<Of<Name<A>, 0x42000B> as Element<A>>⟧.rules refl refl (λ x y e. e);
-      cryptographic_parameters = held ⟦<Of<CryptographicParameters, 0x42000B> as Element<A>>⟧.rules refl refl (λ x y e. e);
+      cryptographic_parameters = held ⟦<InBox<Of<CryptographicParameters, 0x42000B>> as Element<A>>⟧.rules refl refl (λ x y e. e);
       cryptographic_domain_parameters = held ⟦<Of<CryptographicDomainParameters, 0x42000B> as Element<A>>⟧.rules refl refl (λ x y e. e);
       certificate_identifier = held ⟦<Of<CertificateIdentifier<A>, 0x42000B> as Element<A>>⟧.rules refl refl (λ x y e. e);
       certificate_subject = held ⟦<Of<CertificateSubject<A>, 0x42000B> as Element<A>>⟧.rules refl refl (λ x y e. e);
@@ -178,9 +178,8 @@ impl<A: Allocator + Copy> Choice<A> for AttributeStructure<A> {
             0 => Ok(AttributeStructure::Name(<Of<Name<A>, 0x42000B> as Element<A>>::read_one(
                 scope, cursor,
             )?)),
-            1 => Ok(AttributeStructure::CryptographicParameters(<Of<
-                CryptographicParameters,
-                0x42000B,
+            1 => Ok(AttributeStructure::CryptographicParameters(<InBox<
+                Of<CryptographicParameters, 0x42000B>,
             > as Element<A>>::read_one(scope, cursor)?)),
             2 => Ok(AttributeStructure::CryptographicDomainParameters(<Of<
                 CryptographicDomainParameters,
@@ -226,7 +225,7 @@ impl<A: Allocator + Copy> Choice<A> for AttributeStructure<A> {
         match self {
             AttributeStructure::Name(inner) => W::item::<Of<Name<A>, 0x42000B>>(state, inner),
             AttributeStructure::CryptographicParameters(inner) => W::item::<
-                Of<CryptographicParameters, 0x42000B>,
+                InBox<Of<CryptographicParameters, 0x42000B>>,
             >(state, inner),
             AttributeStructure::CryptographicDomainParameters(inner) => W::item::<
                 Of<CryptographicDomainParameters, 0x42000B>,

@@ -581,8 +581,36 @@ pub mod operation {
     pub const NOTIFY: Operation = Operation { number: 0x0000001B };
     /// To give a client an object.
     pub const PUT: Operation = Operation { number: 0x0000001C };
+    /// To make a public and a private key in place of others (KMIP 1.1).
+    pub const RE_KEY_KEY_PAIR: Operation = Operation { number: 0x0000001D };
     /// To say which versions the server has (KMIP 1.1).
     pub const DISCOVER_VERSIONS: Operation = Operation { number: 0x0000001E };
+    /// To encrypt data (KMIP 1.2).
+    pub const ENCRYPT: Operation = Operation { number: 0x0000001F };
+    /// To decrypt it (KMIP 1.2).
+    pub const DECRYPT: Operation = Operation { number: 0x00000020 };
+    /// To sign data (KMIP 1.2).
+    pub const SIGN: Operation = Operation { number: 0x00000021 };
+    /// To say whether a signature is valid (KMIP 1.2).
+    pub const SIGNATURE_VERIFY: Operation = Operation { number: 0x00000022 };
+    /// To make a MAC of data (KMIP 1.2).
+    pub const MAC: Operation = Operation { number: 0x00000023 };
+    /// To say whether a MAC is valid (KMIP 1.2).
+    pub const MAC_VERIFY: Operation = Operation { number: 0x00000024 };
+    /// To get random bytes (KMIP 1.2).
+    pub const RNG_RETRIEVE: Operation = Operation { number: 0x00000025 };
+    /// To give some to the server (KMIP 1.2).
+    pub const RNG_SEED: Operation = Operation { number: 0x00000026 };
+    /// To make a hash of data (KMIP 1.2).
+    pub const HASH: Operation = Operation { number: 0x00000027 };
+    /// To make the parts of a key (KMIP 1.2).
+    pub const CREATE_SPLIT_KEY: Operation = Operation { number: 0x00000028 };
+    /// To make a key of its parts (KMIP 1.2).
+    pub const JOIN_SPLIT_KEY: Operation = Operation { number: 0x00000029 };
+    /// To keep an object as another server had it (KMIP 1.4).
+    pub const IMPORT: Operation = Operation { number: 0x0000002A };
+    /// To get one as another server is to have it (KMIP 1.4).
+    pub const EXPORT: Operation = Operation { number: 0x0000002B };
 }
 
 /// What a vendor adds (section 6.16).

@@ -18,6 +18,7 @@ use Rattle.kmip_ttlv_parts.specs.TagValues.{TagValue, last}
 use Rattle.std.proofs.Common.{Bool as Boole}
 use Rattle.kmip_ttlv_parts.specs.declared.types.TtlvType.{TtlvType}
 use Rattle.kmip_ttlv_parts.specs.declared.types.TtlvType.TheVariants as types
+use Rattle.kmip_ttlv_parts.specs.declared.boxed.Boxed.{Boxed}
 use Rattle.kmip_requests.specs.declared.request_payload.RegisterRequest.{RegisterRequest}
 use Rattle.kmip_requests.specs.declared.request_payload.RequestPayload.{RequestPayload}
 use Rattle.kmip_requests.specs.declared.request_payload.RequestPayload.TheVariants as request_payload
@@ -25,15 +26,22 @@ use Rattle.kmip_objects.specs.declared.object.ManagedObject.{ManagedObject}
 use Rattle.kmip_objects.specs.declared.object.ManagedObject.TheVariants as managed_object
 use Rattle.kmip_requests.specs.declared.request_payload.CreateRequest.{CreateRequest}
 use Rattle.kmip_requests.specs.declared.request_payload.CreateKeyPairRequest.{CreateKeyPairRequest}
+use Rattle.kmip_requests.specs.declared.request_payload.ReKeyRequest.{ReKeyRequest}
+use Rattle.kmip_requests.specs.declared.request_payload.DeriveKeyRequest.{DeriveKeyRequest}
 use Rattle.kmip_requests.specs.declared.request_payload.LocateRequest.{LocateRequest}
+use Rattle.kmip_requests.specs.declared.request_payload.CheckRequest.{CheckRequest}
 use Rattle.kmip_requests.specs.declared.request_payload.GetRequest.{GetRequest}
 use Rattle.kmip_requests.specs.declared.request_payload.GetAttributesRequest.{GetAttributesRequest}
 use Rattle.kmip_requests.specs.declared.request_payload.ObjectRequest.{ObjectRequest}
 use Rattle.kmip_requests.specs.declared.request_payload.AttributeRequest.{AttributeRequest}
 use Rattle.kmip_requests.specs.declared.request_payload.DeleteAttributeRequest.{DeleteAttributeRequest}
+use Rattle.kmip_requests.specs.declared.request_payload.UsageAllocationRequest.{UsageAllocationRequest}
 use Rattle.kmip_requests.specs.declared.request_payload.RevokeRequest.{RevokeRequest}
 use Rattle.kmip_requests.specs.declared.request_payload.QueryRequest.{QueryRequest}
+use Rattle.kmip_requests.specs.declared.request_payload.AsynchronousRequest.{AsynchronousRequest}
+use Rattle.kmip_requests.specs.declared.request_payload.ReKeyKeyPairRequest.{ReKeyKeyPairRequest}
 use Rattle.kmip_requests.specs.declared.request_payload.DiscoverVersionsRequest.{DiscoverVersionsRequest}
+use Rattle.kmip_requests.specs.declared.request_payload.CryptographicRequest.{CryptographicRequest}
 use Rattle.kmip_ttlv_parts.specs.declared.kept.Kept.{Kept}
 
 -- which `object` of a `RegisterRequest` is there, if it is exactly one
@@ -54,18 +62,35 @@ request_payload_names =
     codes "0x00000001" ∷
     codes "0x00000002" ∷
     codes "0x00000003" ∷
+    codes "0x00000004" ∷
+    codes "0x00000005" ∷
     codes "0x00000008" ∷
+    codes "0x00000009" ∷
     codes "0x0000000A" ∷
     codes "0x0000000B" ∷
     codes "0x0000000C" ∷
     codes "0x0000000D" ∷
     codes "0x0000000E" ∷
     codes "0x0000000F" ∷
+    codes "0x00000010" ∷
+    codes "0x00000011" ∷
     codes "0x00000012" ∷
     codes "0x00000013" ∷
     codes "0x00000014" ∷
+    codes "0x00000015" ∷
+    codes "0x00000016" ∷
     codes "0x00000018" ∷
+    codes "0x00000019" ∷
+    codes "0x0000001A" ∷
+    codes "0x0000001D" ∷
     codes "0x0000001E" ∷
+    codes "0x0000001F" ∷
+    codes "0x00000020" ∷
+    codes "0x00000021" ∷
+    codes "0x00000022" ∷
+    codes "0x00000023" ∷
+    codes "0x00000024" ∷
+    codes "0x00000027" ∷
     []
 
 -- what is said, if it is the text of 42005C, chooses what is in a `RequestPayload`
@@ -73,37 +98,71 @@ abbrev pub ChoosesRequestPayload : {A : Type 0} → List ℕ → RequestPayload 
 ChoosesRequestPayload said (request_payload.Create x) = (said ≡ codes "0x00000001")
 ChoosesRequestPayload said (request_payload.CreateKeyPair x) = (said ≡ codes "0x00000002")
 ChoosesRequestPayload said (request_payload.Register x) = (said ≡ codes "0x00000003")
+ChoosesRequestPayload said (request_payload.ReKey x) = (said ≡ codes "0x00000004")
+ChoosesRequestPayload said (request_payload.DeriveKey x) = (said ≡ codes "0x00000005")
 ChoosesRequestPayload said (request_payload.Locate x) = (said ≡ codes "0x00000008")
+ChoosesRequestPayload said (request_payload.Check x) = (said ≡ codes "0x00000009")
 ChoosesRequestPayload said (request_payload.Get x) = (said ≡ codes "0x0000000A")
 ChoosesRequestPayload said (request_payload.GetAttributes x) = (said ≡ codes "0x0000000B")
 ChoosesRequestPayload said (request_payload.GetAttributeList x) = (said ≡ codes "0x0000000C")
 ChoosesRequestPayload said (request_payload.AddAttribute x) = (said ≡ codes "0x0000000D")
 ChoosesRequestPayload said (request_payload.ModifyAttribute x) = (said ≡ codes "0x0000000E")
 ChoosesRequestPayload said (request_payload.DeleteAttribute x) = (said ≡ codes "0x0000000F")
+ChoosesRequestPayload said (request_payload.ObtainLease x) = (said ≡ codes "0x00000010")
+ChoosesRequestPayload said (request_payload.GetUsageAllocation x) = (said ≡ codes "0x00000011")
 ChoosesRequestPayload said (request_payload.Activate x) = (said ≡ codes "0x00000012")
 ChoosesRequestPayload said (request_payload.Revoke x) = (said ≡ codes "0x00000013")
 ChoosesRequestPayload said (request_payload.Destroy x) = (said ≡ codes "0x00000014")
+ChoosesRequestPayload said (request_payload.Archive x) = (said ≡ codes "0x00000015")
+ChoosesRequestPayload said (request_payload.Recover x) = (said ≡ codes "0x00000016")
 ChoosesRequestPayload said (request_payload.Query x) = (said ≡ codes "0x00000018")
+ChoosesRequestPayload said (request_payload.Cancel x) = (said ≡ codes "0x00000019")
+ChoosesRequestPayload said (request_payload.Poll x) = (said ≡ codes "0x0000001A")
+ChoosesRequestPayload said (request_payload.ReKeyKeyPair x) = (said ≡ codes "0x0000001D")
 ChoosesRequestPayload said (request_payload.DiscoverVersions x) = (said ≡ codes "0x0000001E")
+ChoosesRequestPayload said (request_payload.Encrypt x) = (said ≡ codes "0x0000001F")
+ChoosesRequestPayload said (request_payload.Decrypt x) = (said ≡ codes "0x00000020")
+ChoosesRequestPayload said (request_payload.Sign x) = (said ≡ codes "0x00000021")
+ChoosesRequestPayload said (request_payload.SignatureVerify x) = (said ≡ codes "0x00000022")
+ChoosesRequestPayload said (request_payload.Mac x) = (said ≡ codes "0x00000023")
+ChoosesRequestPayload said (request_payload.MacVerify x) = (said ≡ codes "0x00000024")
+ChoosesRequestPayload said (request_payload.Hash x) = (said ≡ codes "0x00000027")
 ChoosesRequestPayload said (request_payload.Other x) = IsNoneOf said request_payload_names
 
 -- what each thing means that a `RequestPayload` may hold
 pub record RequestPayloadCases (A : Type 0) : Type 1 where
   pub create : CreateRequest A → Meaning
-  pub create_key_pair : CreateKeyPairRequest A → Meaning
+  pub create_key_pair : Boxed (CreateKeyPairRequest A) A → Meaning
   pub register : RegisterRequest A → Meaning
+  pub re_key : ReKeyRequest A → Meaning
+  pub derive_key : Boxed (DeriveKeyRequest A) A → Meaning
   pub locate : LocateRequest A → Meaning
+  pub check : CheckRequest A → Meaning
   pub get : GetRequest A → Meaning
   pub get_attributes : GetAttributesRequest A → Meaning
   pub get_attribute_list : ObjectRequest A → Meaning
-  pub add_attribute : AttributeRequest A → Meaning
-  pub modify_attribute : AttributeRequest A → Meaning
+  pub add_attribute : Boxed (AttributeRequest A) A → Meaning
+  pub modify_attribute : Boxed (AttributeRequest A) A → Meaning
   pub delete_attribute : DeleteAttributeRequest A → Meaning
+  pub obtain_lease : ObjectRequest A → Meaning
+  pub get_usage_allocation : UsageAllocationRequest A → Meaning
   pub activate : ObjectRequest A → Meaning
   pub revoke : RevokeRequest A → Meaning
   pub destroy : ObjectRequest A → Meaning
+  pub archive : ObjectRequest A → Meaning
+  pub recover : ObjectRequest A → Meaning
   pub query : QueryRequest A → Meaning
+  pub cancel : AsynchronousRequest A → Meaning
+  pub poll : AsynchronousRequest A → Meaning
+  pub re_key_key_pair : Boxed (ReKeyKeyPairRequest A) A → Meaning
   pub discover_versions : DiscoverVersionsRequest A → Meaning
+  pub encrypt : Boxed (CryptographicRequest A) A → Meaning
+  pub decrypt : Boxed (CryptographicRequest A) A → Meaning
+  pub sign : Boxed (CryptographicRequest A) A → Meaning
+  pub signature_verify : Boxed (CryptographicRequest A) A → Meaning
+  pub mac : Boxed (CryptographicRequest A) A → Meaning
+  pub mac_verify : Boxed (CryptographicRequest A) A → Meaning
+  pub hash : Boxed (CryptographicRequest A) A → Meaning
   pub other : Kept A → Meaning
 
 -- what it means
@@ -111,18 +170,35 @@ unfoldable pub request_payload_by : {A : Type 0} → RequestPayloadCases A → R
 request_payload_by f (request_payload.Create x) = f.create x
 request_payload_by f (request_payload.CreateKeyPair x) = f.create_key_pair x
 request_payload_by f (request_payload.Register x) = f.register x
+request_payload_by f (request_payload.ReKey x) = f.re_key x
+request_payload_by f (request_payload.DeriveKey x) = f.derive_key x
 request_payload_by f (request_payload.Locate x) = f.locate x
+request_payload_by f (request_payload.Check x) = f.check x
 request_payload_by f (request_payload.Get x) = f.get x
 request_payload_by f (request_payload.GetAttributes x) = f.get_attributes x
 request_payload_by f (request_payload.GetAttributeList x) = f.get_attribute_list x
 request_payload_by f (request_payload.AddAttribute x) = f.add_attribute x
 request_payload_by f (request_payload.ModifyAttribute x) = f.modify_attribute x
 request_payload_by f (request_payload.DeleteAttribute x) = f.delete_attribute x
+request_payload_by f (request_payload.ObtainLease x) = f.obtain_lease x
+request_payload_by f (request_payload.GetUsageAllocation x) = f.get_usage_allocation x
 request_payload_by f (request_payload.Activate x) = f.activate x
 request_payload_by f (request_payload.Revoke x) = f.revoke x
 request_payload_by f (request_payload.Destroy x) = f.destroy x
+request_payload_by f (request_payload.Archive x) = f.archive x
+request_payload_by f (request_payload.Recover x) = f.recover x
 request_payload_by f (request_payload.Query x) = f.query x
+request_payload_by f (request_payload.Cancel x) = f.cancel x
+request_payload_by f (request_payload.Poll x) = f.poll x
+request_payload_by f (request_payload.ReKeyKeyPair x) = f.re_key_key_pair x
 request_payload_by f (request_payload.DiscoverVersions x) = f.discover_versions x
+request_payload_by f (request_payload.Encrypt x) = f.encrypt x
+request_payload_by f (request_payload.Decrypt x) = f.decrypt x
+request_payload_by f (request_payload.Sign x) = f.sign x
+request_payload_by f (request_payload.SignatureVerify x) = f.signature_verify x
+request_payload_by f (request_payload.Mac x) = f.mac x
+request_payload_by f (request_payload.MacVerify x) = f.mac_verify x
+request_payload_by f (request_payload.Hash x) = f.hash x
 request_payload_by f (request_payload.Other x) = f.other x
 
 -- what a `RequestPayload` may hold
@@ -130,18 +206,35 @@ pub record RequestPayloadItems (A : Type 0) (eq : RequestPayload A → RequestPa
   pub create : Held 0x420079 types.Structure request_payload.Create eq
   pub create_key_pair : Held 0x420079 types.Structure request_payload.CreateKeyPair eq
   pub register : Held 0x420079 types.Structure request_payload.Register eq
+  pub re_key : Held 0x420079 types.Structure request_payload.ReKey eq
+  pub derive_key : Held 0x420079 types.Structure request_payload.DeriveKey eq
   pub locate : Held 0x420079 types.Structure request_payload.Locate eq
+  pub check : Held 0x420079 types.Structure request_payload.Check eq
   pub get : Held 0x420079 types.Structure request_payload.Get eq
   pub get_attributes : Held 0x420079 types.Structure request_payload.GetAttributes eq
   pub get_attribute_list : Held 0x420079 types.Structure request_payload.GetAttributeList eq
   pub add_attribute : Held 0x420079 types.Structure request_payload.AddAttribute eq
   pub modify_attribute : Held 0x420079 types.Structure request_payload.ModifyAttribute eq
   pub delete_attribute : Held 0x420079 types.Structure request_payload.DeleteAttribute eq
+  pub obtain_lease : Held 0x420079 types.Structure request_payload.ObtainLease eq
+  pub get_usage_allocation : Held 0x420079 types.Structure request_payload.GetUsageAllocation eq
   pub activate : Held 0x420079 types.Structure request_payload.Activate eq
   pub revoke : Held 0x420079 types.Structure request_payload.Revoke eq
   pub destroy : Held 0x420079 types.Structure request_payload.Destroy eq
+  pub archive : Held 0x420079 types.Structure request_payload.Archive eq
+  pub recover : Held 0x420079 types.Structure request_payload.Recover eq
   pub query : Held 0x420079 types.Structure request_payload.Query eq
+  pub cancel : Held 0x420079 types.Structure request_payload.Cancel eq
+  pub poll : Held 0x420079 types.Structure request_payload.Poll eq
+  pub re_key_key_pair : Held 0x420079 types.Structure request_payload.ReKeyKeyPair eq
   pub discover_versions : Held 0x420079 types.Structure request_payload.DiscoverVersions eq
+  pub encrypt : Held 0x420079 types.Structure request_payload.Encrypt eq
+  pub decrypt : Held 0x420079 types.Structure request_payload.Decrypt eq
+  pub sign : Held 0x420079 types.Structure request_payload.Sign eq
+  pub signature_verify : Held 0x420079 types.Structure request_payload.SignatureVerify eq
+  pub mac : Held 0x420079 types.Structure request_payload.Mac eq
+  pub mac_verify : Held 0x420079 types.Structure request_payload.MacVerify eq
+  pub hash : Held 0x420079 types.Structure request_payload.Hash eq
   pub other : Held 0x420079 types.Structure request_payload.Other eq
 
 -- its variants, by their rules
@@ -150,37 +243,71 @@ request_payload_variants i =
     variant (codes "if 0x42005C==0x00000001") (wrapped i.create.form) (
     variant (codes "if 0x42005C==0x00000002") (wrapped i.create_key_pair.form) (
     variant (codes "if 0x42005C==0x00000003") (wrapped i.register.form) (
+    variant (codes "if 0x42005C==0x00000004") (wrapped i.re_key.form) (
+    variant (codes "if 0x42005C==0x00000005") (wrapped i.derive_key.form) (
     variant (codes "if 0x42005C==0x00000008") (wrapped i.locate.form) (
+    variant (codes "if 0x42005C==0x00000009") (wrapped i.check.form) (
     variant (codes "if 0x42005C==0x0000000A") (wrapped i.get.form) (
     variant (codes "if 0x42005C==0x0000000B") (wrapped i.get_attributes.form) (
     variant (codes "if 0x42005C==0x0000000C") (wrapped i.get_attribute_list.form) (
     variant (codes "if 0x42005C==0x0000000D") (wrapped i.add_attribute.form) (
     variant (codes "if 0x42005C==0x0000000E") (wrapped i.modify_attribute.form) (
     variant (codes "if 0x42005C==0x0000000F") (wrapped i.delete_attribute.form) (
+    variant (codes "if 0x42005C==0x00000010") (wrapped i.obtain_lease.form) (
+    variant (codes "if 0x42005C==0x00000011") (wrapped i.get_usage_allocation.form) (
     variant (codes "if 0x42005C==0x00000012") (wrapped i.activate.form) (
     variant (codes "if 0x42005C==0x00000013") (wrapped i.revoke.form) (
     variant (codes "if 0x42005C==0x00000014") (wrapped i.destroy.form) (
+    variant (codes "if 0x42005C==0x00000015") (wrapped i.archive.form) (
+    variant (codes "if 0x42005C==0x00000016") (wrapped i.recover.form) (
     variant (codes "if 0x42005C==0x00000018") (wrapped i.query.form) (
+    variant (codes "if 0x42005C==0x00000019") (wrapped i.cancel.form) (
+    variant (codes "if 0x42005C==0x0000001A") (wrapped i.poll.form) (
+    variant (codes "if 0x42005C==0x0000001D") (wrapped i.re_key_key_pair.form) (
     variant (codes "if 0x42005C==0x0000001E") (wrapped i.discover_versions.form) (
-    variant (codes "if type==Structure") (wrapped i.other.form) no_variants)))))))))))))))
+    variant (codes "if 0x42005C==0x0000001F") (wrapped i.encrypt.form) (
+    variant (codes "if 0x42005C==0x00000020") (wrapped i.decrypt.form) (
+    variant (codes "if 0x42005C==0x00000021") (wrapped i.sign.form) (
+    variant (codes "if 0x42005C==0x00000022") (wrapped i.signature_verify.form) (
+    variant (codes "if 0x42005C==0x00000023") (wrapped i.mac.form) (
+    variant (codes "if 0x42005C==0x00000024") (wrapped i.mac_verify.form) (
+    variant (codes "if 0x42005C==0x00000027") (wrapped i.hash.form) (
+    variant (codes "if type==Structure") (wrapped i.other.form) no_variants))))))))))))))))))))))))))))))))
 
 abbrev pub request_payload_cases : {A : Type 0} {eq : RequestPayload A → RequestPayload A → Boole} → RequestPayloadItems A eq → RequestPayloadCases A
 request_payload_cases i = record {
   create = as_item (codes "payload") (codes "if 0x42005C==0x00000001") i.create;
   create_key_pair = as_item (codes "payload") (codes "if 0x42005C==0x00000002") i.create_key_pair;
   register = as_item (codes "payload") (codes "if 0x42005C==0x00000003") i.register;
+  re_key = as_item (codes "payload") (codes "if 0x42005C==0x00000004") i.re_key;
+  derive_key = as_item (codes "payload") (codes "if 0x42005C==0x00000005") i.derive_key;
   locate = as_item (codes "payload") (codes "if 0x42005C==0x00000008") i.locate;
+  check = as_item (codes "payload") (codes "if 0x42005C==0x00000009") i.check;
   get = as_item (codes "payload") (codes "if 0x42005C==0x0000000A") i.get;
   get_attributes = as_item (codes "payload") (codes "if 0x42005C==0x0000000B") i.get_attributes;
   get_attribute_list = as_item (codes "payload") (codes "if 0x42005C==0x0000000C") i.get_attribute_list;
   add_attribute = as_item (codes "payload") (codes "if 0x42005C==0x0000000D") i.add_attribute;
   modify_attribute = as_item (codes "payload") (codes "if 0x42005C==0x0000000E") i.modify_attribute;
   delete_attribute = as_item (codes "payload") (codes "if 0x42005C==0x0000000F") i.delete_attribute;
+  obtain_lease = as_item (codes "payload") (codes "if 0x42005C==0x00000010") i.obtain_lease;
+  get_usage_allocation = as_item (codes "payload") (codes "if 0x42005C==0x00000011") i.get_usage_allocation;
   activate = as_item (codes "payload") (codes "if 0x42005C==0x00000012") i.activate;
   revoke = as_item (codes "payload") (codes "if 0x42005C==0x00000013") i.revoke;
   destroy = as_item (codes "payload") (codes "if 0x42005C==0x00000014") i.destroy;
+  archive = as_item (codes "payload") (codes "if 0x42005C==0x00000015") i.archive;
+  recover = as_item (codes "payload") (codes "if 0x42005C==0x00000016") i.recover;
   query = as_item (codes "payload") (codes "if 0x42005C==0x00000018") i.query;
+  cancel = as_item (codes "payload") (codes "if 0x42005C==0x00000019") i.cancel;
+  poll = as_item (codes "payload") (codes "if 0x42005C==0x0000001A") i.poll;
+  re_key_key_pair = as_item (codes "payload") (codes "if 0x42005C==0x0000001D") i.re_key_key_pair;
   discover_versions = as_item (codes "payload") (codes "if 0x42005C==0x0000001E") i.discover_versions;
+  encrypt = as_item (codes "payload") (codes "if 0x42005C==0x0000001F") i.encrypt;
+  decrypt = as_item (codes "payload") (codes "if 0x42005C==0x00000020") i.decrypt;
+  sign = as_item (codes "payload") (codes "if 0x42005C==0x00000021") i.sign;
+  signature_verify = as_item (codes "payload") (codes "if 0x42005C==0x00000022") i.signature_verify;
+  mac = as_item (codes "payload") (codes "if 0x42005C==0x00000023") i.mac;
+  mac_verify = as_item (codes "payload") (codes "if 0x42005C==0x00000024") i.mac_verify;
+  hash = as_item (codes "payload") (codes "if 0x42005C==0x00000027") i.hash;
   other = as_item (codes "payload") (codes "if type==Structure") i.other;
 }
 
@@ -188,26 +315,43 @@ request_payload_cases i = record {
 request_payload_unnamed : {A : Type 0} {eq : RequestPayload A → RequestPayload A → Boole} (i : RequestPayloadItems A eq) (said : List ℕ) (k : List TagValue) (typ : TtlvType) (n : ℕ)
     → IsNoneOf said request_payload_names → last k 0x42005C ≡ Some said
     → choice (variant (codes "if type==Structure") (wrapped i.other.form) no_variants) k typ ≡ chosen n
-    → choice (request_payload_variants i) k typ ≡ past 1 (past 1 (past 1 (past 1 (past 1 (past 1 (past 1 (past 1 (past 1 (past 1 (past 1 (past 1 (past 1 (past 1 (past 1 (chosen n)))))))))))))))
+    → choice (request_payload_variants i) k typ ≡ past 1 (past 1 (past 1 (past 1 (past 1 (past 1 (past 1 (past 1 (past 1 (past 1 (past 1 (past 1 (past 1 (past 1 (past 1 (past 1 (past 1 (past 1 (past 1 (past 1 (past 1 (past 1 (past 1 (past 1 (past 1 (past 1 (past 1 (past 1 (past 1 (past 1 (past 1 (past 1 (chosen n))))))))))))))))))))))))))))))))
 unfolding tag_of number rule sides equal at_least member in_brackets trim_end chars trim_start encode
 request_payload_unnamed i said k typ n none found e =
-    let n0 = not_first said (codes "0x00000001") (codes "0x00000002" ∷ codes "0x00000003" ∷ codes "0x00000008" ∷ codes "0x0000000A" ∷ codes "0x0000000B" ∷ codes "0x0000000C" ∷ codes "0x0000000D" ∷ codes "0x0000000E" ∷ codes "0x0000000F" ∷ codes "0x00000012" ∷ codes "0x00000013" ∷ codes "0x00000014" ∷ codes "0x00000018" ∷ codes "0x0000001E" ∷ []) none in
-    let n1 = not_first said (codes "0x00000002") (codes "0x00000003" ∷ codes "0x00000008" ∷ codes "0x0000000A" ∷ codes "0x0000000B" ∷ codes "0x0000000C" ∷ codes "0x0000000D" ∷ codes "0x0000000E" ∷ codes "0x0000000F" ∷ codes "0x00000012" ∷ codes "0x00000013" ∷ codes "0x00000014" ∷ codes "0x00000018" ∷ codes "0x0000001E" ∷ []) n0.1 in
-    let n2 = not_first said (codes "0x00000003") (codes "0x00000008" ∷ codes "0x0000000A" ∷ codes "0x0000000B" ∷ codes "0x0000000C" ∷ codes "0x0000000D" ∷ codes "0x0000000E" ∷ codes "0x0000000F" ∷ codes "0x00000012" ∷ codes "0x00000013" ∷ codes "0x00000014" ∷ codes "0x00000018" ∷ codes "0x0000001E" ∷ []) n1.1 in
-    let n3 = not_first said (codes "0x00000008") (codes "0x0000000A" ∷ codes "0x0000000B" ∷ codes "0x0000000C" ∷ codes "0x0000000D" ∷ codes "0x0000000E" ∷ codes "0x0000000F" ∷ codes "0x00000012" ∷ codes "0x00000013" ∷ codes "0x00000014" ∷ codes "0x00000018" ∷ codes "0x0000001E" ∷ []) n2.1 in
-    let n4 = not_first said (codes "0x0000000A") (codes "0x0000000B" ∷ codes "0x0000000C" ∷ codes "0x0000000D" ∷ codes "0x0000000E" ∷ codes "0x0000000F" ∷ codes "0x00000012" ∷ codes "0x00000013" ∷ codes "0x00000014" ∷ codes "0x00000018" ∷ codes "0x0000001E" ∷ []) n3.1 in
-    let n5 = not_first said (codes "0x0000000B") (codes "0x0000000C" ∷ codes "0x0000000D" ∷ codes "0x0000000E" ∷ codes "0x0000000F" ∷ codes "0x00000012" ∷ codes "0x00000013" ∷ codes "0x00000014" ∷ codes "0x00000018" ∷ codes "0x0000001E" ∷ []) n4.1 in
-    let n6 = not_first said (codes "0x0000000C") (codes "0x0000000D" ∷ codes "0x0000000E" ∷ codes "0x0000000F" ∷ codes "0x00000012" ∷ codes "0x00000013" ∷ codes "0x00000014" ∷ codes "0x00000018" ∷ codes "0x0000001E" ∷ []) n5.1 in
-    let n7 = not_first said (codes "0x0000000D") (codes "0x0000000E" ∷ codes "0x0000000F" ∷ codes "0x00000012" ∷ codes "0x00000013" ∷ codes "0x00000014" ∷ codes "0x00000018" ∷ codes "0x0000001E" ∷ []) n6.1 in
-    let n8 = not_first said (codes "0x0000000E") (codes "0x0000000F" ∷ codes "0x00000012" ∷ codes "0x00000013" ∷ codes "0x00000014" ∷ codes "0x00000018" ∷ codes "0x0000001E" ∷ []) n7.1 in
-    let n9 = not_first said (codes "0x0000000F") (codes "0x00000012" ∷ codes "0x00000013" ∷ codes "0x00000014" ∷ codes "0x00000018" ∷ codes "0x0000001E" ∷ []) n8.1 in
-    let n10 = not_first said (codes "0x00000012") (codes "0x00000013" ∷ codes "0x00000014" ∷ codes "0x00000018" ∷ codes "0x0000001E" ∷ []) n9.1 in
-    let n11 = not_first said (codes "0x00000013") (codes "0x00000014" ∷ codes "0x00000018" ∷ codes "0x0000001E" ∷ []) n10.1 in
-    let n12 = not_first said (codes "0x00000014") (codes "0x00000018" ∷ codes "0x0000001E" ∷ []) n11.1 in
-    let n13 = not_first said (codes "0x00000018") (codes "0x0000001E" ∷ []) n12.1 in
-    let n14 = not_first said (codes "0x0000001E") ([]) n13.1 in
-    rw (found, n0.0, n1.0, n2.0, n3.0, n4.0, n5.0, n6.0, n7.0, n8.0, n9.0, n10.0, n11.0, n12.0, n13.0, n14.0)
-    (ap (λ c. past 1 (past 1 (past 1 (past 1 (past 1 (past 1 (past 1 (past 1 (past 1 (past 1 (past 1 (past 1 (past 1 (past 1 (past 1 (c)))))))))))))))) e)
+    let n0 = not_first said (codes "0x00000001") (codes "0x00000002" ∷ codes "0x00000003" ∷ codes "0x00000004" ∷ codes "0x00000005" ∷ codes "0x00000008" ∷ codes "0x00000009" ∷ codes "0x0000000A" ∷ codes "0x0000000B" ∷ codes "0x0000000C" ∷ codes "0x0000000D" ∷ codes "0x0000000E" ∷ codes "0x0000000F" ∷ codes "0x00000010" ∷ codes "0x00000011" ∷ codes "0x00000012" ∷ codes "0x00000013" ∷ codes "0x00000014" ∷ codes "0x00000015" ∷ codes "0x00000016" ∷ codes "0x00000018" ∷ codes "0x00000019" ∷ codes "0x0000001A" ∷ codes "0x0000001D" ∷ codes "0x0000001E" ∷ codes "0x0000001F" ∷ codes "0x00000020" ∷ codes "0x00000021" ∷ codes "0x00000022" ∷ codes "0x00000023" ∷ codes "0x00000024" ∷ codes "0x00000027" ∷ []) none in
+    let n1 = not_first said (codes "0x00000002") (codes "0x00000003" ∷ codes "0x00000004" ∷ codes "0x00000005" ∷ codes "0x00000008" ∷ codes "0x00000009" ∷ codes "0x0000000A" ∷ codes "0x0000000B" ∷ codes "0x0000000C" ∷ codes "0x0000000D" ∷ codes "0x0000000E" ∷ codes "0x0000000F" ∷ codes "0x00000010" ∷ codes "0x00000011" ∷ codes "0x00000012" ∷ codes "0x00000013" ∷ codes "0x00000014" ∷ codes "0x00000015" ∷ codes "0x00000016" ∷ codes "0x00000018" ∷ codes "0x00000019" ∷ codes "0x0000001A" ∷ codes "0x0000001D" ∷ codes "0x0000001E" ∷ codes "0x0000001F" ∷ codes "0x00000020" ∷ codes "0x00000021" ∷ codes "0x00000022" ∷ codes "0x00000023" ∷ codes "0x00000024" ∷ codes "0x00000027" ∷ []) n0.1 in
+    let n2 = not_first said (codes "0x00000003") (codes "0x00000004" ∷ codes "0x00000005" ∷ codes "0x00000008" ∷ codes "0x00000009" ∷ codes "0x0000000A" ∷ codes "0x0000000B" ∷ codes "0x0000000C" ∷ codes "0x0000000D" ∷ codes "0x0000000E" ∷ codes "0x0000000F" ∷ codes "0x00000010" ∷ codes "0x00000011" ∷ codes "0x00000012" ∷ codes "0x00000013" ∷ codes "0x00000014" ∷ codes "0x00000015" ∷ codes "0x00000016" ∷ codes "0x00000018" ∷ codes "0x00000019" ∷ codes "0x0000001A" ∷ codes "0x0000001D" ∷ codes "0x0000001E" ∷ codes "0x0000001F" ∷ codes "0x00000020" ∷ codes "0x00000021" ∷ codes "0x00000022" ∷ codes "0x00000023" ∷ codes "0x00000024" ∷ codes "0x00000027" ∷ []) n1.1 in
+    let n3 = not_first said (codes "0x00000004") (codes "0x00000005" ∷ codes "0x00000008" ∷ codes "0x00000009" ∷ codes "0x0000000A" ∷ codes "0x0000000B" ∷ codes "0x0000000C" ∷ codes "0x0000000D" ∷ codes "0x0000000E" ∷ codes "0x0000000F" ∷ codes "0x00000010" ∷ codes "0x00000011" ∷ codes "0x00000012" ∷ codes "0x00000013" ∷ codes "0x00000014" ∷ codes "0x00000015" ∷ codes "0x00000016" ∷ codes "0x00000018" ∷ codes "0x00000019" ∷ codes "0x0000001A" ∷ codes "0x0000001D" ∷ codes "0x0000001E" ∷ codes "0x0000001F" ∷ codes "0x00000020" ∷ codes "0x00000021" ∷ codes "0x00000022" ∷ codes "0x00000023" ∷ codes "0x00000024" ∷ codes "0x00000027" ∷ []) n2.1 in
+    let n4 = not_first said (codes "0x00000005") (codes "0x00000008" ∷ codes "0x00000009" ∷ codes "0x0000000A" ∷ codes "0x0000000B" ∷ codes "0x0000000C" ∷ codes "0x0000000D" ∷ codes "0x0000000E" ∷ codes "0x0000000F" ∷ codes "0x00000010" ∷ codes "0x00000011" ∷ codes "0x00000012" ∷ codes "0x00000013" ∷ codes "0x00000014" ∷ codes "0x00000015" ∷ codes "0x00000016" ∷ codes "0x00000018" ∷ codes "0x00000019" ∷ codes "0x0000001A" ∷ codes "0x0000001D" ∷ codes "0x0000001E" ∷ codes "0x0000001F" ∷ codes "0x00000020" ∷ codes "0x00000021" ∷ codes "0x00000022" ∷ codes "0x00000023" ∷ codes "0x00000024" ∷ codes "0x00000027" ∷ []) n3.1 in
+    let n5 = not_first said (codes "0x00000008") (codes "0x00000009" ∷ codes "0x0000000A" ∷ codes "0x0000000B" ∷ codes "0x0000000C" ∷ codes "0x0000000D" ∷ codes "0x0000000E" ∷ codes "0x0000000F" ∷ codes "0x00000010" ∷ codes "0x00000011" ∷ codes "0x00000012" ∷ codes "0x00000013" ∷ codes "0x00000014" ∷ codes "0x00000015" ∷ codes "0x00000016" ∷ codes "0x00000018" ∷ codes "0x00000019" ∷ codes "0x0000001A" ∷ codes "0x0000001D" ∷ codes "0x0000001E" ∷ codes "0x0000001F" ∷ codes "0x00000020" ∷ codes "0x00000021" ∷ codes "0x00000022" ∷ codes "0x00000023" ∷ codes "0x00000024" ∷ codes "0x00000027" ∷ []) n4.1 in
+    let n6 = not_first said (codes "0x00000009") (codes "0x0000000A" ∷ codes "0x0000000B" ∷ codes "0x0000000C" ∷ codes "0x0000000D" ∷ codes "0x0000000E" ∷ codes "0x0000000F" ∷ codes "0x00000010" ∷ codes "0x00000011" ∷ codes "0x00000012" ∷ codes "0x00000013" ∷ codes "0x00000014" ∷ codes "0x00000015" ∷ codes "0x00000016" ∷ codes "0x00000018" ∷ codes "0x00000019" ∷ codes "0x0000001A" ∷ codes "0x0000001D" ∷ codes "0x0000001E" ∷ codes "0x0000001F" ∷ codes "0x00000020" ∷ codes "0x00000021" ∷ codes "0x00000022" ∷ codes "0x00000023" ∷ codes "0x00000024" ∷ codes "0x00000027" ∷ []) n5.1 in
+    let n7 = not_first said (codes "0x0000000A") (codes "0x0000000B" ∷ codes "0x0000000C" ∷ codes "0x0000000D" ∷ codes "0x0000000E" ∷ codes "0x0000000F" ∷ codes "0x00000010" ∷ codes "0x00000011" ∷ codes "0x00000012" ∷ codes "0x00000013" ∷ codes "0x00000014" ∷ codes "0x00000015" ∷ codes "0x00000016" ∷ codes "0x00000018" ∷ codes "0x00000019" ∷ codes "0x0000001A" ∷ codes "0x0000001D" ∷ codes "0x0000001E" ∷ codes "0x0000001F" ∷ codes "0x00000020" ∷ codes "0x00000021" ∷ codes "0x00000022" ∷ codes "0x00000023" ∷ codes "0x00000024" ∷ codes "0x00000027" ∷ []) n6.1 in
+    let n8 = not_first said (codes "0x0000000B") (codes "0x0000000C" ∷ codes "0x0000000D" ∷ codes "0x0000000E" ∷ codes "0x0000000F" ∷ codes "0x00000010" ∷ codes "0x00000011" ∷ codes "0x00000012" ∷ codes "0x00000013" ∷ codes "0x00000014" ∷ codes "0x00000015" ∷ codes "0x00000016" ∷ codes "0x00000018" ∷ codes "0x00000019" ∷ codes "0x0000001A" ∷ codes "0x0000001D" ∷ codes "0x0000001E" ∷ codes "0x0000001F" ∷ codes "0x00000020" ∷ codes "0x00000021" ∷ codes "0x00000022" ∷ codes "0x00000023" ∷ codes "0x00000024" ∷ codes "0x00000027" ∷ []) n7.1 in
+    let n9 = not_first said (codes "0x0000000C") (codes "0x0000000D" ∷ codes "0x0000000E" ∷ codes "0x0000000F" ∷ codes "0x00000010" ∷ codes "0x00000011" ∷ codes "0x00000012" ∷ codes "0x00000013" ∷ codes "0x00000014" ∷ codes "0x00000015" ∷ codes "0x00000016" ∷ codes "0x00000018" ∷ codes "0x00000019" ∷ codes "0x0000001A" ∷ codes "0x0000001D" ∷ codes "0x0000001E" ∷ codes "0x0000001F" ∷ codes "0x00000020" ∷ codes "0x00000021" ∷ codes "0x00000022" ∷ codes "0x00000023" ∷ codes "0x00000024" ∷ codes "0x00000027" ∷ []) n8.1 in
+    let n10 = not_first said (codes "0x0000000D") (codes "0x0000000E" ∷ codes "0x0000000F" ∷ codes "0x00000010" ∷ codes "0x00000011" ∷ codes "0x00000012" ∷ codes "0x00000013" ∷ codes "0x00000014" ∷ codes "0x00000015" ∷ codes "0x00000016" ∷ codes "0x00000018" ∷ codes "0x00000019" ∷ codes "0x0000001A" ∷ codes "0x0000001D" ∷ codes "0x0000001E" ∷ codes "0x0000001F" ∷ codes "0x00000020" ∷ codes "0x00000021" ∷ codes "0x00000022" ∷ codes "0x00000023" ∷ codes "0x00000024" ∷ codes "0x00000027" ∷ []) n9.1 in
+    let n11 = not_first said (codes "0x0000000E") (codes "0x0000000F" ∷ codes "0x00000010" ∷ codes "0x00000011" ∷ codes "0x00000012" ∷ codes "0x00000013" ∷ codes "0x00000014" ∷ codes "0x00000015" ∷ codes "0x00000016" ∷ codes "0x00000018" ∷ codes "0x00000019" ∷ codes "0x0000001A" ∷ codes "0x0000001D" ∷ codes "0x0000001E" ∷ codes "0x0000001F" ∷ codes "0x00000020" ∷ codes "0x00000021" ∷ codes "0x00000022" ∷ codes "0x00000023" ∷ codes "0x00000024" ∷ codes "0x00000027" ∷ []) n10.1 in
+    let n12 = not_first said (codes "0x0000000F") (codes "0x00000010" ∷ codes "0x00000011" ∷ codes "0x00000012" ∷ codes "0x00000013" ∷ codes "0x00000014" ∷ codes "0x00000015" ∷ codes "0x00000016" ∷ codes "0x00000018" ∷ codes "0x00000019" ∷ codes "0x0000001A" ∷ codes "0x0000001D" ∷ codes "0x0000001E" ∷ codes "0x0000001F" ∷ codes "0x00000020" ∷ codes "0x00000021" ∷ codes "0x00000022" ∷ codes "0x00000023" ∷ codes "0x00000024" ∷ codes "0x00000027" ∷ []) n11.1 in
+    let n13 = not_first said (codes "0x00000010") (codes "0x00000011" ∷ codes "0x00000012" ∷ codes "0x00000013" ∷ codes "0x00000014" ∷ codes "0x00000015" ∷ codes "0x00000016" ∷ codes "0x00000018" ∷ codes "0x00000019" ∷ codes "0x0000001A" ∷ codes "0x0000001D" ∷ codes "0x0000001E" ∷ codes "0x0000001F" ∷ codes "0x00000020" ∷ codes "0x00000021" ∷ codes "0x00000022" ∷ codes "0x00000023" ∷ codes "0x00000024" ∷ codes "0x00000027" ∷ []) n12.1 in
+    let n14 = not_first said (codes "0x00000011") (codes "0x00000012" ∷ codes "0x00000013" ∷ codes "0x00000014" ∷ codes "0x00000015" ∷ codes "0x00000016" ∷ codes "0x00000018" ∷ codes "0x00000019" ∷ codes "0x0000001A" ∷ codes "0x0000001D" ∷ codes "0x0000001E" ∷ codes "0x0000001F" ∷ codes "0x00000020" ∷ codes "0x00000021" ∷ codes "0x00000022" ∷ codes "0x00000023" ∷ codes "0x00000024" ∷ codes "0x00000027" ∷ []) n13.1 in
+    let n15 = not_first said (codes "0x00000012") (codes "0x00000013" ∷ codes "0x00000014" ∷ codes "0x00000015" ∷ codes "0x00000016" ∷ codes "0x00000018" ∷ codes "0x00000019" ∷ codes "0x0000001A" ∷ codes "0x0000001D" ∷ codes "0x0000001E" ∷ codes "0x0000001F" ∷ codes "0x00000020" ∷ codes "0x00000021" ∷ codes "0x00000022" ∷ codes "0x00000023" ∷ codes "0x00000024" ∷ codes "0x00000027" ∷ []) n14.1 in
+    let n16 = not_first said (codes "0x00000013") (codes "0x00000014" ∷ codes "0x00000015" ∷ codes "0x00000016" ∷ codes "0x00000018" ∷ codes "0x00000019" ∷ codes "0x0000001A" ∷ codes "0x0000001D" ∷ codes "0x0000001E" ∷ codes "0x0000001F" ∷ codes "0x00000020" ∷ codes "0x00000021" ∷ codes "0x00000022" ∷ codes "0x00000023" ∷ codes "0x00000024" ∷ codes "0x00000027" ∷ []) n15.1 in
+    let n17 = not_first said (codes "0x00000014") (codes "0x00000015" ∷ codes "0x00000016" ∷ codes "0x00000018" ∷ codes "0x00000019" ∷ codes "0x0000001A" ∷ codes "0x0000001D" ∷ codes "0x0000001E" ∷ codes "0x0000001F" ∷ codes "0x00000020" ∷ codes "0x00000021" ∷ codes "0x00000022" ∷ codes "0x00000023" ∷ codes "0x00000024" ∷ codes "0x00000027" ∷ []) n16.1 in
+    let n18 = not_first said (codes "0x00000015") (codes "0x00000016" ∷ codes "0x00000018" ∷ codes "0x00000019" ∷ codes "0x0000001A" ∷ codes "0x0000001D" ∷ codes "0x0000001E" ∷ codes "0x0000001F" ∷ codes "0x00000020" ∷ codes "0x00000021" ∷ codes "0x00000022" ∷ codes "0x00000023" ∷ codes "0x00000024" ∷ codes "0x00000027" ∷ []) n17.1 in
+    let n19 = not_first said (codes "0x00000016") (codes "0x00000018" ∷ codes "0x00000019" ∷ codes "0x0000001A" ∷ codes "0x0000001D" ∷ codes "0x0000001E" ∷ codes "0x0000001F" ∷ codes "0x00000020" ∷ codes "0x00000021" ∷ codes "0x00000022" ∷ codes "0x00000023" ∷ codes "0x00000024" ∷ codes "0x00000027" ∷ []) n18.1 in
+    let n20 = not_first said (codes "0x00000018") (codes "0x00000019" ∷ codes "0x0000001A" ∷ codes "0x0000001D" ∷ codes "0x0000001E" ∷ codes "0x0000001F" ∷ codes "0x00000020" ∷ codes "0x00000021" ∷ codes "0x00000022" ∷ codes "0x00000023" ∷ codes "0x00000024" ∷ codes "0x00000027" ∷ []) n19.1 in
+    let n21 = not_first said (codes "0x00000019") (codes "0x0000001A" ∷ codes "0x0000001D" ∷ codes "0x0000001E" ∷ codes "0x0000001F" ∷ codes "0x00000020" ∷ codes "0x00000021" ∷ codes "0x00000022" ∷ codes "0x00000023" ∷ codes "0x00000024" ∷ codes "0x00000027" ∷ []) n20.1 in
+    let n22 = not_first said (codes "0x0000001A") (codes "0x0000001D" ∷ codes "0x0000001E" ∷ codes "0x0000001F" ∷ codes "0x00000020" ∷ codes "0x00000021" ∷ codes "0x00000022" ∷ codes "0x00000023" ∷ codes "0x00000024" ∷ codes "0x00000027" ∷ []) n21.1 in
+    let n23 = not_first said (codes "0x0000001D") (codes "0x0000001E" ∷ codes "0x0000001F" ∷ codes "0x00000020" ∷ codes "0x00000021" ∷ codes "0x00000022" ∷ codes "0x00000023" ∷ codes "0x00000024" ∷ codes "0x00000027" ∷ []) n22.1 in
+    let n24 = not_first said (codes "0x0000001E") (codes "0x0000001F" ∷ codes "0x00000020" ∷ codes "0x00000021" ∷ codes "0x00000022" ∷ codes "0x00000023" ∷ codes "0x00000024" ∷ codes "0x00000027" ∷ []) n23.1 in
+    let n25 = not_first said (codes "0x0000001F") (codes "0x00000020" ∷ codes "0x00000021" ∷ codes "0x00000022" ∷ codes "0x00000023" ∷ codes "0x00000024" ∷ codes "0x00000027" ∷ []) n24.1 in
+    let n26 = not_first said (codes "0x00000020") (codes "0x00000021" ∷ codes "0x00000022" ∷ codes "0x00000023" ∷ codes "0x00000024" ∷ codes "0x00000027" ∷ []) n25.1 in
+    let n27 = not_first said (codes "0x00000021") (codes "0x00000022" ∷ codes "0x00000023" ∷ codes "0x00000024" ∷ codes "0x00000027" ∷ []) n26.1 in
+    let n28 = not_first said (codes "0x00000022") (codes "0x00000023" ∷ codes "0x00000024" ∷ codes "0x00000027" ∷ []) n27.1 in
+    let n29 = not_first said (codes "0x00000023") (codes "0x00000024" ∷ codes "0x00000027" ∷ []) n28.1 in
+    let n30 = not_first said (codes "0x00000024") (codes "0x00000027" ∷ []) n29.1 in
+    let n31 = not_first said (codes "0x00000027") ([]) n30.1 in
+    rw (found, n0.0, n1.0, n2.0, n3.0, n4.0, n5.0, n6.0, n7.0, n8.0, n9.0, n10.0, n11.0, n12.0, n13.0, n14.0, n15.0, n16.0, n17.0, n18.0, n19.0, n20.0, n21.0, n22.0, n23.0, n24.0, n25.0, n26.0, n27.0, n28.0, n29.0, n30.0, n31.0)
+    (ap (λ c. past 1 (past 1 (past 1 (past 1 (past 1 (past 1 (past 1 (past 1 (past 1 (past 1 (past 1 (past 1 (past 1 (past 1 (past 1 (past 1 (past 1 (past 1 (past 1 (past 1 (past 1 (past 1 (past 1 (past 1 (past 1 (past 1 (past 1 (past 1 (past 1 (past 1 (past 1 (past 1 (c))))))))))))))))))))))))))))))))) e)
 
 pub request_payload_case : {A : Type 0} {eq : RequestPayload A → RequestPayload A → Boole} (i : RequestPayloadItems A eq) (x : RequestPayload A)
     → Case 0x420079 0x42005C types.Structure (enum (codes "payload") (request_payload_variants i)) (λ said. ChoosesRequestPayload said x) (request_payload_by (request_payload_cases i) x)
@@ -215,19 +359,36 @@ unfolding tag_of number rule sides equal at_least member in_brackets trim_end ch
 request_payload_case i (request_payload.Create x) = case_of i.create x first_variant (λ said chooses k found. rw (found ∙ ap Some chooses) refl)
 request_payload_case i (request_payload.CreateKeyPair x) = case_of i.create_key_pair x (later_variant first_variant) (λ said chooses k found. rw (found ∙ ap Some chooses) refl)
 request_payload_case i (request_payload.Register x) = case_of i.register x (later_variant (later_variant first_variant)) (λ said chooses k found. rw (found ∙ ap Some chooses) refl)
-request_payload_case i (request_payload.Locate x) = case_of i.locate x (later_variant (later_variant (later_variant first_variant))) (λ said chooses k found. rw (found ∙ ap Some chooses) refl)
-request_payload_case i (request_payload.Get x) = case_of i.get x (later_variant (later_variant (later_variant (later_variant first_variant)))) (λ said chooses k found. rw (found ∙ ap Some chooses) refl)
-request_payload_case i (request_payload.GetAttributes x) = case_of i.get_attributes x (later_variant (later_variant (later_variant (later_variant (later_variant first_variant))))) (λ said chooses k found. rw (found ∙ ap Some chooses) refl)
-request_payload_case i (request_payload.GetAttributeList x) = case_of i.get_attribute_list x (later_variant (later_variant (later_variant (later_variant (later_variant (later_variant first_variant)))))) (λ said chooses k found. rw (found ∙ ap Some chooses) refl)
-request_payload_case i (request_payload.AddAttribute x) = case_of i.add_attribute x (later_variant (later_variant (later_variant (later_variant (later_variant (later_variant (later_variant first_variant))))))) (λ said chooses k found. rw (found ∙ ap Some chooses) refl)
-request_payload_case i (request_payload.ModifyAttribute x) = case_of i.modify_attribute x (later_variant (later_variant (later_variant (later_variant (later_variant (later_variant (later_variant (later_variant first_variant)))))))) (λ said chooses k found. rw (found ∙ ap Some chooses) refl)
-request_payload_case i (request_payload.DeleteAttribute x) = case_of i.delete_attribute x (later_variant (later_variant (later_variant (later_variant (later_variant (later_variant (later_variant (later_variant (later_variant first_variant))))))))) (λ said chooses k found. rw (found ∙ ap Some chooses) refl)
-request_payload_case i (request_payload.Activate x) = case_of i.activate x (later_variant (later_variant (later_variant (later_variant (later_variant (later_variant (later_variant (later_variant (later_variant (later_variant first_variant)))))))))) (λ said chooses k found. rw (found ∙ ap Some chooses) refl)
-request_payload_case i (request_payload.Revoke x) = case_of i.revoke x (later_variant (later_variant (later_variant (later_variant (later_variant (later_variant (later_variant (later_variant (later_variant (later_variant (later_variant first_variant))))))))))) (λ said chooses k found. rw (found ∙ ap Some chooses) refl)
-request_payload_case i (request_payload.Destroy x) = case_of i.destroy x (later_variant (later_variant (later_variant (later_variant (later_variant (later_variant (later_variant (later_variant (later_variant (later_variant (later_variant (later_variant first_variant)))))))))))) (λ said chooses k found. rw (found ∙ ap Some chooses) refl)
-request_payload_case i (request_payload.Query x) = case_of i.query x (later_variant (later_variant (later_variant (later_variant (later_variant (later_variant (later_variant (later_variant (later_variant (later_variant (later_variant (later_variant (later_variant first_variant))))))))))))) (λ said chooses k found. rw (found ∙ ap Some chooses) refl)
-request_payload_case i (request_payload.DiscoverVersions x) = case_of i.discover_versions x (later_variant (later_variant (later_variant (later_variant (later_variant (later_variant (later_variant (later_variant (later_variant (later_variant (later_variant (later_variant (later_variant (later_variant first_variant)))))))))))))) (λ said chooses k found. rw (found ∙ ap Some chooses) refl)
-request_payload_case i (request_payload.Other x) = case_of i.other x (later_variant (later_variant (later_variant (later_variant (later_variant (later_variant (later_variant (later_variant (later_variant (later_variant (later_variant (later_variant (later_variant (later_variant (later_variant first_variant))))))))))))))) (λ said none k found. request_payload_unnamed i said k types.Structure 0 none found refl)
+request_payload_case i (request_payload.ReKey x) = case_of i.re_key x (later_variant (later_variant (later_variant first_variant))) (λ said chooses k found. rw (found ∙ ap Some chooses) refl)
+request_payload_case i (request_payload.DeriveKey x) = case_of i.derive_key x (later_variant (later_variant (later_variant (later_variant first_variant)))) (λ said chooses k found. rw (found ∙ ap Some chooses) refl)
+request_payload_case i (request_payload.Locate x) = case_of i.locate x (later_variant (later_variant (later_variant (later_variant (later_variant first_variant))))) (λ said chooses k found. rw (found ∙ ap Some chooses) refl)
+request_payload_case i (request_payload.Check x) = case_of i.check x (later_variant (later_variant (later_variant (later_variant (later_variant (later_variant first_variant)))))) (λ said chooses k found. rw (found ∙ ap Some chooses) refl)
+request_payload_case i (request_payload.Get x) = case_of i.get x (later_variant (later_variant (later_variant (later_variant (later_variant (later_variant (later_variant first_variant))))))) (λ said chooses k found. rw (found ∙ ap Some chooses) refl)
+request_payload_case i (request_payload.GetAttributes x) = case_of i.get_attributes x (later_variant (later_variant (later_variant (later_variant (later_variant (later_variant (later_variant (later_variant first_variant)))))))) (λ said chooses k found. rw (found ∙ ap Some chooses) refl)
+request_payload_case i (request_payload.GetAttributeList x) = case_of i.get_attribute_list x (later_variant (later_variant (later_variant (later_variant (later_variant (later_variant (later_variant (later_variant (later_variant first_variant))))))))) (λ said chooses k found. rw (found ∙ ap Some chooses) refl)
+request_payload_case i (request_payload.AddAttribute x) = case_of i.add_attribute x (later_variant (later_variant (later_variant (later_variant (later_variant (later_variant (later_variant (later_variant (later_variant (later_variant first_variant)))))))))) (λ said chooses k found. rw (found ∙ ap Some chooses) refl)
+request_payload_case i (request_payload.ModifyAttribute x) = case_of i.modify_attribute x (later_variant (later_variant (later_variant (later_variant (later_variant (later_variant (later_variant (later_variant (later_variant (later_variant (later_variant first_variant))))))))))) (λ said chooses k found. rw (found ∙ ap Some chooses) refl)
+request_payload_case i (request_payload.DeleteAttribute x) = case_of i.delete_attribute x (later_variant (later_variant (later_variant (later_variant (later_variant (later_variant (later_variant (later_variant (later_variant (later_variant (later_variant (later_variant first_variant)))))))))))) (λ said chooses k found. rw (found ∙ ap Some chooses) refl)
+request_payload_case i (request_payload.ObtainLease x) = case_of i.obtain_lease x (later_variant (later_variant (later_variant (later_variant (later_variant (later_variant (later_variant (later_variant (later_variant (later_variant (later_variant (later_variant (later_variant first_variant))))))))))))) (λ said chooses k found. rw (found ∙ ap Some chooses) refl)
+request_payload_case i (request_payload.GetUsageAllocation x) = case_of i.get_usage_allocation x (later_variant (later_variant (later_variant (later_variant (later_variant (later_variant (later_variant (later_variant (later_variant (later_variant (later_variant (later_variant (later_variant (later_variant first_variant)))))))))))))) (λ said chooses k found. rw (found ∙ ap Some chooses) refl)
+request_payload_case i (request_payload.Activate x) = case_of i.activate x (later_variant (later_variant (later_variant (later_variant (later_variant (later_variant (later_variant (later_variant (later_variant (later_variant (later_variant (later_variant (later_variant (later_variant (later_variant first_variant))))))))))))))) (λ said chooses k found. rw (found ∙ ap Some chooses) refl)
+request_payload_case i (request_payload.Revoke x) = case_of i.revoke x (later_variant (later_variant (later_variant (later_variant (later_variant (later_variant (later_variant (later_variant (later_variant (later_variant (later_variant (later_variant (later_variant (later_variant (later_variant (later_variant first_variant)))))))))))))))) (λ said chooses k found. rw (found ∙ ap Some chooses) refl)
+request_payload_case i (request_payload.Destroy x) = case_of i.destroy x (later_variant (later_variant (later_variant (later_variant (later_variant (later_variant (later_variant (later_variant (later_variant (later_variant (later_variant (later_variant (later_variant (later_variant (later_variant (later_variant (later_variant first_variant))))))))))))))))) (λ said chooses k found. rw (found ∙ ap Some chooses) refl)
+request_payload_case i (request_payload.Archive x) = case_of i.archive x (later_variant (later_variant (later_variant (later_variant (later_variant (later_variant (later_variant (later_variant (later_variant (later_variant (later_variant (later_variant (later_variant (later_variant (later_variant (later_variant (later_variant (later_variant first_variant)))))))))))))))))) (λ said chooses k found. rw (found ∙ ap Some chooses) refl)
+request_payload_case i (request_payload.Recover x) = case_of i.recover x (later_variant (later_variant (later_variant (later_variant (later_variant (later_variant (later_variant (later_variant (later_variant (later_variant (later_variant (later_variant (later_variant (later_variant (later_variant (later_variant (later_variant (later_variant (later_variant first_variant))))))))))))))))))) (λ said chooses k found. rw (found ∙ ap Some chooses) refl)
+request_payload_case i (request_payload.Query x) = case_of i.query x (later_variant (later_variant (later_variant (later_variant (later_variant (later_variant (later_variant (later_variant (later_variant (later_variant (later_variant (later_variant (later_variant (later_variant (later_variant (later_variant (later_variant (later_variant (later_variant (later_variant first_variant)))))))))))))))))))) (λ said chooses k found. rw (found ∙ ap Some chooses) refl)
+request_payload_case i (request_payload.Cancel x) = case_of i.cancel x (later_variant (later_variant (later_variant (later_variant (later_variant (later_variant (later_variant (later_variant (later_variant (later_variant (later_variant (later_variant (later_variant (later_variant (later_variant (later_variant (later_variant (later_variant (later_variant (later_variant (later_variant first_variant))))))))))))))))))))) (λ said chooses k found. rw (found ∙ ap Some chooses) refl)
+request_payload_case i (request_payload.Poll x) = case_of i.poll x (later_variant (later_variant (later_variant (later_variant (later_variant (later_variant (later_variant (later_variant (later_variant (later_variant (later_variant (later_variant (later_variant (later_variant (later_variant (later_variant (later_variant (later_variant (later_variant (later_variant (later_variant (later_variant first_variant)))))))))))))))))))))) (λ said chooses k found. rw (found ∙ ap Some chooses) refl)
+request_payload_case i (request_payload.ReKeyKeyPair x) = case_of i.re_key_key_pair x (later_variant (later_variant (later_variant (later_variant (later_variant (later_variant (later_variant (later_variant (later_variant (later_variant (later_variant (later_variant (later_variant (later_variant (later_variant (later_variant (later_variant (later_variant (later_variant (later_variant (later_variant (later_variant (later_variant first_variant))))))))))))))))))))))) (λ said chooses k found. rw (found ∙ ap Some chooses) refl)
+request_payload_case i (request_payload.DiscoverVersions x) = case_of i.discover_versions x (later_variant (later_variant (later_variant (later_variant (later_variant (later_variant (later_variant (later_variant (later_variant (later_variant (later_variant (later_variant (later_variant (later_variant (later_variant (later_variant (later_variant (later_variant (later_variant (later_variant (later_variant (later_variant (later_variant (later_variant first_variant)))))))))))))))))))))))) (λ said chooses k found. rw (found ∙ ap Some chooses) refl)
+request_payload_case i (request_payload.Encrypt x) = case_of i.encrypt x (later_variant (later_variant (later_variant (later_variant (later_variant (later_variant (later_variant (later_variant (later_variant (later_variant (later_variant (later_variant (later_variant (later_variant (later_variant (later_variant (later_variant (later_variant (later_variant (later_variant (later_variant (later_variant (later_variant (later_variant (later_variant first_variant))))))))))))))))))))))))) (λ said chooses k found. rw (found ∙ ap Some chooses) refl)
+request_payload_case i (request_payload.Decrypt x) = case_of i.decrypt x (later_variant (later_variant (later_variant (later_variant (later_variant (later_variant (later_variant (later_variant (later_variant (later_variant (later_variant (later_variant (later_variant (later_variant (later_variant (later_variant (later_variant (later_variant (later_variant (later_variant (later_variant (later_variant (later_variant (later_variant (later_variant (later_variant first_variant)))))))))))))))))))))))))) (λ said chooses k found. rw (found ∙ ap Some chooses) refl)
+request_payload_case i (request_payload.Sign x) = case_of i.sign x (later_variant (later_variant (later_variant (later_variant (later_variant (later_variant (later_variant (later_variant (later_variant (later_variant (later_variant (later_variant (later_variant (later_variant (later_variant (later_variant (later_variant (later_variant (later_variant (later_variant (later_variant (later_variant (later_variant (later_variant (later_variant (later_variant (later_variant first_variant))))))))))))))))))))))))))) (λ said chooses k found. rw (found ∙ ap Some chooses) refl)
+request_payload_case i (request_payload.SignatureVerify x) = case_of i.signature_verify x (later_variant (later_variant (later_variant (later_variant (later_variant (later_variant (later_variant (later_variant (later_variant (later_variant (later_variant (later_variant (later_variant (later_variant (later_variant (later_variant (later_variant (later_variant (later_variant (later_variant (later_variant (later_variant (later_variant (later_variant (later_variant (later_variant (later_variant (later_variant first_variant)))))))))))))))))))))))))))) (λ said chooses k found. rw (found ∙ ap Some chooses) refl)
+request_payload_case i (request_payload.Mac x) = case_of i.mac x (later_variant (later_variant (later_variant (later_variant (later_variant (later_variant (later_variant (later_variant (later_variant (later_variant (later_variant (later_variant (later_variant (later_variant (later_variant (later_variant (later_variant (later_variant (later_variant (later_variant (later_variant (later_variant (later_variant (later_variant (later_variant (later_variant (later_variant (later_variant (later_variant first_variant))))))))))))))))))))))))))))) (λ said chooses k found. rw (found ∙ ap Some chooses) refl)
+request_payload_case i (request_payload.MacVerify x) = case_of i.mac_verify x (later_variant (later_variant (later_variant (later_variant (later_variant (later_variant (later_variant (later_variant (later_variant (later_variant (later_variant (later_variant (later_variant (later_variant (later_variant (later_variant (later_variant (later_variant (later_variant (later_variant (later_variant (later_variant (later_variant (later_variant (later_variant (later_variant (later_variant (later_variant (later_variant (later_variant first_variant)))))))))))))))))))))))))))))) (λ said chooses k found. rw (found ∙ ap Some chooses) refl)
+request_payload_case i (request_payload.Hash x) = case_of i.hash x (later_variant (later_variant (later_variant (later_variant (later_variant (later_variant (later_variant (later_variant (later_variant (later_variant (later_variant (later_variant (later_variant (later_variant (later_variant (later_variant (later_variant (later_variant (later_variant (later_variant (later_variant (later_variant (later_variant (later_variant (later_variant (later_variant (later_variant (later_variant (later_variant (later_variant (later_variant first_variant))))))))))))))))))))))))))))))) (λ said chooses k found. rw (found ∙ ap Some chooses) refl)
+request_payload_case i (request_payload.Other x) = case_of i.other x (later_variant (later_variant (later_variant (later_variant (later_variant (later_variant (later_variant (later_variant (later_variant (later_variant (later_variant (later_variant (later_variant (later_variant (later_variant (later_variant (later_variant (later_variant (later_variant (later_variant (later_variant (later_variant (later_variant (later_variant (later_variant (later_variant (later_variant (later_variant (later_variant (later_variant (later_variant (later_variant first_variant)))))))))))))))))))))))))))))))) (λ said none k found. request_payload_unnamed i said k types.Structure 0 none found refl)
 
 pub request_payload_same : {A : Type 0} {eq : RequestPayload A → RequestPayload A → Boole} (i : RequestPayloadItems A eq) (x y : RequestPayload A)
     → (request_payload_by (request_payload_cases i) x).value ≡ (request_payload_by (request_payload_cases i) y).value
@@ -236,18 +397,35 @@ unfolding request_payload_by
 request_payload_same i (request_payload.Create x) (request_payload.Create y) e = i.create.same x y (i.create.rules.same x y (in_variant e))
 request_payload_same i (request_payload.CreateKeyPair x) (request_payload.CreateKeyPair y) e = i.create_key_pair.same x y (i.create_key_pair.rules.same x y (in_variant e))
 request_payload_same i (request_payload.Register x) (request_payload.Register y) e = i.register.same x y (i.register.rules.same x y (in_variant e))
+request_payload_same i (request_payload.ReKey x) (request_payload.ReKey y) e = i.re_key.same x y (i.re_key.rules.same x y (in_variant e))
+request_payload_same i (request_payload.DeriveKey x) (request_payload.DeriveKey y) e = i.derive_key.same x y (i.derive_key.rules.same x y (in_variant e))
 request_payload_same i (request_payload.Locate x) (request_payload.Locate y) e = i.locate.same x y (i.locate.rules.same x y (in_variant e))
+request_payload_same i (request_payload.Check x) (request_payload.Check y) e = i.check.same x y (i.check.rules.same x y (in_variant e))
 request_payload_same i (request_payload.Get x) (request_payload.Get y) e = i.get.same x y (i.get.rules.same x y (in_variant e))
 request_payload_same i (request_payload.GetAttributes x) (request_payload.GetAttributes y) e = i.get_attributes.same x y (i.get_attributes.rules.same x y (in_variant e))
 request_payload_same i (request_payload.GetAttributeList x) (request_payload.GetAttributeList y) e = i.get_attribute_list.same x y (i.get_attribute_list.rules.same x y (in_variant e))
 request_payload_same i (request_payload.AddAttribute x) (request_payload.AddAttribute y) e = i.add_attribute.same x y (i.add_attribute.rules.same x y (in_variant e))
 request_payload_same i (request_payload.ModifyAttribute x) (request_payload.ModifyAttribute y) e = i.modify_attribute.same x y (i.modify_attribute.rules.same x y (in_variant e))
 request_payload_same i (request_payload.DeleteAttribute x) (request_payload.DeleteAttribute y) e = i.delete_attribute.same x y (i.delete_attribute.rules.same x y (in_variant e))
+request_payload_same i (request_payload.ObtainLease x) (request_payload.ObtainLease y) e = i.obtain_lease.same x y (i.obtain_lease.rules.same x y (in_variant e))
+request_payload_same i (request_payload.GetUsageAllocation x) (request_payload.GetUsageAllocation y) e = i.get_usage_allocation.same x y (i.get_usage_allocation.rules.same x y (in_variant e))
 request_payload_same i (request_payload.Activate x) (request_payload.Activate y) e = i.activate.same x y (i.activate.rules.same x y (in_variant e))
 request_payload_same i (request_payload.Revoke x) (request_payload.Revoke y) e = i.revoke.same x y (i.revoke.rules.same x y (in_variant e))
 request_payload_same i (request_payload.Destroy x) (request_payload.Destroy y) e = i.destroy.same x y (i.destroy.rules.same x y (in_variant e))
+request_payload_same i (request_payload.Archive x) (request_payload.Archive y) e = i.archive.same x y (i.archive.rules.same x y (in_variant e))
+request_payload_same i (request_payload.Recover x) (request_payload.Recover y) e = i.recover.same x y (i.recover.rules.same x y (in_variant e))
 request_payload_same i (request_payload.Query x) (request_payload.Query y) e = i.query.same x y (i.query.rules.same x y (in_variant e))
+request_payload_same i (request_payload.Cancel x) (request_payload.Cancel y) e = i.cancel.same x y (i.cancel.rules.same x y (in_variant e))
+request_payload_same i (request_payload.Poll x) (request_payload.Poll y) e = i.poll.same x y (i.poll.rules.same x y (in_variant e))
+request_payload_same i (request_payload.ReKeyKeyPair x) (request_payload.ReKeyKeyPair y) e = i.re_key_key_pair.same x y (i.re_key_key_pair.rules.same x y (in_variant e))
 request_payload_same i (request_payload.DiscoverVersions x) (request_payload.DiscoverVersions y) e = i.discover_versions.same x y (i.discover_versions.rules.same x y (in_variant e))
+request_payload_same i (request_payload.Encrypt x) (request_payload.Encrypt y) e = i.encrypt.same x y (i.encrypt.rules.same x y (in_variant e))
+request_payload_same i (request_payload.Decrypt x) (request_payload.Decrypt y) e = i.decrypt.same x y (i.decrypt.rules.same x y (in_variant e))
+request_payload_same i (request_payload.Sign x) (request_payload.Sign y) e = i.sign.same x y (i.sign.rules.same x y (in_variant e))
+request_payload_same i (request_payload.SignatureVerify x) (request_payload.SignatureVerify y) e = i.signature_verify.same x y (i.signature_verify.rules.same x y (in_variant e))
+request_payload_same i (request_payload.Mac x) (request_payload.Mac y) e = i.mac.same x y (i.mac.rules.same x y (in_variant e))
+request_payload_same i (request_payload.MacVerify x) (request_payload.MacVerify y) e = i.mac_verify.same x y (i.mac_verify.rules.same x y (in_variant e))
+request_payload_same i (request_payload.Hash x) (request_payload.Hash y) e = i.hash.same x y (i.hash.rules.same x y (in_variant e))
 request_payload_same i (request_payload.Other x) (request_payload.Other y) e = i.other.same x y (i.other.rules.same x y (in_variant e))
 request_payload_same i x y e = absurd (apart e refl)
 

@@ -3,12 +3,13 @@
 
 ghost use Rattle.std.specs.Prelude.{◌≡◌, ◌↔◌, ◌+◌, None, IsTrue, Some, refl, true};
 ghost use Rattle.kmip_ttlv_parts.specs.Returns.{IsNoneOf};
-ghost use Rattle.kmip_ttlv_kinds.specs.Parts.{structure, structure_where};
+ghost use Rattle.kmip_ttlv_kinds.specs.Parts.{IsApart, keeping_structure, structure, structure_where};
 ghost use Rattle.kmip_ttlv_kinds.specs.Choices.{held};
 ghost use Rattle.kmip_ttlv_parts.specs.MessageParts.{there};
 ghost use Rattle.kmip_requests.specs.Choices.{IsRegisterRequestObject, request_payload_choice, ChoosesRequestPayload, request_payload_names};
 
 use kmip_attributes::attribute::Attribute;
+use kmip_attributes::structures::CryptographicParameters;
 use kmip_attributes::values::{KeyFormatType, ObjectType, RevocationReasonCode, State};
 use kmip_headers::header::ProtocolVersion;
 use kmip_objects::key::{
@@ -24,11 +25,11 @@ use kmip_objects::template::{
     TemplateAttribute,
 };
 use kmip_ttlv_kinds::{
-    Alone, Any, Choice, Decided, Element, Four, FromParts, Holds, InBox, Leaf, LeafItem, Maybe,
-    MaybeLeaf, Of, One, PartList, Several, Structure, Walk, read_structure,
+    Alone, Any, Before, Choice, Decided, Element, Four, FromParts, Holds, InBox, Leaf, LeafItem,
+    Maybe, MaybeLeaf, Of, One, PartList, Rest, Several, Structure, Walk, is_apart, read_structure,
 };
 use kmip_ttlv_parts::laws::is_none_of;
-use kmip_ttlv_parts::reader::{Cursor, DateTime, RuleParts, Scope, Step};
+use kmip_ttlv_parts::reader::{Cursor, DateTime, Interval, RuleParts, Scope, Step};
 use kmip_ttlv_parts::types::TtlvType;
 use kmip_ttlv_parts::{Boxed, Enumeration, Kept};
 use std::alloc::{AllocError, Allocator, Global};
@@ -291,6 +292,366 @@ impl<A: Allocator + Copy> Structure<A> for RegisterRequest<A> {
     }
 }
 
+/// A key is to be made in place of another (section 4.4).
+#[derive(Drop)]
+#[derive_where(PartialEq)]
+pub struct ReKeyRequest<A: Allocator = Global> {
+    /// The key that is to be replaced: the last one, if it is absent.
+    pub unique_identifier: Option<String<A>>,
+    /// How long after its making the new one is to be in use, in seconds.
+    pub offset: Option<Interval>,
+    /// What is to be other than of the first.
+    pub template_attribute: Option<TemplateAttribute<A>>,
+    /// What stands behind these, whatever it is.
+    pub other_items: Kept<A>,
+}
+
+impl<A: Allocator + Copy> Decided for ReKeyRequest<A> {
+    ghost IsDecided = { λ x. IsApart ⟦<ReKeyRequestParts<A> as PartList<A>>⟧.rules ⟦<ReKeyRequest<A> as FromParts<A, ReKeyRequestParts<A>>>⟧.parts x };
+
+    fn is_decided(&self) -> bool {
+        is_apart::<ReKeyRequestParts<A>, A>(&self.other_items)
+    }
+}
+
+type ReKeyRequestParts<A> = Before<
+    MaybeLeaf<String<A>, 0x420094>,
+    Before<
+        MaybeLeaf<Interval, 0x420058>,
+        Before<Maybe<Of<TemplateAttribute<A>, 0x420091>, 0x420091>, Rest>,
+    >,
+>;
+
+impl<A: Allocator + Copy> FromParts<A, ReKeyRequestParts<A>> for ReKeyRequest<A> {
+    ghost parts = { λ x. (x.unique_identifier, (x.offset, (x.template_attribute, x.other_items))) };
+
+    fn from_parts(
+        (unique_identifier, (offset, (template_attribute, other_items))): Holds<
+            ReKeyRequestParts<A>,
+            A,
+        >,
+    ) -> Self {
+        ReKeyRequest {
+            unique_identifier,
+            offset,
+            template_attribute,
+            other_items,
+        }
+    }
+}
+
+impl<A: Allocator + Copy> Structure<A> for ReKeyRequest<A> {
+    ghost rules = { keeping_structure ⟦<ReKeyRequestParts<A> as PartList<A>>⟧.rules ⟦<ReKeyRequest<A> as FromParts<A, ReKeyRequestParts<A>>>⟧.parts refl ⟦<ReKeyRequest<A> as PartialEq>⟧.eq (λ x y e. e) };
+
+    fn read<'b>(scope: &Scope<'b, A>, tag: u32, cursor: &mut Cursor<'b, A>) -> Step<Self, A> {
+        read_structure::<ReKeyRequestParts<A>, Self, A>(scope, tag, true, cursor)
+    }
+
+    fn tell_parts<W: Walk<A>>(&self, state: &mut W::State) -> Result<(), AllocError> {
+        W::one::<MaybeLeaf<String<A>, 0x420094>>(state, &self.unique_identifier)?;
+        W::one::<MaybeLeaf<Interval, 0x420058>>(state, &self.offset)?;
+        W::one::<Maybe<Of<TemplateAttribute<A>, 0x420091>, 0x420091>>(
+            state,
+            &self.template_attribute,
+        )?;
+        W::kept(state, &self.other_items)?;
+        W::check(state, self);
+        Ok(())
+    }
+}
+
+/// A public and a private key are to be made in place of others (KMIP 1.1, section 4.5).
+#[derive(Drop)]
+#[derive_where(PartialEq)]
+pub struct ReKeyKeyPairRequest<A: Allocator = Global> {
+    /// The private key that is to be replaced: the last one, if it is absent.
+    pub private_key_unique_identifier: Option<String<A>>,
+    /// How long after their making the new ones are to be in use, in seconds.
+    pub offset: Option<Interval>,
+    /// What both are made with.
+    pub common: Option<CommonTemplateAttribute<A>>,
+    /// What the private key is made with.
+    pub private_key: Option<PrivateKeyTemplateAttribute<A>>,
+    /// What the public key is made with.
+    pub public_key: Option<PublicKeyTemplateAttribute<A>>,
+    /// What stands behind these, whatever it is.
+    pub other_items: Kept<A>,
+}
+
+impl<A: Allocator + Copy> Decided for ReKeyKeyPairRequest<A> {
+    ghost IsDecided = { λ x. IsApart ⟦<ReKeyKeyPairRequestParts<A> as PartList<A>>⟧.rules ⟦<ReKeyKeyPairRequest<A> as FromParts<A, ReKeyKeyPairRequestParts<A>>>⟧.parts x };
+
+    fn is_decided(&self) -> bool {
+        is_apart::<ReKeyKeyPairRequestParts<A>, A>(&self.other_items)
+    }
+}
+
+type ReKeyKeyPairRequestFirst<A> = (
+    MaybeLeaf<String<A>, 0x420066>,
+    MaybeLeaf<Interval, 0x420058>,
+    Maybe<Of<CommonTemplateAttribute<A>, 0x42001F>, 0x42001F>,
+    Maybe<Of<PrivateKeyTemplateAttribute<A>, 0x420065>, 0x420065>,
+);
+
+type ReKeyKeyPairRequestSecond<A> = Before<
+    Maybe<Of<PublicKeyTemplateAttribute<A>, 0x42006E>, 0x42006E>,
+    Rest,
+>;
+
+type ReKeyKeyPairRequestParts<A> = Four<ReKeyKeyPairRequestFirst<A>, ReKeyKeyPairRequestSecond<A>>;
+
+impl<A: Allocator + Copy> FromParts<A, ReKeyKeyPairRequestParts<A>> for ReKeyKeyPairRequest<A> {
+    ghost parts = { λ x. (x.private_key_unique_identifier, x.offset, x.common, x.private_key, (x.public_key, x.other_items)) };
+
+    fn from_parts(
+        (
+            private_key_unique_identifier,
+            offset,
+            common,
+            private_key,
+            (public_key, other_items),
+        ): Holds<ReKeyKeyPairRequestParts<A>, A>,
+    ) -> Self {
+        ReKeyKeyPairRequest {
+            private_key_unique_identifier,
+            offset,
+            common,
+            private_key,
+            public_key,
+            other_items,
+        }
+    }
+}
+
+impl<A: Allocator + Copy> Structure<A> for ReKeyKeyPairRequest<A> {
+    ghost rules = { keeping_structure ⟦<ReKeyKeyPairRequestParts<A> as PartList<A>>⟧.rules ⟦<ReKeyKeyPairRequest<A> as FromParts<A, ReKeyKeyPairRequestParts<A>>>⟧.parts refl ⟦<ReKeyKeyPairRequest<A> as PartialEq>⟧.eq (λ x y e. e) };
+
+    fn read<'b>(scope: &Scope<'b, A>, tag: u32, cursor: &mut Cursor<'b, A>) -> Step<Self, A> {
+        read_structure::<ReKeyKeyPairRequestParts<A>, Self, A>(scope, tag, true, cursor)
+    }
+
+    fn tell_parts<W: Walk<A>>(&self, state: &mut W::State) -> Result<(), AllocError> {
+        W::four::<
+            MaybeLeaf<String<A>, 0x420066>,
+            MaybeLeaf<Interval, 0x420058>,
+            Maybe<Of<CommonTemplateAttribute<A>, 0x42001F>, 0x42001F>,
+            Maybe<Of<PrivateKeyTemplateAttribute<A>, 0x420065>, 0x420065>,
+        >(
+            state,
+            &self.private_key_unique_identifier,
+            &self.offset,
+            &self.common,
+            &self.private_key,
+        )?;
+        W::one::<Maybe<Of<PublicKeyTemplateAttribute<A>, 0x42006E>, 0x42006E>>(
+            state,
+            &self.public_key,
+        )?;
+        W::kept(state, &self.other_items)?;
+        W::check(state, self);
+        Ok(())
+    }
+}
+
+/// How a key is made of others (section 9.1.3.2.20).
+pub type DerivationMethod = Enumeration<0x420031>;
+
+/// The numbers of `DerivationMethod` that have a name.
+pub mod derivation_method {
+    use super::DerivationMethod;
+
+    /// Of a password, by PBKDF2.
+    pub const PBKDF2: DerivationMethod = DerivationMethod { number: 0x00000001 };
+    /// A hash of the key.
+    pub const HASH: DerivationMethod = DerivationMethod { number: 0x00000002 };
+    /// An HMAC with the key.
+    pub const HMAC: DerivationMethod = DerivationMethod { number: 0x00000003 };
+    /// An encryption with the key.
+    pub const ENCRYPT: DerivationMethod = DerivationMethod { number: 0x00000004 };
+    /// By NIST SP 800-108 with a counter.
+    pub const NIST800108_C: DerivationMethod = DerivationMethod { number: 0x00000005 };
+    /// By NIST SP 800-108 with feedback.
+    pub const NIST800108_F: DerivationMethod = DerivationMethod { number: 0x00000006 };
+    /// By NIST SP 800-108 in a double pipeline.
+    pub const NIST800108_DPI: DerivationMethod = DerivationMethod { number: 0x00000007 };
+    /// Agreed on by two key pairs (KMIP 1.4).
+    pub const ASYMMETRIC_KEY: DerivationMethod = DerivationMethod { number: 0x00000008 };
+}
+
+/// How a key is made of others (section 4.5).
+#[derive(Drop)]
+#[derive_where(PartialEq)]
+pub struct DerivationParameters<A: Allocator = Global> {
+    /// What is computed.
+    pub cryptographic_parameters: Option<Boxed<CryptographicParameters, A>>,
+    /// What an encryption begins with.
+    pub initialization_vector: Option<Vec<u8, A>>,
+    /// What is encrypted, or hashed with the key.
+    pub derivation_data: Option<Vec<u8, A>>,
+    /// What makes the keys of one password differ.
+    pub salt: Option<Vec<u8, A>>,
+    /// How often it is hashed.
+    pub iteration_count: Option<i32>,
+    /// What stands behind these, whatever it is.
+    pub other_items: Kept<A>,
+}
+
+impl<A: Allocator + Copy> Decided for DerivationParameters<A> {
+    ghost IsDecided = { λ x. IsApart ⟦<DerivationParametersParts<A> as PartList<A>>⟧.rules ⟦<DerivationParameters<A> as FromParts<A, DerivationParametersParts<A>>>⟧.parts x };
+
+    fn is_decided(&self) -> bool {
+        is_apart::<DerivationParametersParts<A>, A>(&self.other_items)
+    }
+}
+
+type DerivationParametersFirst<A> = (
+    Maybe<InBox<Of<CryptographicParameters, 0x42002B>>, 0x42002B>,
+    MaybeLeaf<Vec<u8, A>, 0x42003A>,
+    MaybeLeaf<Vec<u8, A>, 0x420030>,
+    MaybeLeaf<Vec<u8, A>, 0x420084>,
+);
+
+type DerivationParametersSecond = Before<MaybeLeaf<i32, 0x42003C>, Rest>;
+
+type DerivationParametersParts<A> = Four<DerivationParametersFirst<A>, DerivationParametersSecond>;
+
+impl<A: Allocator + Copy> FromParts<A, DerivationParametersParts<A>> for DerivationParameters<A> {
+    ghost parts = { λ x. (x.cryptographic_parameters, x.initialization_vector, x.derivation_data, x.salt, (x.iteration_count, x.other_items)) };
+
+    fn from_parts(
+        (
+            cryptographic_parameters,
+            initialization_vector,
+            derivation_data,
+            salt,
+            (iteration_count, other_items),
+        ): Holds<DerivationParametersParts<A>, A>,
+    ) -> Self {
+        DerivationParameters {
+            cryptographic_parameters,
+            initialization_vector,
+            derivation_data,
+            salt,
+            iteration_count,
+            other_items,
+        }
+    }
+}
+
+impl<A: Allocator + Copy> Structure<A> for DerivationParameters<A> {
+    ghost rules = { keeping_structure ⟦<DerivationParametersParts<A> as PartList<A>>⟧.rules ⟦<DerivationParameters<A> as FromParts<A, DerivationParametersParts<A>>>⟧.parts refl ⟦<DerivationParameters<A> as PartialEq>⟧.eq (λ x y e. e) };
+
+    fn read<'b>(scope: &Scope<'b, A>, tag: u32, cursor: &mut Cursor<'b, A>) -> Step<Self, A> {
+        read_structure::<DerivationParametersParts<A>, Self, A>(scope, tag, true, cursor)
+    }
+
+    fn tell_parts<W: Walk<A>>(&self, state: &mut W::State) -> Result<(), AllocError> {
+        W::four::<
+            Maybe<InBox<Of<CryptographicParameters, 0x42002B>>, 0x42002B>,
+            MaybeLeaf<Vec<u8, A>, 0x42003A>,
+            MaybeLeaf<Vec<u8, A>, 0x420030>,
+            MaybeLeaf<Vec<u8, A>, 0x420084>,
+        >(
+            state,
+            &self.cryptographic_parameters,
+            &self.initialization_vector,
+            &self.derivation_data,
+            &self.salt,
+        )?;
+        W::one::<MaybeLeaf<i32, 0x42003C>>(state, &self.iteration_count)?;
+        W::kept(state, &self.other_items)?;
+        W::check(state, self);
+        Ok(())
+    }
+}
+
+/// A key is to be made of others (section 4.5).
+#[derive(Drop)]
+#[derive_where(PartialEq)]
+pub struct DeriveKeyRequest<A: Allocator = Global> {
+    /// What it is.
+    pub object_type: ObjectType,
+    /// Of which objects it is made.
+    pub unique_identifiers: Vec<String<A>, A>,
+    /// How.
+    pub derivation_method: DerivationMethod,
+    /// By what.
+    pub derivation_parameters: DerivationParameters<A>,
+    /// What it is made with.
+    pub template_attribute: TemplateAttribute<A>,
+    /// What stands behind these, whatever it is.
+    pub other_items: Kept<A>,
+}
+
+impl<A: Allocator + Copy> Decided for DeriveKeyRequest<A> {
+    ghost IsDecided = { λ x. IsApart ⟦<DeriveKeyRequestParts<A> as PartList<A>>⟧.rules ⟦<DeriveKeyRequest<A> as FromParts<A, DeriveKeyRequestParts<A>>>⟧.parts x };
+
+    fn is_decided(&self) -> bool {
+        is_apart::<DeriveKeyRequestParts<A>, A>(&self.other_items)
+    }
+}
+
+type DeriveKeyRequestFirst<A> = (
+    One<ObjectType>,
+    Several<LeafItem<String<A>, 0x420094>, 0x420094>,
+    One<DerivationMethod>,
+    One<Of<DerivationParameters<A>, 0x420032>>,
+);
+
+type DeriveKeyRequestSecond<A> = Before<One<Of<TemplateAttribute<A>, 0x420091>>, Rest>;
+
+type DeriveKeyRequestParts<A> = Four<DeriveKeyRequestFirst<A>, DeriveKeyRequestSecond<A>>;
+
+impl<A: Allocator + Copy> FromParts<A, DeriveKeyRequestParts<A>> for DeriveKeyRequest<A> {
+    ghost parts = { λ x. (x.object_type, x.unique_identifiers, x.derivation_method, x.derivation_parameters, (x.template_attribute, x.other_items)) };
+
+    fn from_parts(
+        (
+            object_type,
+            unique_identifiers,
+            derivation_method,
+            derivation_parameters,
+            (template_attribute, other_items),
+        ): Holds<DeriveKeyRequestParts<A>, A>,
+    ) -> Self {
+        DeriveKeyRequest {
+            object_type,
+            unique_identifiers,
+            derivation_method,
+            derivation_parameters,
+            template_attribute,
+            other_items,
+        }
+    }
+}
+
+impl<A: Allocator + Copy> Structure<A> for DeriveKeyRequest<A> {
+    ghost rules = { keeping_structure ⟦<DeriveKeyRequestParts<A> as PartList<A>>⟧.rules ⟦<DeriveKeyRequest<A> as FromParts<A, DeriveKeyRequestParts<A>>>⟧.parts refl ⟦<DeriveKeyRequest<A> as PartialEq>⟧.eq (λ x y e. e) };
+
+    fn read<'b>(scope: &Scope<'b, A>, tag: u32, cursor: &mut Cursor<'b, A>) -> Step<Self, A> {
+        read_structure::<DeriveKeyRequestParts<A>, Self, A>(scope, tag, true, cursor)
+    }
+
+    fn tell_parts<W: Walk<A>>(&self, state: &mut W::State) -> Result<(), AllocError> {
+        W::four::<
+            One<ObjectType>,
+            Several<LeafItem<String<A>, 0x420094>, 0x420094>,
+            One<DerivationMethod>,
+            One<Of<DerivationParameters<A>, 0x420032>>,
+        >(
+            state,
+            &self.object_type,
+            &self.unique_identifiers,
+            &self.derivation_method,
+            &self.derivation_parameters,
+        )?;
+        W::one::<One<Of<TemplateAttribute<A>, 0x420091>>>(state, &self.template_attribute)?;
+        W::kept(state, &self.other_items)?;
+        W::check(state, self);
+        Ok(())
+    }
+}
+
 /// Which objects are sought (section 4.8).
 #[derive(Drop)]
 #[derive_where(PartialEq)]
@@ -305,6 +666,16 @@ pub struct LocateRequest<A: Allocator = Global> {
     pub object_group_member: Option<u32>,
     /// What each of them has; without any, all objects are sought.
     pub attributes: Vec<Attribute<A>, A>,
+    /// What stands behind these, whatever it is.
+    pub other_items: Kept<A>,
+}
+
+impl<A: Allocator + Copy> Decided for LocateRequest<A> {
+    ghost IsDecided = { λ x. IsApart ⟦<LocateRequestParts<A> as PartList<A>>⟧.rules ⟦<LocateRequest<A> as FromParts<A, LocateRequestParts<A>>>⟧.parts x };
+
+    fn is_decided(&self) -> bool {
+        is_apart::<LocateRequestParts<A>, A>(&self.other_items)
+    }
 }
 
 type LocateRequestFirst = (
@@ -314,18 +685,21 @@ type LocateRequestFirst = (
     MaybeLeaf<u32, 0x4200AC>,
 );
 
-type LocateRequestSecond<A> = Alone<Any<Of<Attribute<A>, 0x420008>, 0x420008>>;
+type LocateRequestSecond<A> = Before<Any<Of<Attribute<A>, 0x420008>, 0x420008>, Rest>;
 
 type LocateRequestParts<A> = Four<LocateRequestFirst, LocateRequestSecond<A>>;
 
 impl<A: Allocator + Copy> FromParts<A, LocateRequestParts<A>> for LocateRequest<A> {
-    ghost parts = { λ x. (x.maximum_items, x.offset_items, x.storage_status_mask, x.object_group_member, x.attributes) };
+    ghost parts = { λ x. (x.maximum_items, x.offset_items, x.storage_status_mask, x.object_group_member, (x.attributes, x.other_items)) };
 
     fn from_parts(
-        (maximum_items, offset_items, storage_status_mask, object_group_member, attributes): Holds<
-            LocateRequestParts<A>,
-            A,
-        >,
+        (
+            maximum_items,
+            offset_items,
+            storage_status_mask,
+            object_group_member,
+            (attributes, other_items),
+        ): Holds<LocateRequestParts<A>, A>,
     ) -> Self {
         LocateRequest {
             maximum_items,
@@ -333,12 +707,13 @@ impl<A: Allocator + Copy> FromParts<A, LocateRequestParts<A>> for LocateRequest<
             storage_status_mask,
             object_group_member,
             attributes,
+            other_items,
         }
     }
 }
 
 impl<A: Allocator + Copy> Structure<A> for LocateRequest<A> {
-    ghost rules = { structure true ⟦<LocateRequestParts<A> as PartList<A>>⟧.rules ⟦<LocateRequest<A> as FromParts<A, LocateRequestParts<A>>>⟧.parts refl ⟦<LocateRequest<A> as PartialEq>⟧.eq (λ x y e. e) };
+    ghost rules = { keeping_structure ⟦<LocateRequestParts<A> as PartList<A>>⟧.rules ⟦<LocateRequest<A> as FromParts<A, LocateRequestParts<A>>>⟧.parts refl ⟦<LocateRequest<A> as PartialEq>⟧.eq (λ x y e. e) };
 
     fn read<'b>(scope: &Scope<'b, A>, tag: u32, cursor: &mut Cursor<'b, A>) -> Step<Self, A> {
         read_structure::<LocateRequestParts<A>, Self, A>(scope, tag, true, cursor)
@@ -358,6 +733,89 @@ impl<A: Allocator + Copy> Structure<A> for LocateRequest<A> {
             &self.object_group_member,
         )?;
         W::one::<Any<Of<Attribute<A>, 0x420008>, 0x420008>>(state, &self.attributes)?;
+        W::kept(state, &self.other_items)?;
+        W::check(state, self);
+        Ok(())
+    }
+}
+
+/// Whether an object may be used so (section 4.9).
+#[derive(Drop)]
+#[derive_where(PartialEq)]
+pub struct CheckRequest<A: Allocator = Global> {
+    /// Which one: the last one, if it is absent.
+    pub unique_identifier: Option<String<A>>,
+    /// So often, or for so many bytes.
+    pub usage_limits_count: Option<i64>,
+    /// For this.
+    pub cryptographic_usage_mask: Option<i32>,
+    /// For so long, in seconds.
+    pub lease_time: Option<Interval>,
+    /// What stands behind these, whatever it is.
+    pub other_items: Kept<A>,
+}
+
+impl<A: Allocator + Copy> Decided for CheckRequest<A> {
+    ghost IsDecided = { λ x. IsApart ⟦<CheckRequestParts<A> as PartList<A>>⟧.rules ⟦<CheckRequest<A> as FromParts<A, CheckRequestParts<A>>>⟧.parts x };
+
+    fn is_decided(&self) -> bool {
+        is_apart::<CheckRequestParts<A>, A>(&self.other_items)
+    }
+}
+
+type CheckRequestFirst<A> = (
+    MaybeLeaf<String<A>, 0x420094>,
+    MaybeLeaf<i64, 0x420096>,
+    MaybeLeaf<i32, 0x42002C>,
+    MaybeLeaf<Interval, 0x420049>,
+);
+
+type CheckRequestParts<A> = Four<CheckRequestFirst<A>, Rest>;
+
+impl<A: Allocator + Copy> FromParts<A, CheckRequestParts<A>> for CheckRequest<A> {
+    ghost parts = { λ x. (x.unique_identifier, x.usage_limits_count, x.cryptographic_usage_mask, x.lease_time, x.other_items) };
+
+    fn from_parts(
+        (
+            unique_identifier,
+            usage_limits_count,
+            cryptographic_usage_mask,
+            lease_time,
+            other_items,
+        ): Holds<CheckRequestParts<A>, A>,
+    ) -> Self {
+        CheckRequest {
+            unique_identifier,
+            usage_limits_count,
+            cryptographic_usage_mask,
+            lease_time,
+            other_items,
+        }
+    }
+}
+
+impl<A: Allocator + Copy> Structure<A> for CheckRequest<A> {
+    ghost rules = { keeping_structure ⟦<CheckRequestParts<A> as PartList<A>>⟧.rules ⟦<CheckRequest<A> as FromParts<A, CheckRequestParts<A>>>⟧.parts refl ⟦<CheckRequest<A> as PartialEq>⟧.eq (λ x y e. e) };
+
+    fn read<'b>(scope: &Scope<'b, A>, tag: u32, cursor: &mut Cursor<'b, A>) -> Step<Self, A> {
+        read_structure::<CheckRequestParts<A>, Self, A>(scope, tag, true, cursor)
+    }
+
+    fn tell_parts<W: Walk<A>>(&self, state: &mut W::State) -> Result<(), AllocError> {
+        W::four::<
+            MaybeLeaf<String<A>, 0x420094>,
+            MaybeLeaf<i64, 0x420096>,
+            MaybeLeaf<i32, 0x42002C>,
+            MaybeLeaf<Interval, 0x420049>,
+        >(
+            state,
+            &self.unique_identifier,
+            &self.usage_limits_count,
+            &self.cryptographic_usage_mask,
+            &self.lease_time,
+        )?;
+        W::kept(state, &self.other_items)?;
+        W::check(state, self);
         Ok(())
     }
 }
@@ -647,7 +1105,7 @@ impl<A: Allocator + Copy> Structure<A> for DeleteAttributeRequest<A> {
     }
 }
 
-/// Which object is meant: to get the names of its attributes, to activate or to destroy it.
+/// Which object is meant: to get the names of its attributes, to use it for a time, to activate, destroy, archive or recover it.
 #[derive(Drop)]
 #[derive_where(PartialEq)]
 pub struct ObjectRequest<A: Allocator = Global> {
@@ -674,6 +1132,65 @@ impl<A: Allocator + Copy> Structure<A> for ObjectRequest<A> {
 
     fn tell_parts<W: Walk<A>>(&self, state: &mut W::State) -> Result<(), AllocError> {
         W::one::<MaybeLeaf<String<A>, 0x420094>>(state, &self.unique_identifier)
+    }
+}
+
+/// An object is to be used so much (section 4.17).
+#[derive(Drop)]
+#[derive_where(PartialEq)]
+pub struct UsageAllocationRequest<A: Allocator = Global> {
+    /// Which one: the last one, if it is absent.
+    pub unique_identifier: Option<String<A>>,
+    /// How often, or for how many bytes.
+    pub usage_limits_count: i64,
+    /// What stands behind these, whatever it is.
+    pub other_items: Kept<A>,
+}
+
+impl<A: Allocator + Copy> Decided for UsageAllocationRequest<A> {
+    ghost IsDecided = { λ x. IsApart ⟦<UsageAllocationRequestParts<A> as PartList<A>>⟧.rules ⟦<UsageAllocationRequest<A> as FromParts<A, UsageAllocationRequestParts<A>>>⟧.parts x };
+
+    fn is_decided(&self) -> bool {
+        is_apart::<UsageAllocationRequestParts<A>, A>(&self.other_items)
+    }
+}
+
+type UsageAllocationRequestParts<A> = Before<
+    MaybeLeaf<String<A>, 0x420094>,
+    Before<Leaf<i64, 0x420096>, Rest>,
+>;
+
+impl<A: Allocator + Copy> FromParts<A, UsageAllocationRequestParts<A>>
+    for UsageAllocationRequest<A> {
+    ghost parts = { λ x. (x.unique_identifier, (x.usage_limits_count, x.other_items)) };
+
+    fn from_parts(
+        (unique_identifier, (usage_limits_count, other_items)): Holds<
+            UsageAllocationRequestParts<A>,
+            A,
+        >,
+    ) -> Self {
+        UsageAllocationRequest {
+            unique_identifier,
+            usage_limits_count,
+            other_items,
+        }
+    }
+}
+
+impl<A: Allocator + Copy> Structure<A> for UsageAllocationRequest<A> {
+    ghost rules = { keeping_structure ⟦<UsageAllocationRequestParts<A> as PartList<A>>⟧.rules ⟦<UsageAllocationRequest<A> as FromParts<A, UsageAllocationRequestParts<A>>>⟧.parts refl ⟦<UsageAllocationRequest<A> as PartialEq>⟧.eq (λ x y e. e) };
+
+    fn read<'b>(scope: &Scope<'b, A>, tag: u32, cursor: &mut Cursor<'b, A>) -> Step<Self, A> {
+        read_structure::<UsageAllocationRequestParts<A>, Self, A>(scope, tag, true, cursor)
+    }
+
+    fn tell_parts<W: Walk<A>>(&self, state: &mut W::State) -> Result<(), AllocError> {
+        W::one::<MaybeLeaf<String<A>, 0x420094>>(state, &self.unique_identifier)?;
+        W::one::<Leaf<i64, 0x420096>>(state, &self.usage_limits_count)?;
+        W::kept(state, &self.other_items)?;
+        W::check(state, self);
+        Ok(())
     }
 }
 
@@ -847,6 +1364,212 @@ impl<A: Allocator + Copy> Structure<A> for DiscoverVersionsRequest<A> {
     }
 }
 
+/// An operation that goes on is asked after, or is to be given up (sections 4.25 and 4.26).
+#[derive(Drop)]
+#[derive_where(PartialEq)]
+pub struct AsynchronousRequest<A: Allocator = Global> {
+    /// What names it.
+    pub asynchronous_correlation_value: Vec<u8, A>,
+    /// What stands behind these, whatever it is.
+    pub other_items: Kept<A>,
+}
+
+impl<A: Allocator + Copy> Decided for AsynchronousRequest<A> {
+    ghost IsDecided = { λ x. IsApart ⟦<AsynchronousRequestParts<A> as PartList<A>>⟧.rules ⟦<AsynchronousRequest<A> as FromParts<A, AsynchronousRequestParts<A>>>⟧.parts x };
+
+    fn is_decided(&self) -> bool {
+        is_apart::<AsynchronousRequestParts<A>, A>(&self.other_items)
+    }
+}
+
+type AsynchronousRequestParts<A> = Before<Leaf<Vec<u8, A>, 0x420006>, Rest>;
+
+impl<A: Allocator + Copy> FromParts<A, AsynchronousRequestParts<A>> for AsynchronousRequest<A> {
+    ghost parts = { λ x. (x.asynchronous_correlation_value, x.other_items) };
+
+    fn from_parts(
+        (asynchronous_correlation_value, other_items): Holds<AsynchronousRequestParts<A>, A>,
+    ) -> Self {
+        AsynchronousRequest {
+            asynchronous_correlation_value,
+            other_items,
+        }
+    }
+}
+
+impl<A: Allocator + Copy> Structure<A> for AsynchronousRequest<A> {
+    ghost rules = { keeping_structure ⟦<AsynchronousRequestParts<A> as PartList<A>>⟧.rules ⟦<AsynchronousRequest<A> as FromParts<A, AsynchronousRequestParts<A>>>⟧.parts refl ⟦<AsynchronousRequest<A> as PartialEq>⟧.eq (λ x y e. e) };
+
+    fn read<'b>(scope: &Scope<'b, A>, tag: u32, cursor: &mut Cursor<'b, A>) -> Step<Self, A> {
+        read_structure::<AsynchronousRequestParts<A>, Self, A>(scope, tag, true, cursor)
+    }
+
+    fn tell_parts<W: Walk<A>>(&self, state: &mut W::State) -> Result<(), AllocError> {
+        W::one::<Leaf<Vec<u8, A>, 0x420006>>(state, &self.asynchronous_correlation_value)?;
+        W::kept(state, &self.other_items)?;
+        W::check(state, self);
+        Ok(())
+    }
+}
+
+/// Data is to be encrypted, decrypted, signed or hashed, or a signature or a MAC of it to be checked (KMIP 1.2, sections 4.29 to 4.37). Each operation has some of these.
+#[derive(Drop)]
+#[derive_where(PartialEq)]
+pub struct CryptographicRequest<A: Allocator = Global> {
+    /// The key: the last one, if it is absent.
+    pub unique_identifier: Option<String<A>>,
+    /// How; as the key's attributes say, if it is absent.
+    pub cryptographic_parameters: Option<Boxed<CryptographicParameters, A>>,
+    /// The data.
+    pub data: Option<Vec<u8, A>>,
+    /// A hash of it in its place (KMIP 1.4).
+    pub digested_data: Option<Vec<u8, A>>,
+    /// The signature that is checked.
+    pub signature_data: Option<Vec<u8, A>>,
+    /// The MAC that is checked.
+    pub mac_data: Option<Vec<u8, A>>,
+    /// What encryption begins with.
+    pub iv_counter_nonce: Option<Vec<u8, A>>,
+    /// What names the parts before this (KMIP 1.3).
+    pub correlation_value: Option<Vec<u8, A>>,
+    /// Whether this is the first part (KMIP 1.3).
+    pub init_indicator: Option<bool>,
+    /// Whether it is the last (KMIP 1.3).
+    pub final_indicator: Option<bool>,
+    /// What is authenticated and not encrypted (KMIP 1.4).
+    pub authenticated_encryption_additional_data: Option<Vec<u8, A>>,
+    /// What authenticates what is decrypted (KMIP 1.4).
+    pub authenticated_encryption_tag: Option<Vec<u8, A>>,
+    /// What stands behind these, whatever it is.
+    pub other_items: Kept<A>,
+}
+
+impl<A: Allocator + Copy> Decided for CryptographicRequest<A> {
+    ghost IsDecided = { λ x. IsApart ⟦<CryptographicRequestParts<A> as PartList<A>>⟧.rules ⟦<CryptographicRequest<A> as FromParts<A, CryptographicRequestParts<A>>>⟧.parts x };
+
+    fn is_decided(&self) -> bool {
+        is_apart::<CryptographicRequestParts<A>, A>(&self.other_items)
+    }
+}
+
+type CryptographicRequestFirst<A> = (
+    MaybeLeaf<String<A>, 0x420094>,
+    Maybe<InBox<Of<CryptographicParameters, 0x42002B>>, 0x42002B>,
+    MaybeLeaf<Vec<u8, A>, 0x4200C2>,
+    MaybeLeaf<Vec<u8, A>, 0x420107>,
+);
+
+type CryptographicRequestSecond<A> = (
+    MaybeLeaf<Vec<u8, A>, 0x4200C3>,
+    MaybeLeaf<Vec<u8, A>, 0x4200C6>,
+    MaybeLeaf<Vec<u8, A>, 0x42003D>,
+    MaybeLeaf<Vec<u8, A>, 0x4200D6>,
+);
+
+type CryptographicRequestThird<A> = (
+    MaybeLeaf<bool, 0x4200D7>,
+    MaybeLeaf<bool, 0x4200D8>,
+    MaybeLeaf<Vec<u8, A>, 0x4200FE>,
+    MaybeLeaf<Vec<u8, A>, 0x4200FF>,
+);
+
+type CryptographicRequestParts<A> = Four<
+    CryptographicRequestFirst<A>,
+    Four<CryptographicRequestSecond<A>, Four<CryptographicRequestThird<A>, Rest>>,
+>;
+
+impl<A: Allocator + Copy> FromParts<A, CryptographicRequestParts<A>> for CryptographicRequest<A> {
+    ghost parts = { λ x. (x.unique_identifier, x.cryptographic_parameters, x.data, x.digested_data, (x.signature_data, x.mac_data, x.iv_counter_nonce, x.correlation_value, (x.init_indicator, x.final_indicator, x.authenticated_encryption_additional_data, x.authenticated_encryption_tag, x.other_items))) };
+
+    fn from_parts(
+        (
+            unique_identifier,
+            cryptographic_parameters,
+            data,
+            digested_data,
+            (
+                signature_data,
+                mac_data,
+                iv_counter_nonce,
+                correlation_value,
+                (
+                    init_indicator,
+                    final_indicator,
+                    authenticated_encryption_additional_data,
+                    authenticated_encryption_tag,
+                    other_items,
+                ),
+            ),
+        ): Holds<CryptographicRequestParts<A>, A>,
+    ) -> Self {
+        CryptographicRequest {
+            unique_identifier,
+            cryptographic_parameters,
+            data,
+            digested_data,
+            signature_data,
+            mac_data,
+            iv_counter_nonce,
+            correlation_value,
+            init_indicator,
+            final_indicator,
+            authenticated_encryption_additional_data,
+            authenticated_encryption_tag,
+            other_items,
+        }
+    }
+}
+
+impl<A: Allocator + Copy> Structure<A> for CryptographicRequest<A> {
+    ghost rules = { keeping_structure ⟦<CryptographicRequestParts<A> as PartList<A>>⟧.rules ⟦<CryptographicRequest<A> as FromParts<A, CryptographicRequestParts<A>>>⟧.parts refl ⟦<CryptographicRequest<A> as PartialEq>⟧.eq (λ x y e. e) };
+
+    fn read<'b>(scope: &Scope<'b, A>, tag: u32, cursor: &mut Cursor<'b, A>) -> Step<Self, A> {
+        read_structure::<CryptographicRequestParts<A>, Self, A>(scope, tag, true, cursor)
+    }
+
+    fn tell_parts<W: Walk<A>>(&self, state: &mut W::State) -> Result<(), AllocError> {
+        W::four::<
+            MaybeLeaf<String<A>, 0x420094>,
+            Maybe<InBox<Of<CryptographicParameters, 0x42002B>>, 0x42002B>,
+            MaybeLeaf<Vec<u8, A>, 0x4200C2>,
+            MaybeLeaf<Vec<u8, A>, 0x420107>,
+        >(
+            state,
+            &self.unique_identifier,
+            &self.cryptographic_parameters,
+            &self.data,
+            &self.digested_data,
+        )?;
+        W::four::<
+            MaybeLeaf<Vec<u8, A>, 0x4200C3>,
+            MaybeLeaf<Vec<u8, A>, 0x4200C6>,
+            MaybeLeaf<Vec<u8, A>, 0x42003D>,
+            MaybeLeaf<Vec<u8, A>, 0x4200D6>,
+        >(
+            state,
+            &self.signature_data,
+            &self.mac_data,
+            &self.iv_counter_nonce,
+            &self.correlation_value,
+        )?;
+        W::four::<
+            MaybeLeaf<bool, 0x4200D7>,
+            MaybeLeaf<bool, 0x4200D8>,
+            MaybeLeaf<Vec<u8, A>, 0x4200FE>,
+            MaybeLeaf<Vec<u8, A>, 0x4200FF>,
+        >(
+            state,
+            &self.init_indicator,
+            &self.final_indicator,
+            &self.authenticated_encryption_additional_data,
+            &self.authenticated_encryption_tag,
+        )?;
+        W::kept(state, &self.other_items)?;
+        W::check(state, self);
+        Ok(())
+    }
+}
+
 /// What an operation needs.
 #[derive(Drop)]
 #[derive_where(PartialEq)]
@@ -854,11 +1577,17 @@ pub enum RequestPayload<A: Allocator = Global> {
     /// A symmetric key is to be made.
     Create(CreateRequest<A>),
     /// A public and a private key are to be made.
-    CreateKeyPair(CreateKeyPairRequest<A>),
+    CreateKeyPair(Boxed<CreateKeyPairRequest<A>, A>),
     /// An object is to be kept.
     Register(RegisterRequest<A>),
+    /// A key is to be made in place of another.
+    ReKey(ReKeyRequest<A>),
+    /// A key is to be made of others.
+    DeriveKey(Boxed<DeriveKeyRequest<A>, A>),
     /// Objects are sought.
     Locate(LocateRequest<A>),
+    /// Whether an object may be used so.
+    Check(CheckRequest<A>),
     /// An object is asked for.
     Get(GetRequest<A>),
     /// What is known of an object is asked for.
@@ -866,42 +1595,87 @@ pub enum RequestPayload<A: Allocator = Global> {
     /// The names of what is known are asked for.
     GetAttributeList(ObjectRequest<A>),
     /// An attribute is to be added.
-    AddAttribute(AttributeRequest<A>),
+    AddAttribute(Boxed<AttributeRequest<A>, A>),
     /// An attribute is to be changed.
-    ModifyAttribute(AttributeRequest<A>),
+    ModifyAttribute(Boxed<AttributeRequest<A>, A>),
     /// An attribute is to be deleted.
     DeleteAttribute(DeleteAttributeRequest<A>),
+    /// An object is to be used for a time.
+    ObtainLease(ObjectRequest<A>),
+    /// It is to be used so much.
+    GetUsageAllocation(UsageAllocationRequest<A>),
     /// An object is to be in use.
     Activate(ObjectRequest<A>),
     /// An object is no longer to be used.
     Revoke(RevokeRequest<A>),
     /// An object is to be destroyed.
     Destroy(ObjectRequest<A>),
+    /// An object is to be put away.
+    Archive(ObjectRequest<A>),
+    /// It is to be brought back.
+    Recover(ObjectRequest<A>),
     /// What the server can do.
     Query(QueryRequest<A>),
+    /// An operation is to be given up.
+    Cancel(AsynchronousRequest<A>),
+    /// What became of one.
+    Poll(AsynchronousRequest<A>),
+    /// A public and a private key are to be made in place of others.
+    ReKeyKeyPair(Boxed<ReKeyKeyPairRequest<A>, A>),
     /// Which versions the server has.
     DiscoverVersions(DiscoverVersionsRequest<A>),
+    /// Data is to be encrypted.
+    Encrypt(Boxed<CryptographicRequest<A>, A>),
+    /// Data is to be decrypted.
+    Decrypt(Boxed<CryptographicRequest<A>, A>),
+    /// Data is to be signed.
+    Sign(Boxed<CryptographicRequest<A>, A>),
+    /// Whether a signature is valid.
+    SignatureVerify(Boxed<CryptographicRequest<A>, A>),
+    /// A MAC is to be made of data.
+    Mac(Boxed<CryptographicRequest<A>, A>),
+    /// Whether a MAC is valid.
+    MacVerify(Boxed<CryptographicRequest<A>, A>),
+    /// A hash is to be made of data.
+    Hash(Boxed<CryptographicRequest<A>, A>),
     /// What any other operation needs.
     Other(Kept<A>),
 }
 
 // The texts that choose a variant, whatever the type of its item is.
-const REQUEST_PAYLOAD_NAMES: [&str; 15] = [
+const REQUEST_PAYLOAD_NAMES: [&str; 32] = [
     "0x00000001",
     "0x00000002",
     "0x00000003",
+    "0x00000004",
+    "0x00000005",
     "0x00000008",
+    "0x00000009",
     "0x0000000A",
     "0x0000000B",
     "0x0000000C",
     "0x0000000D",
     "0x0000000E",
     "0x0000000F",
+    "0x00000010",
+    "0x00000011",
     "0x00000012",
     "0x00000013",
     "0x00000014",
+    "0x00000015",
+    "0x00000016",
     "0x00000018",
+    "0x00000019",
+    "0x0000001A",
+    "0x0000001D",
     "0x0000001E",
+    "0x0000001F",
+    "0x00000020",
+    "0x00000021",
+    "0x00000022",
+    "0x00000023",
+    "0x00000024",
+    "0x00000027",
 ];
 
 // Whether a text is none of these.
@@ -920,25 +1694,42 @@ impl<A: Allocator> RequestPayload<A> {
             RequestPayload::Create(_) => text == "0x00000001",
             RequestPayload::CreateKeyPair(_) => text == "0x00000002",
             RequestPayload::Register(_) => text == "0x00000003",
+            RequestPayload::ReKey(_) => text == "0x00000004",
+            RequestPayload::DeriveKey(_) => text == "0x00000005",
             RequestPayload::Locate(_) => text == "0x00000008",
+            RequestPayload::Check(_) => text == "0x00000009",
             RequestPayload::Get(_) => text == "0x0000000A",
             RequestPayload::GetAttributes(_) => text == "0x0000000B",
             RequestPayload::GetAttributeList(_) => text == "0x0000000C",
             RequestPayload::AddAttribute(_) => text == "0x0000000D",
             RequestPayload::ModifyAttribute(_) => text == "0x0000000E",
             RequestPayload::DeleteAttribute(_) => text == "0x0000000F",
+            RequestPayload::ObtainLease(_) => text == "0x00000010",
+            RequestPayload::GetUsageAllocation(_) => text == "0x00000011",
             RequestPayload::Activate(_) => text == "0x00000012",
             RequestPayload::Revoke(_) => text == "0x00000013",
             RequestPayload::Destroy(_) => text == "0x00000014",
+            RequestPayload::Archive(_) => text == "0x00000015",
+            RequestPayload::Recover(_) => text == "0x00000016",
             RequestPayload::Query(_) => text == "0x00000018",
+            RequestPayload::Cancel(_) => text == "0x00000019",
+            RequestPayload::Poll(_) => text == "0x0000001A",
+            RequestPayload::ReKeyKeyPair(_) => text == "0x0000001D",
             RequestPayload::DiscoverVersions(_) => text == "0x0000001E",
+            RequestPayload::Encrypt(_) => text == "0x0000001F",
+            RequestPayload::Decrypt(_) => text == "0x00000020",
+            RequestPayload::Sign(_) => text == "0x00000021",
+            RequestPayload::SignatureVerify(_) => text == "0x00000022",
+            RequestPayload::Mac(_) => text == "0x00000023",
+            RequestPayload::MacVerify(_) => text == "0x00000024",
+            RequestPayload::Hash(_) => text == "0x00000027",
             RequestPayload::Other(_) => is_no_request_payload(text),
         }
     }
 }
 
 // The rules of the variants, in their order.
-const REQUEST_PAYLOAD_RULES: [RuleParts; 16] = [
+const REQUEST_PAYLOAD_RULES: [RuleParts; 33] = [
     RuleParts::Texts {
         tag: 0x42005C,
         texts: &["0x00000001"],
@@ -953,7 +1744,19 @@ const REQUEST_PAYLOAD_RULES: [RuleParts; 16] = [
     },
     RuleParts::Texts {
         tag: 0x42005C,
+        texts: &["0x00000004"],
+    },
+    RuleParts::Texts {
+        tag: 0x42005C,
+        texts: &["0x00000005"],
+    },
+    RuleParts::Texts {
+        tag: 0x42005C,
         texts: &["0x00000008"],
+    },
+    RuleParts::Texts {
+        tag: 0x42005C,
+        texts: &["0x00000009"],
     },
     RuleParts::Texts {
         tag: 0x42005C,
@@ -981,6 +1784,14 @@ const REQUEST_PAYLOAD_RULES: [RuleParts; 16] = [
     },
     RuleParts::Texts {
         tag: 0x42005C,
+        texts: &["0x00000010"],
+    },
+    RuleParts::Texts {
+        tag: 0x42005C,
+        texts: &["0x00000011"],
+    },
+    RuleParts::Texts {
+        tag: 0x42005C,
         texts: &["0x00000012"],
     },
     RuleParts::Texts {
@@ -993,11 +1804,59 @@ const REQUEST_PAYLOAD_RULES: [RuleParts; 16] = [
     },
     RuleParts::Texts {
         tag: 0x42005C,
+        texts: &["0x00000015"],
+    },
+    RuleParts::Texts {
+        tag: 0x42005C,
+        texts: &["0x00000016"],
+    },
+    RuleParts::Texts {
+        tag: 0x42005C,
         texts: &["0x00000018"],
     },
     RuleParts::Texts {
         tag: 0x42005C,
+        texts: &["0x00000019"],
+    },
+    RuleParts::Texts {
+        tag: 0x42005C,
+        texts: &["0x0000001A"],
+    },
+    RuleParts::Texts {
+        tag: 0x42005C,
+        texts: &["0x0000001D"],
+    },
+    RuleParts::Texts {
+        tag: 0x42005C,
         texts: &["0x0000001E"],
+    },
+    RuleParts::Texts {
+        tag: 0x42005C,
+        texts: &["0x0000001F"],
+    },
+    RuleParts::Texts {
+        tag: 0x42005C,
+        texts: &["0x00000020"],
+    },
+    RuleParts::Texts {
+        tag: 0x42005C,
+        texts: &["0x00000021"],
+    },
+    RuleParts::Texts {
+        tag: 0x42005C,
+        texts: &["0x00000022"],
+    },
+    RuleParts::Texts {
+        tag: 0x42005C,
+        texts: &["0x00000023"],
+    },
+    RuleParts::Texts {
+        tag: 0x42005C,
+        texts: &["0x00000024"],
+    },
+    RuleParts::Texts {
+        tag: 0x42005C,
+        texts: &["0x00000027"],
     },
     RuleParts::Type(TtlvType::Structure),
 ];
@@ -1005,20 +1864,37 @@ const REQUEST_PAYLOAD_RULES: [RuleParts; 16] = [
 impl<A: Allocator + Copy> Choice<A> for RequestPayload<A> {
     ghost chosen = { request_payload_choice ⟦<RequestPayload<A> as PartialEq>⟧.eq record {
       create = held ⟦<Of<CreateRequest<A>, 0x420079> as Element<A>>⟧.rules refl refl (λ x y e. e);
-      create_key_pair = held ⟦<Of<CreateKeyPairRequest<A>, 0x420079> as Element<A>>⟧.rules refl refl (λ x y e. e);
+      create_key_pair = held ⟦<InBox<Of<CreateKeyPairRequest<A>, 0x420079>> as Element<A>>⟧.rules refl refl (λ x y e. e);
       register = held ⟦<Of<RegisterRequest<A>, 0x420079> as Element<A>>⟧.rules refl refl (λ x y e. e);
+      re_key = held ⟦<Of<ReKeyRequest<A>, 0x420079> as Element<A>>⟧.rules refl refl (λ x y e. e);
+      derive_key = held ⟦<InBox<Of<DeriveKeyRequest<A>, 0x420079>> as Element<A>>⟧.rules refl refl (λ x y e. e);
       locate = held ⟦<Of<LocateRequest<A>, 0x420079> as Element<A>>⟧.rules refl refl (λ x y e. e);
+      check = held ⟦<Of<CheckRequest<A>, 0x420079> as Element<A>>⟧.rules refl refl (λ x y e. e);
       get = held ⟦<Of<GetRequest<A>, 0x420079> as Element<A>>⟧.rules refl refl (λ x y e. e);
       get_attributes = held ⟦<Of<GetAttributesRequest<A>, 0x420079> as Element<A>>⟧.rules refl refl (λ x y e. e);
       get_attribute_list = held ⟦<Of<ObjectRequest<A>, 0x420079> as Element<A>>⟧.rules refl refl (λ x y e. e);
-      add_attribute = held ⟦<Of<AttributeRequest<A>, 0x420079> as Element<A>>⟧.rules refl refl (λ x y e. e);
-      modify_attribute = held ⟦<Of<AttributeRequest<A>, 0x420079> as Element<A>>⟧.rules refl refl (λ x y e. e);
+      add_attribute = held ⟦<InBox<Of<AttributeRequest<A>, 0x420079>> as Element<A>>⟧.rules refl refl (λ x y e. e);
+      modify_attribute = held ⟦<InBox<Of<AttributeRequest<A>, 0x420079>> as Element<A>>⟧.rules refl refl (λ x y e. e);
       delete_attribute = held ⟦<Of<DeleteAttributeRequest<A>, 0x420079> as Element<A>>⟧.rules refl refl (λ x y e. e);
+      obtain_lease = held ⟦<Of<ObjectRequest<A>, 0x420079> as Element<A>>⟧.rules refl refl (λ x y e. e);
+      get_usage_allocation = held ⟦<Of<UsageAllocationRequest<A>, 0x420079> as Element<A>>⟧.rules refl refl (λ x y e. e);
       activate = held ⟦<Of<ObjectRequest<A>, 0x420079> as Element<A>>⟧.rules refl refl (λ x y e. e);
       revoke = held ⟦<Of<RevokeRequest<A>, 0x420079> as Element<A>>⟧.rules refl refl (λ x y e. e);
       destroy = held ⟦<Of<ObjectRequest<A>, 0x420079> as Element<A>>⟧.rules refl refl (λ x y e. e);
+      archive = held ⟦<Of<ObjectRequest<A>, 0x420079> as Element<A>>⟧.rules refl refl (λ x y e. e);
+      recover = held ⟦<Of<ObjectRequest<A>, 0x420079> as Element<A>>⟧.rules refl refl (λ x y e. e);
       query = held ⟦<Of<QueryRequest<A>, 0x420079> as Element<A>>⟧.rules refl refl (λ x y e. e);
+      cancel = held ⟦<Of<AsynchronousRequest<A>, 0x420079> as Element<A>>⟧.rules refl refl (λ x y e. e);
+      poll = held ⟦<Of<AsynchronousRequest<A>, 0x420079> as Element<A>>⟧.rules refl refl (λ x y e. e);
+      re_key_key_pair = held ⟦<InBox<Of<ReKeyKeyPairRequest<A>, 0x420079>> as Element<A>>⟧.rules refl refl (λ x y e. e);
       discover_versions = held ⟦<Of<DiscoverVersionsRequest<A>, 0x420079> as Element<A>>⟧.rules refl refl (λ x y e. e);
+      encrypt = held ⟦<InBox<Of<CryptographicRequest<A>, 0x420079>> as Element<A>>⟧.rules refl refl (λ x y e. e);
+      decrypt = held ⟦<InBox<Of<CryptographicRequest<A>, 0x420079>> as Element<A>>⟧.rules refl refl (λ x y e. e);
+      sign = held ⟦<InBox<Of<CryptographicRequest<A>, 0x420079>> as Element<A>>⟧.rules refl refl (λ x y e. e);
+      signature_verify = held ⟦<InBox<Of<CryptographicRequest<A>, 0x420079>> as Element<A>>⟧.rules refl refl (λ x y e. e);
+      mac = held ⟦<InBox<Of<CryptographicRequest<A>, 0x420079>> as Element<A>>⟧.rules refl refl (λ x y e. e);
+      mac_verify = held ⟦<InBox<Of<CryptographicRequest<A>, 0x420079>> as Element<A>>⟧.rules refl refl (λ x y e. e);
+      hash = held ⟦<InBox<Of<CryptographicRequest<A>, 0x420079>> as Element<A>>⟧.rules refl refl (λ x y e. e);
       other = held ⟦<Of<Kept<A>, 0x420079> as Element<A>>⟧.rules refl refl (λ x y e. e);
     } };
 
@@ -1036,51 +1912,103 @@ impl<A: Allocator + Copy> Choice<A> for RequestPayload<A> {
             0 => Ok(RequestPayload::Create(<Of<CreateRequest<A>, 0x420079> as Element<A>>::read_one(
                 scope, cursor,
             )?)),
-            1 => Ok(RequestPayload::CreateKeyPair(<Of<CreateKeyPairRequest<A>, 0x420079> as Element<
-                A,
-            >>::read_one(scope, cursor)?)),
+            1 => Ok(RequestPayload::CreateKeyPair(<InBox<
+                Of<CreateKeyPairRequest<A>, 0x420079>,
+            > as Element<A>>::read_one(scope, cursor)?)),
             2 => Ok(RequestPayload::Register(<Of<RegisterRequest<A>, 0x420079> as Element<
                 A,
             >>::read_one(scope, cursor)?)),
-            3 => Ok(RequestPayload::Locate(<Of<LocateRequest<A>, 0x420079> as Element<A>>::read_one(
+            3 => Ok(RequestPayload::ReKey(<Of<ReKeyRequest<A>, 0x420079> as Element<A>>::read_one(
                 scope, cursor,
             )?)),
-            4 => Ok(RequestPayload::Get(<Of<GetRequest<A>, 0x420079> as Element<A>>::read_one(
+            4 => Ok(RequestPayload::DeriveKey(<InBox<Of<DeriveKeyRequest<A>, 0x420079>> as Element<
+                A,
+            >>::read_one(scope, cursor)?)),
+            5 => Ok(RequestPayload::Locate(<Of<LocateRequest<A>, 0x420079> as Element<A>>::read_one(
                 scope, cursor,
             )?)),
-            5 => Ok(RequestPayload::GetAttributes(<Of<GetAttributesRequest<A>, 0x420079> as Element<
+            6 => Ok(RequestPayload::Check(<Of<CheckRequest<A>, 0x420079> as Element<A>>::read_one(
+                scope, cursor,
+            )?)),
+            7 => Ok(RequestPayload::Get(<Of<GetRequest<A>, 0x420079> as Element<A>>::read_one(
+                scope, cursor,
+            )?)),
+            8 => Ok(RequestPayload::GetAttributes(<Of<GetAttributesRequest<A>, 0x420079> as Element<
                 A,
             >>::read_one(scope, cursor)?)),
-            6 => Ok(RequestPayload::GetAttributeList(<Of<ObjectRequest<A>, 0x420079> as Element<
+            9 => Ok(RequestPayload::GetAttributeList(<Of<ObjectRequest<A>, 0x420079> as Element<
                 A,
             >>::read_one(scope, cursor)?)),
-            7 => Ok(RequestPayload::AddAttribute(<Of<AttributeRequest<A>, 0x420079> as Element<
-                A,
-            >>::read_one(scope, cursor)?)),
-            8 => Ok(RequestPayload::ModifyAttribute(<Of<AttributeRequest<A>, 0x420079> as Element<
-                A,
-            >>::read_one(scope, cursor)?)),
-            9 => Ok(RequestPayload::DeleteAttribute(<Of<
+            10 => Ok(RequestPayload::AddAttribute(<InBox<
+                Of<AttributeRequest<A>, 0x420079>,
+            > as Element<A>>::read_one(scope, cursor)?)),
+            11 => Ok(RequestPayload::ModifyAttribute(<InBox<
+                Of<AttributeRequest<A>, 0x420079>,
+            > as Element<A>>::read_one(scope, cursor)?)),
+            12 => Ok(RequestPayload::DeleteAttribute(<Of<
                 DeleteAttributeRequest<A>,
                 0x420079,
             > as Element<A>>::read_one(scope, cursor)?)),
-            10 => Ok(RequestPayload::Activate(<Of<ObjectRequest<A>, 0x420079> as Element<
+            13 => Ok(RequestPayload::ObtainLease(<Of<ObjectRequest<A>, 0x420079> as Element<
                 A,
             >>::read_one(scope, cursor)?)),
-            11 => Ok(RequestPayload::Revoke(<Of<RevokeRequest<A>, 0x420079> as Element<
+            14 => Ok(RequestPayload::GetUsageAllocation(<Of<
+                UsageAllocationRequest<A>,
+                0x420079,
+            > as Element<A>>::read_one(scope, cursor)?)),
+            15 => Ok(RequestPayload::Activate(<Of<ObjectRequest<A>, 0x420079> as Element<
                 A,
             >>::read_one(scope, cursor)?)),
-            12 => Ok(RequestPayload::Destroy(<Of<ObjectRequest<A>, 0x420079> as Element<
+            16 => Ok(RequestPayload::Revoke(<Of<RevokeRequest<A>, 0x420079> as Element<
                 A,
             >>::read_one(scope, cursor)?)),
-            13 => Ok(RequestPayload::Query(<Of<QueryRequest<A>, 0x420079> as Element<A>>::read_one(
+            17 => Ok(RequestPayload::Destroy(<Of<ObjectRequest<A>, 0x420079> as Element<
+                A,
+            >>::read_one(scope, cursor)?)),
+            18 => Ok(RequestPayload::Archive(<Of<ObjectRequest<A>, 0x420079> as Element<
+                A,
+            >>::read_one(scope, cursor)?)),
+            19 => Ok(RequestPayload::Recover(<Of<ObjectRequest<A>, 0x420079> as Element<
+                A,
+            >>::read_one(scope, cursor)?)),
+            20 => Ok(RequestPayload::Query(<Of<QueryRequest<A>, 0x420079> as Element<A>>::read_one(
                 scope, cursor,
             )?)),
-            14 => Ok(RequestPayload::DiscoverVersions(<Of<
+            21 => Ok(RequestPayload::Cancel(<Of<AsynchronousRequest<A>, 0x420079> as Element<
+                A,
+            >>::read_one(scope, cursor)?)),
+            22 => Ok(RequestPayload::Poll(<Of<AsynchronousRequest<A>, 0x420079> as Element<
+                A,
+            >>::read_one(scope, cursor)?)),
+            23 => Ok(RequestPayload::ReKeyKeyPair(<InBox<
+                Of<ReKeyKeyPairRequest<A>, 0x420079>,
+            > as Element<A>>::read_one(scope, cursor)?)),
+            24 => Ok(RequestPayload::DiscoverVersions(<Of<
                 DiscoverVersionsRequest<A>,
                 0x420079,
             > as Element<A>>::read_one(scope, cursor)?)),
-            15 => Ok(RequestPayload::Other(<Of<Kept<A>, 0x420079> as Element<A>>::read_one(
+            25 => Ok(RequestPayload::Encrypt(<InBox<
+                Of<CryptographicRequest<A>, 0x420079>,
+            > as Element<A>>::read_one(scope, cursor)?)),
+            26 => Ok(RequestPayload::Decrypt(<InBox<
+                Of<CryptographicRequest<A>, 0x420079>,
+            > as Element<A>>::read_one(scope, cursor)?)),
+            27 => Ok(RequestPayload::Sign(<InBox<Of<CryptographicRequest<A>, 0x420079>> as Element<
+                A,
+            >>::read_one(scope, cursor)?)),
+            28 => Ok(RequestPayload::SignatureVerify(<InBox<
+                Of<CryptographicRequest<A>, 0x420079>,
+            > as Element<A>>::read_one(scope, cursor)?)),
+            29 => Ok(RequestPayload::Mac(<InBox<Of<CryptographicRequest<A>, 0x420079>> as Element<
+                A,
+            >>::read_one(scope, cursor)?)),
+            30 => Ok(RequestPayload::MacVerify(<InBox<
+                Of<CryptographicRequest<A>, 0x420079>,
+            > as Element<A>>::read_one(scope, cursor)?)),
+            31 => Ok(RequestPayload::Hash(<InBox<Of<CryptographicRequest<A>, 0x420079>> as Element<
+                A,
+            >>::read_one(scope, cursor)?)),
+            32 => Ok(RequestPayload::Other(<Of<Kept<A>, 0x420079> as Element<A>>::read_one(
                 scope, cursor,
             )?)),
             _ => unreachable!(),
@@ -1093,14 +2021,19 @@ impl<A: Allocator + Copy> Choice<A> for RequestPayload<A> {
                 state, inner,
             ),
             RequestPayload::CreateKeyPair(inner) => W::item::<
-                Of<CreateKeyPairRequest<A>, 0x420079>,
+                InBox<Of<CreateKeyPairRequest<A>, 0x420079>>,
             >(state, inner),
             RequestPayload::Register(inner) => W::item::<Of<RegisterRequest<A>, 0x420079>>(
+                state, inner,
+            ),
+            RequestPayload::ReKey(inner) => W::item::<Of<ReKeyRequest<A>, 0x420079>>(state, inner),
+            RequestPayload::DeriveKey(inner) => W::item::<InBox<Of<DeriveKeyRequest<A>, 0x420079>>>(
                 state, inner,
             ),
             RequestPayload::Locate(inner) => W::item::<Of<LocateRequest<A>, 0x420079>>(
                 state, inner,
             ),
+            RequestPayload::Check(inner) => W::item::<Of<CheckRequest<A>, 0x420079>>(state, inner),
             RequestPayload::Get(inner) => W::item::<Of<GetRequest<A>, 0x420079>>(state, inner),
             RequestPayload::GetAttributes(inner) => W::item::<
                 Of<GetAttributesRequest<A>, 0x420079>,
@@ -1108,14 +2041,20 @@ impl<A: Allocator + Copy> Choice<A> for RequestPayload<A> {
             RequestPayload::GetAttributeList(inner) => W::item::<Of<ObjectRequest<A>, 0x420079>>(
                 state, inner,
             ),
-            RequestPayload::AddAttribute(inner) => W::item::<Of<AttributeRequest<A>, 0x420079>>(
-                state, inner,
-            ),
-            RequestPayload::ModifyAttribute(inner) => W::item::<Of<AttributeRequest<A>, 0x420079>>(
-                state, inner,
-            ),
+            RequestPayload::AddAttribute(inner) => W::item::<
+                InBox<Of<AttributeRequest<A>, 0x420079>>,
+            >(state, inner),
+            RequestPayload::ModifyAttribute(inner) => W::item::<
+                InBox<Of<AttributeRequest<A>, 0x420079>>,
+            >(state, inner),
             RequestPayload::DeleteAttribute(inner) => W::item::<
                 Of<DeleteAttributeRequest<A>, 0x420079>,
+            >(state, inner),
+            RequestPayload::ObtainLease(inner) => W::item::<Of<ObjectRequest<A>, 0x420079>>(
+                state, inner,
+            ),
+            RequestPayload::GetUsageAllocation(inner) => W::item::<
+                Of<UsageAllocationRequest<A>, 0x420079>,
             >(state, inner),
             RequestPayload::Activate(inner) => W::item::<Of<ObjectRequest<A>, 0x420079>>(
                 state, inner,
@@ -1126,10 +2065,46 @@ impl<A: Allocator + Copy> Choice<A> for RequestPayload<A> {
             RequestPayload::Destroy(inner) => W::item::<Of<ObjectRequest<A>, 0x420079>>(
                 state, inner,
             ),
+            RequestPayload::Archive(inner) => W::item::<Of<ObjectRequest<A>, 0x420079>>(
+                state, inner,
+            ),
+            RequestPayload::Recover(inner) => W::item::<Of<ObjectRequest<A>, 0x420079>>(
+                state, inner,
+            ),
             RequestPayload::Query(inner) => W::item::<Of<QueryRequest<A>, 0x420079>>(state, inner),
+            RequestPayload::Cancel(inner) => W::item::<Of<AsynchronousRequest<A>, 0x420079>>(
+                state, inner,
+            ),
+            RequestPayload::Poll(inner) => W::item::<Of<AsynchronousRequest<A>, 0x420079>>(
+                state, inner,
+            ),
+            RequestPayload::ReKeyKeyPair(inner) => W::item::<
+                InBox<Of<ReKeyKeyPairRequest<A>, 0x420079>>,
+            >(state, inner),
             RequestPayload::DiscoverVersions(inner) => W::item::<
                 Of<DiscoverVersionsRequest<A>, 0x420079>,
             >(state, inner),
+            RequestPayload::Encrypt(inner) => W::item::<
+                InBox<Of<CryptographicRequest<A>, 0x420079>>,
+            >(state, inner),
+            RequestPayload::Decrypt(inner) => W::item::<
+                InBox<Of<CryptographicRequest<A>, 0x420079>>,
+            >(state, inner),
+            RequestPayload::Sign(inner) => W::item::<InBox<Of<CryptographicRequest<A>, 0x420079>>>(
+                state, inner,
+            ),
+            RequestPayload::SignatureVerify(inner) => W::item::<
+                InBox<Of<CryptographicRequest<A>, 0x420079>>,
+            >(state, inner),
+            RequestPayload::Mac(inner) => W::item::<InBox<Of<CryptographicRequest<A>, 0x420079>>>(
+                state, inner,
+            ),
+            RequestPayload::MacVerify(inner) => W::item::<
+                InBox<Of<CryptographicRequest<A>, 0x420079>>,
+            >(state, inner),
+            RequestPayload::Hash(inner) => W::item::<InBox<Of<CryptographicRequest<A>, 0x420079>>>(
+                state, inner,
+            ),
             RequestPayload::Other(inner) => W::item::<Of<Kept<A>, 0x420079>>(state, inner),
         }
     }

@@ -3,7 +3,7 @@
 
 ghost use Rattle.std.specs.Prelude.{◌≡◌, ◌↔◌, ◌+◌, None, IsTrue, Some, refl, true};
 ghost use Rattle.kmip_ttlv_parts.specs.Returns.{IsNoneOf};
-ghost use Rattle.kmip_ttlv_kinds.specs.Parts.{structure, structure_where};
+ghost use Rattle.kmip_ttlv_kinds.specs.Parts.{IsApart, keeping_structure, structure, structure_where};
 ghost use Rattle.kmip_ttlv_kinds.specs.Choices.{held};
 ghost use Rattle.kmip_ttlv_parts.specs.MessageParts.{there};
 ghost use Rattle.kmip_responses.specs.Choices.{IsGetResponseObject, response_payload_choice, ChoosesResponsePayload, response_payload_names};
@@ -19,13 +19,13 @@ use kmip_objects::template::{
     PrivateKeyTemplateAttribute, PublicKeyTemplateAttribute, TemplateAttribute,
 };
 use kmip_ttlv_kinds::{
-    Alone, Any, Choice, Decided, Element, Four, FromParts, Holds, InBox, Leaf, LeafItem, Maybe,
-    MaybeLeaf, Of, One, PartList, Structure, Walk, read_structure,
+    Alone, Any, Before, Choice, Decided, Element, Four, FromParts, Holds, InBox, Leaf, LeafItem,
+    Maybe, MaybeLeaf, Of, One, PartList, Rest, Structure, Walk, is_apart, read_structure,
 };
 use kmip_ttlv_parts::laws::is_none_of;
-use kmip_ttlv_parts::reader::{Cursor, RuleParts, Scope, Step};
+use kmip_ttlv_parts::reader::{Cursor, DateTime, Interval, RuleParts, Scope, Step};
 use kmip_ttlv_parts::types::TtlvType;
-use kmip_ttlv_parts::{Boxed, Kept};
+use kmip_ttlv_parts::{Boxed, Enumeration, Kept};
 use std::alloc::{AllocError, Allocator, Global};
 
 /// A symmetric key was made (section 4.1).
@@ -197,37 +197,50 @@ pub struct LocateResponse<A: Allocator = Global> {
     pub located_items: Option<i32>,
     /// Their identifiers.
     pub unique_identifiers: Vec<String<A>, A>,
+    /// What stands behind these, whatever it is.
+    pub other_items: Kept<A>,
 }
 
-type LocateResponseParts<A> = (
+impl<A: Allocator + Copy> Decided for LocateResponse<A> {
+    ghost IsDecided = { λ x. IsApart ⟦<LocateResponseParts<A> as PartList<A>>⟧.rules ⟦<LocateResponse<A> as FromParts<A, LocateResponseParts<A>>>⟧.parts x };
+
+    fn is_decided(&self) -> bool {
+        is_apart::<LocateResponseParts<A>, A>(&self.other_items)
+    }
+}
+
+type LocateResponseParts<A> = Before<
     MaybeLeaf<i32, 0x4200D5>,
-    Any<LeafItem<String<A>, 0x420094>, 0x420094>,
-);
+    Before<Any<LeafItem<String<A>, 0x420094>, 0x420094>, Rest>,
+>;
 
 impl<A: Allocator + Copy> FromParts<A, LocateResponseParts<A>> for LocateResponse<A> {
-    ghost parts = { λ x. (x.located_items, x.unique_identifiers) };
+    ghost parts = { λ x. (x.located_items, (x.unique_identifiers, x.other_items)) };
 
-    fn from_parts((located_items, unique_identifiers): Holds<LocateResponseParts<A>, A>) -> Self {
+    fn from_parts(
+        (located_items, (unique_identifiers, other_items)): Holds<LocateResponseParts<A>, A>,
+    ) -> Self {
         LocateResponse {
             located_items,
             unique_identifiers,
+            other_items,
         }
     }
 }
 
 impl<A: Allocator + Copy> Structure<A> for LocateResponse<A> {
-    ghost rules = { structure true ⟦<LocateResponseParts<A> as PartList<A>>⟧.rules ⟦<LocateResponse<A> as FromParts<A, LocateResponseParts<A>>>⟧.parts refl ⟦<LocateResponse<A> as PartialEq>⟧.eq (λ x y e. e) };
+    ghost rules = { keeping_structure ⟦<LocateResponseParts<A> as PartList<A>>⟧.rules ⟦<LocateResponse<A> as FromParts<A, LocateResponseParts<A>>>⟧.parts refl ⟦<LocateResponse<A> as PartialEq>⟧.eq (λ x y e. e) };
 
     fn read<'b>(scope: &Scope<'b, A>, tag: u32, cursor: &mut Cursor<'b, A>) -> Step<Self, A> {
         read_structure::<LocateResponseParts<A>, Self, A>(scope, tag, true, cursor)
     }
 
     fn tell_parts<W: Walk<A>>(&self, state: &mut W::State) -> Result<(), AllocError> {
-        W::two::<MaybeLeaf<i32, 0x4200D5>, Any<LeafItem<String<A>, 0x420094>, 0x420094>>(
-            state,
-            &self.located_items,
-            &self.unique_identifiers,
-        )
+        W::one::<MaybeLeaf<i32, 0x4200D5>>(state, &self.located_items)?;
+        W::one::<Any<LeafItem<String<A>, 0x420094>, 0x420094>>(state, &self.unique_identifiers)?;
+        W::kept(state, &self.other_items)?;
+        W::check(state, self);
+        Ok(())
     }
 }
 
@@ -530,7 +543,7 @@ impl<A: Allocator + Copy> Structure<A> for AttributeResponse<A> {
     }
 }
 
-/// Which object was activated, revoked or destroyed (sections 4.18 to 4.20).
+/// Which object was activated, revoked, destroyed, archived, recovered, or may be used (sections 4.17 to 4.22).
 #[derive(Drop)]
 #[derive_where(PartialEq)]
 pub struct ObjectResponse<A: Allocator = Global> {
@@ -588,6 +601,16 @@ pub struct QueryResponse<A: Allocator = Global> {
     pub capabilities: Vec<Kept<A>, A>,
     /// How clients are made known to it (KMIP 1.3).
     pub client_registration_methods: Vec<u32, A>,
+    /// What stands behind these, whatever it is.
+    pub other_items: Kept<A>,
+}
+
+impl<A: Allocator + Copy> Decided for QueryResponse<A> {
+    ghost IsDecided = { λ x. IsApart ⟦<QueryResponseParts<A> as PartList<A>>⟧.rules ⟦<QueryResponse<A> as FromParts<A, QueryResponseParts<A>>>⟧.parts x };
+
+    fn is_decided(&self) -> bool {
+        is_apart::<QueryResponseParts<A>, A>(&self.other_items)
+    }
 }
 
 type QueryResponseFirst<A> = (
@@ -613,11 +636,11 @@ type QueryResponseThird<A> = (
 
 type QueryResponseParts<A> = Four<
     QueryResponseFirst<A>,
-    Four<QueryResponseSecond<A>, QueryResponseThird<A>>,
+    Four<QueryResponseSecond<A>, Four<QueryResponseThird<A>, Rest>>,
 >;
 
 impl<A: Allocator + Copy> FromParts<A, QueryResponseParts<A>> for QueryResponse<A> {
-    ghost parts = { λ x. (x.operations, x.object_types, x.vendor_identification, x.server_information, (x.application_namespaces, x.extensions, x.attestation_types, x.rng_parameters, (x.profiles, x.validations, x.capabilities, x.client_registration_methods))) };
+    ghost parts = { λ x. (x.operations, x.object_types, x.vendor_identification, x.server_information, (x.application_namespaces, x.extensions, x.attestation_types, x.rng_parameters, (x.profiles, x.validations, x.capabilities, x.client_registration_methods, x.other_items))) };
 
     fn from_parts(
         (
@@ -630,7 +653,7 @@ impl<A: Allocator + Copy> FromParts<A, QueryResponseParts<A>> for QueryResponse<
                 extensions,
                 attestation_types,
                 rng_parameters,
-                (profiles, validations, capabilities, client_registration_methods),
+                (profiles, validations, capabilities, client_registration_methods, other_items),
             ),
         ): Holds<QueryResponseParts<A>, A>,
     ) -> Self {
@@ -647,12 +670,13 @@ impl<A: Allocator + Copy> FromParts<A, QueryResponseParts<A>> for QueryResponse<
             validations,
             capabilities,
             client_registration_methods,
+            other_items,
         }
     }
 }
 
 impl<A: Allocator + Copy> Structure<A> for QueryResponse<A> {
-    ghost rules = { structure true ⟦<QueryResponseParts<A> as PartList<A>>⟧.rules ⟦<QueryResponse<A> as FromParts<A, QueryResponseParts<A>>>⟧.parts refl ⟦<QueryResponse<A> as PartialEq>⟧.eq (λ x y e. e) };
+    ghost rules = { keeping_structure ⟦<QueryResponseParts<A> as PartList<A>>⟧.rules ⟦<QueryResponse<A> as FromParts<A, QueryResponseParts<A>>>⟧.parts refl ⟦<QueryResponse<A> as PartialEq>⟧.eq (λ x y e. e) };
 
     fn read<'b>(scope: &Scope<'b, A>, tag: u32, cursor: &mut Cursor<'b, A>) -> Step<Self, A> {
         read_structure::<QueryResponseParts<A>, Self, A>(scope, tag, true, cursor)
@@ -695,6 +719,8 @@ impl<A: Allocator + Copy> Structure<A> for QueryResponse<A> {
             &self.capabilities,
             &self.client_registration_methods,
         )?;
+        W::kept(state, &self.other_items)?;
+        W::check(state, self);
         Ok(())
     }
 }
@@ -730,6 +756,362 @@ impl<A: Allocator + Copy> Structure<A> for DiscoverVersionsResponse<A> {
     }
 }
 
+/// An object may be used so, but for what is here (section 4.9).
+#[derive(Drop)]
+#[derive_where(PartialEq)]
+pub struct CheckResponse<A: Allocator = Global> {
+    /// Its identifier.
+    pub unique_identifier: String<A>,
+    /// It may not be used so often, or for so many bytes.
+    pub usage_limits_count: Option<i64>,
+    /// It may not be used for this.
+    pub cryptographic_usage_mask: Option<i32>,
+    /// It may not be used for so long, in seconds.
+    pub lease_time: Option<Interval>,
+    /// What stands behind these, whatever it is.
+    pub other_items: Kept<A>,
+}
+
+impl<A: Allocator + Copy> Decided for CheckResponse<A> {
+    ghost IsDecided = { λ x. IsApart ⟦<CheckResponseParts<A> as PartList<A>>⟧.rules ⟦<CheckResponse<A> as FromParts<A, CheckResponseParts<A>>>⟧.parts x };
+
+    fn is_decided(&self) -> bool {
+        is_apart::<CheckResponseParts<A>, A>(&self.other_items)
+    }
+}
+
+type CheckResponseFirst<A> = (
+    Leaf<String<A>, 0x420094>,
+    MaybeLeaf<i64, 0x420096>,
+    MaybeLeaf<i32, 0x42002C>,
+    MaybeLeaf<Interval, 0x420049>,
+);
+
+type CheckResponseParts<A> = Four<CheckResponseFirst<A>, Rest>;
+
+impl<A: Allocator + Copy> FromParts<A, CheckResponseParts<A>> for CheckResponse<A> {
+    ghost parts = { λ x. (x.unique_identifier, x.usage_limits_count, x.cryptographic_usage_mask, x.lease_time, x.other_items) };
+
+    fn from_parts(
+        (
+            unique_identifier,
+            usage_limits_count,
+            cryptographic_usage_mask,
+            lease_time,
+            other_items,
+        ): Holds<CheckResponseParts<A>, A>,
+    ) -> Self {
+        CheckResponse {
+            unique_identifier,
+            usage_limits_count,
+            cryptographic_usage_mask,
+            lease_time,
+            other_items,
+        }
+    }
+}
+
+impl<A: Allocator + Copy> Structure<A> for CheckResponse<A> {
+    ghost rules = { keeping_structure ⟦<CheckResponseParts<A> as PartList<A>>⟧.rules ⟦<CheckResponse<A> as FromParts<A, CheckResponseParts<A>>>⟧.parts refl ⟦<CheckResponse<A> as PartialEq>⟧.eq (λ x y e. e) };
+
+    fn read<'b>(scope: &Scope<'b, A>, tag: u32, cursor: &mut Cursor<'b, A>) -> Step<Self, A> {
+        read_structure::<CheckResponseParts<A>, Self, A>(scope, tag, true, cursor)
+    }
+
+    fn tell_parts<W: Walk<A>>(&self, state: &mut W::State) -> Result<(), AllocError> {
+        W::four::<
+            Leaf<String<A>, 0x420094>,
+            MaybeLeaf<i64, 0x420096>,
+            MaybeLeaf<i32, 0x42002C>,
+            MaybeLeaf<Interval, 0x420049>,
+        >(
+            state,
+            &self.unique_identifier,
+            &self.usage_limits_count,
+            &self.cryptographic_usage_mask,
+            &self.lease_time,
+        )?;
+        W::kept(state, &self.other_items)?;
+        W::check(state, self);
+        Ok(())
+    }
+}
+
+/// How long an object may be used (section 4.16).
+#[derive(Drop)]
+#[derive_where(PartialEq)]
+pub struct ObtainLeaseResponse<A: Allocator = Global> {
+    /// Its identifier.
+    pub unique_identifier: String<A>,
+    /// For so long, in seconds.
+    pub lease_time: Interval,
+    /// When its attributes were changed last.
+    pub last_change_date: DateTime,
+    /// What stands behind these, whatever it is.
+    pub other_items: Kept<A>,
+}
+
+impl<A: Allocator + Copy> Decided for ObtainLeaseResponse<A> {
+    ghost IsDecided = { λ x. IsApart ⟦<ObtainLeaseResponseParts<A> as PartList<A>>⟧.rules ⟦<ObtainLeaseResponse<A> as FromParts<A, ObtainLeaseResponseParts<A>>>⟧.parts x };
+
+    fn is_decided(&self) -> bool {
+        is_apart::<ObtainLeaseResponseParts<A>, A>(&self.other_items)
+    }
+}
+
+type ObtainLeaseResponseParts<A> = Before<
+    Leaf<String<A>, 0x420094>,
+    Before<Leaf<Interval, 0x420049>, Before<Leaf<DateTime, 0x420048>, Rest>>,
+>;
+
+impl<A: Allocator + Copy> FromParts<A, ObtainLeaseResponseParts<A>> for ObtainLeaseResponse<A> {
+    ghost parts = { λ x. (x.unique_identifier, (x.lease_time, (x.last_change_date, x.other_items))) };
+
+    fn from_parts(
+        (unique_identifier, (lease_time, (last_change_date, other_items))): Holds<
+            ObtainLeaseResponseParts<A>,
+            A,
+        >,
+    ) -> Self {
+        ObtainLeaseResponse {
+            unique_identifier,
+            lease_time,
+            last_change_date,
+            other_items,
+        }
+    }
+}
+
+impl<A: Allocator + Copy> Structure<A> for ObtainLeaseResponse<A> {
+    ghost rules = { keeping_structure ⟦<ObtainLeaseResponseParts<A> as PartList<A>>⟧.rules ⟦<ObtainLeaseResponse<A> as FromParts<A, ObtainLeaseResponseParts<A>>>⟧.parts refl ⟦<ObtainLeaseResponse<A> as PartialEq>⟧.eq (λ x y e. e) };
+
+    fn read<'b>(scope: &Scope<'b, A>, tag: u32, cursor: &mut Cursor<'b, A>) -> Step<Self, A> {
+        read_structure::<ObtainLeaseResponseParts<A>, Self, A>(scope, tag, true, cursor)
+    }
+
+    fn tell_parts<W: Walk<A>>(&self, state: &mut W::State) -> Result<(), AllocError> {
+        W::one::<Leaf<String<A>, 0x420094>>(state, &self.unique_identifier)?;
+        W::one::<Leaf<Interval, 0x420049>>(state, &self.lease_time)?;
+        W::one::<Leaf<DateTime, 0x420048>>(state, &self.last_change_date)?;
+        W::kept(state, &self.other_items)?;
+        W::check(state, self);
+        Ok(())
+    }
+}
+
+/// What became of an operation that was to be given up (section 9.1.3.2.24).
+pub type CancellationResult = Enumeration<0x420012>;
+
+/// The numbers of `CancellationResult` that have a name.
+pub mod cancellation_result {
+    use super::CancellationResult;
+
+    /// It was given up.
+    pub const CANCELED: CancellationResult = CancellationResult { number: 0x00000001 };
+    /// It goes on.
+    pub const UNABLE_TO_CANCEL: CancellationResult = CancellationResult { number: 0x00000002 };
+    /// It was done.
+    pub const COMPLETED: CancellationResult = CancellationResult { number: 0x00000003 };
+    /// It had failed.
+    pub const FAILED: CancellationResult = CancellationResult { number: 0x00000004 };
+    /// It isn't known.
+    pub const UNAVAILABLE: CancellationResult = CancellationResult { number: 0x00000005 };
+}
+
+/// What became of an operation that was to be given up (section 4.25).
+#[derive(Drop)]
+#[derive_where(PartialEq)]
+pub struct CancelResponse<A: Allocator = Global> {
+    /// What names it.
+    pub asynchronous_correlation_value: Vec<u8, A>,
+    /// What became of it.
+    pub cancellation_result: CancellationResult,
+    /// What stands behind these, whatever it is.
+    pub other_items: Kept<A>,
+}
+
+impl<A: Allocator + Copy> Decided for CancelResponse<A> {
+    ghost IsDecided = { λ x. IsApart ⟦<CancelResponseParts<A> as PartList<A>>⟧.rules ⟦<CancelResponse<A> as FromParts<A, CancelResponseParts<A>>>⟧.parts x };
+
+    fn is_decided(&self) -> bool {
+        is_apart::<CancelResponseParts<A>, A>(&self.other_items)
+    }
+}
+
+type CancelResponseParts<A> = Before<
+    Leaf<Vec<u8, A>, 0x420006>,
+    Before<One<CancellationResult>, Rest>,
+>;
+
+impl<A: Allocator + Copy> FromParts<A, CancelResponseParts<A>> for CancelResponse<A> {
+    ghost parts = { λ x. (x.asynchronous_correlation_value, (x.cancellation_result, x.other_items)) };
+
+    fn from_parts(
+        (asynchronous_correlation_value, (cancellation_result, other_items)): Holds<
+            CancelResponseParts<A>,
+            A,
+        >,
+    ) -> Self {
+        CancelResponse {
+            asynchronous_correlation_value,
+            cancellation_result,
+            other_items,
+        }
+    }
+}
+
+impl<A: Allocator + Copy> Structure<A> for CancelResponse<A> {
+    ghost rules = { keeping_structure ⟦<CancelResponseParts<A> as PartList<A>>⟧.rules ⟦<CancelResponse<A> as FromParts<A, CancelResponseParts<A>>>⟧.parts refl ⟦<CancelResponse<A> as PartialEq>⟧.eq (λ x y e. e) };
+
+    fn read<'b>(scope: &Scope<'b, A>, tag: u32, cursor: &mut Cursor<'b, A>) -> Step<Self, A> {
+        read_structure::<CancelResponseParts<A>, Self, A>(scope, tag, true, cursor)
+    }
+
+    fn tell_parts<W: Walk<A>>(&self, state: &mut W::State) -> Result<(), AllocError> {
+        W::one::<Leaf<Vec<u8, A>, 0x420006>>(state, &self.asynchronous_correlation_value)?;
+        W::one::<One<CancellationResult>>(state, &self.cancellation_result)?;
+        W::kept(state, &self.other_items)?;
+        W::check(state, self);
+        Ok(())
+    }
+}
+
+/// Whether a signature, a MAC or a certificate is valid (section 9.1.3.2.22).
+pub type ValidityIndicator = Enumeration<0x42009B>;
+
+/// The numbers of `ValidityIndicator` that have a name.
+pub mod validity_indicator {
+    use super::ValidityIndicator;
+
+    /// It is.
+    pub const VALID: ValidityIndicator = ValidityIndicator { number: 0x00000001 };
+    /// It isn't.
+    pub const INVALID: ValidityIndicator = ValidityIndicator { number: 0x00000002 };
+    /// That can't be said.
+    pub const UNKNOWN: ValidityIndicator = ValidityIndicator { number: 0x00000003 };
+}
+
+/// Data was encrypted, decrypted, signed or hashed, or a signature or a MAC of it checked (KMIP 1.2, sections 4.29 to 4.37). Each operation has some of these.
+#[derive(Drop)]
+#[derive_where(PartialEq)]
+pub struct CryptographicResponse<A: Allocator = Global> {
+    /// The key; absent for a hash.
+    pub unique_identifier: Option<String<A>>,
+    /// Whether the signature or the MAC is valid.
+    pub validity_indicator: Option<ValidityIndicator>,
+    /// The data.
+    pub data: Option<Vec<u8, A>>,
+    /// The signature.
+    pub signature_data: Option<Vec<u8, A>>,
+    /// The MAC.
+    pub mac_data: Option<Vec<u8, A>>,
+    /// What encryption began with.
+    pub iv_counter_nonce: Option<Vec<u8, A>>,
+    /// What names the parts before this (KMIP 1.3).
+    pub correlation_value: Option<Vec<u8, A>>,
+    /// What authenticates what was encrypted (KMIP 1.4).
+    pub authenticated_encryption_tag: Option<Vec<u8, A>>,
+    /// What stands behind these, whatever it is.
+    pub other_items: Kept<A>,
+}
+
+impl<A: Allocator + Copy> Decided for CryptographicResponse<A> {
+    ghost IsDecided = { λ x. IsApart ⟦<CryptographicResponseParts<A> as PartList<A>>⟧.rules ⟦<CryptographicResponse<A> as FromParts<A, CryptographicResponseParts<A>>>⟧.parts x };
+
+    fn is_decided(&self) -> bool {
+        is_apart::<CryptographicResponseParts<A>, A>(&self.other_items)
+    }
+}
+
+type CryptographicResponseFirst<A> = (
+    MaybeLeaf<String<A>, 0x420094>,
+    Maybe<ValidityIndicator, 0x42009B>,
+    MaybeLeaf<Vec<u8, A>, 0x4200C2>,
+    MaybeLeaf<Vec<u8, A>, 0x4200C3>,
+);
+
+type CryptographicResponseSecond<A> = (
+    MaybeLeaf<Vec<u8, A>, 0x4200C6>,
+    MaybeLeaf<Vec<u8, A>, 0x42003D>,
+    MaybeLeaf<Vec<u8, A>, 0x4200D6>,
+    MaybeLeaf<Vec<u8, A>, 0x4200FF>,
+);
+
+type CryptographicResponseParts<A> = Four<
+    CryptographicResponseFirst<A>,
+    Four<CryptographicResponseSecond<A>, Rest>,
+>;
+
+impl<A: Allocator + Copy> FromParts<A, CryptographicResponseParts<A>> for CryptographicResponse<A> {
+    ghost parts = { λ x. (x.unique_identifier, x.validity_indicator, x.data, x.signature_data, (x.mac_data, x.iv_counter_nonce, x.correlation_value, x.authenticated_encryption_tag, x.other_items)) };
+
+    fn from_parts(
+        (
+            unique_identifier,
+            validity_indicator,
+            data,
+            signature_data,
+            (
+                mac_data,
+                iv_counter_nonce,
+                correlation_value,
+                authenticated_encryption_tag,
+                other_items,
+            ),
+        ): Holds<CryptographicResponseParts<A>, A>,
+    ) -> Self {
+        CryptographicResponse {
+            unique_identifier,
+            validity_indicator,
+            data,
+            signature_data,
+            mac_data,
+            iv_counter_nonce,
+            correlation_value,
+            authenticated_encryption_tag,
+            other_items,
+        }
+    }
+}
+
+impl<A: Allocator + Copy> Structure<A> for CryptographicResponse<A> {
+    ghost rules = { keeping_structure ⟦<CryptographicResponseParts<A> as PartList<A>>⟧.rules ⟦<CryptographicResponse<A> as FromParts<A, CryptographicResponseParts<A>>>⟧.parts refl ⟦<CryptographicResponse<A> as PartialEq>⟧.eq (λ x y e. e) };
+
+    fn read<'b>(scope: &Scope<'b, A>, tag: u32, cursor: &mut Cursor<'b, A>) -> Step<Self, A> {
+        read_structure::<CryptographicResponseParts<A>, Self, A>(scope, tag, true, cursor)
+    }
+
+    fn tell_parts<W: Walk<A>>(&self, state: &mut W::State) -> Result<(), AllocError> {
+        W::four::<
+            MaybeLeaf<String<A>, 0x420094>,
+            Maybe<ValidityIndicator, 0x42009B>,
+            MaybeLeaf<Vec<u8, A>, 0x4200C2>,
+            MaybeLeaf<Vec<u8, A>, 0x4200C3>,
+        >(
+            state,
+            &self.unique_identifier,
+            &self.validity_indicator,
+            &self.data,
+            &self.signature_data,
+        )?;
+        W::four::<
+            MaybeLeaf<Vec<u8, A>, 0x4200C6>,
+            MaybeLeaf<Vec<u8, A>, 0x42003D>,
+            MaybeLeaf<Vec<u8, A>, 0x4200D6>,
+            MaybeLeaf<Vec<u8, A>, 0x4200FF>,
+        >(
+            state,
+            &self.mac_data,
+            &self.iv_counter_nonce,
+            &self.correlation_value,
+            &self.authenticated_encryption_tag,
+        )?;
+        W::kept(state, &self.other_items)?;
+        W::check(state, self);
+        Ok(())
+    }
+}
+
 /// What was done.
 #[derive(Drop)]
 #[derive_where(PartialEq)]
@@ -737,11 +1119,17 @@ pub enum ResponsePayload<A: Allocator = Global> {
     /// A symmetric key was made.
     Create(CreateResponse<A>),
     /// A public and a private key were made.
-    CreateKeyPair(CreateKeyPairResponse<A>),
+    CreateKeyPair(Boxed<CreateKeyPairResponse<A>, A>),
     /// An object is kept.
     Register(RegisterResponse<A>),
+    /// A key was made in place of another.
+    ReKey(RegisterResponse<A>),
+    /// A key was made of others.
+    DeriveKey(RegisterResponse<A>),
     /// Which objects were found.
     Locate(LocateResponse<A>),
+    /// How an object may not be used.
+    Check(CheckResponse<A>),
     /// An object.
     Get(GetResponse<A>),
     /// What is known of an object.
@@ -749,42 +1137,84 @@ pub enum ResponsePayload<A: Allocator = Global> {
     /// The names of what is known.
     GetAttributeList(GetAttributeListResponse<A>),
     /// An attribute was added.
-    AddAttribute(AttributeResponse<A>),
+    AddAttribute(Boxed<AttributeResponse<A>, A>),
     /// An attribute was changed.
-    ModifyAttribute(AttributeResponse<A>),
+    ModifyAttribute(Boxed<AttributeResponse<A>, A>),
     /// An attribute was deleted.
-    DeleteAttribute(AttributeResponse<A>),
+    DeleteAttribute(Boxed<AttributeResponse<A>, A>),
+    /// How long an object may be used.
+    ObtainLease(ObtainLeaseResponse<A>),
+    /// It may be used so much.
+    GetUsageAllocation(ObjectResponse<A>),
     /// An object is in use.
     Activate(ObjectResponse<A>),
     /// An object is no longer used.
     Revoke(ObjectResponse<A>),
     /// An object is destroyed.
     Destroy(ObjectResponse<A>),
+    /// An object was put away.
+    Archive(ObjectResponse<A>),
+    /// It was brought back.
+    Recover(ObjectResponse<A>),
     /// What the server can do.
-    Query(QueryResponse<A>),
+    Query(Boxed<QueryResponse<A>, A>),
+    /// What became of an operation.
+    Cancel(CancelResponse<A>),
+    /// A public and a private key were made in place of others.
+    ReKeyKeyPair(Boxed<CreateKeyPairResponse<A>, A>),
     /// Which versions the server has.
     DiscoverVersions(DiscoverVersionsResponse<A>),
+    /// Data was encrypted.
+    Encrypt(Boxed<CryptographicResponse<A>, A>),
+    /// Data was decrypted.
+    Decrypt(Boxed<CryptographicResponse<A>, A>),
+    /// Data was signed.
+    Sign(Boxed<CryptographicResponse<A>, A>),
+    /// Whether a signature is valid.
+    SignatureVerify(Boxed<CryptographicResponse<A>, A>),
+    /// A MAC was made of data.
+    Mac(Boxed<CryptographicResponse<A>, A>),
+    /// Whether a MAC is valid.
+    MacVerify(Boxed<CryptographicResponse<A>, A>),
+    /// A hash was made of data.
+    Hash(Boxed<CryptographicResponse<A>, A>),
     /// What any other operation did.
     Other(Kept<A>),
 }
 
 // The texts that choose a variant, whatever the type of its item is.
-const RESPONSE_PAYLOAD_NAMES: [&str; 15] = [
+const RESPONSE_PAYLOAD_NAMES: [&str; 31] = [
     "0x00000001",
     "0x00000002",
     "0x00000003",
+    "0x00000004",
+    "0x00000005",
     "0x00000008",
+    "0x00000009",
     "0x0000000A",
     "0x0000000B",
     "0x0000000C",
     "0x0000000D",
     "0x0000000E",
     "0x0000000F",
+    "0x00000010",
+    "0x00000011",
     "0x00000012",
     "0x00000013",
     "0x00000014",
+    "0x00000015",
+    "0x00000016",
     "0x00000018",
+    "0x00000019",
+    "0x0000001D",
     "0x0000001E",
+    "0x0000001F",
+    "0x00000020",
+    "0x00000021",
+    "0x00000022",
+    "0x00000023",
+    "0x00000024",
+    "0x00000027",
 ];
 
 // Whether a text is none of these.
@@ -803,25 +1233,41 @@ impl<A: Allocator> ResponsePayload<A> {
             ResponsePayload::Create(_) => text == "0x00000001",
             ResponsePayload::CreateKeyPair(_) => text == "0x00000002",
             ResponsePayload::Register(_) => text == "0x00000003",
+            ResponsePayload::ReKey(_) => text == "0x00000004",
+            ResponsePayload::DeriveKey(_) => text == "0x00000005",
             ResponsePayload::Locate(_) => text == "0x00000008",
+            ResponsePayload::Check(_) => text == "0x00000009",
             ResponsePayload::Get(_) => text == "0x0000000A",
             ResponsePayload::GetAttributes(_) => text == "0x0000000B",
             ResponsePayload::GetAttributeList(_) => text == "0x0000000C",
             ResponsePayload::AddAttribute(_) => text == "0x0000000D",
             ResponsePayload::ModifyAttribute(_) => text == "0x0000000E",
             ResponsePayload::DeleteAttribute(_) => text == "0x0000000F",
+            ResponsePayload::ObtainLease(_) => text == "0x00000010",
+            ResponsePayload::GetUsageAllocation(_) => text == "0x00000011",
             ResponsePayload::Activate(_) => text == "0x00000012",
             ResponsePayload::Revoke(_) => text == "0x00000013",
             ResponsePayload::Destroy(_) => text == "0x00000014",
+            ResponsePayload::Archive(_) => text == "0x00000015",
+            ResponsePayload::Recover(_) => text == "0x00000016",
             ResponsePayload::Query(_) => text == "0x00000018",
+            ResponsePayload::Cancel(_) => text == "0x00000019",
+            ResponsePayload::ReKeyKeyPair(_) => text == "0x0000001D",
             ResponsePayload::DiscoverVersions(_) => text == "0x0000001E",
+            ResponsePayload::Encrypt(_) => text == "0x0000001F",
+            ResponsePayload::Decrypt(_) => text == "0x00000020",
+            ResponsePayload::Sign(_) => text == "0x00000021",
+            ResponsePayload::SignatureVerify(_) => text == "0x00000022",
+            ResponsePayload::Mac(_) => text == "0x00000023",
+            ResponsePayload::MacVerify(_) => text == "0x00000024",
+            ResponsePayload::Hash(_) => text == "0x00000027",
             ResponsePayload::Other(_) => is_no_response_payload(text),
         }
     }
 }
 
 // The rules of the variants, in their order.
-const RESPONSE_PAYLOAD_RULES: [RuleParts; 16] = [
+const RESPONSE_PAYLOAD_RULES: [RuleParts; 32] = [
     RuleParts::Texts {
         tag: 0x42005C,
         texts: &["0x00000001"],
@@ -836,7 +1282,19 @@ const RESPONSE_PAYLOAD_RULES: [RuleParts; 16] = [
     },
     RuleParts::Texts {
         tag: 0x42005C,
+        texts: &["0x00000004"],
+    },
+    RuleParts::Texts {
+        tag: 0x42005C,
+        texts: &["0x00000005"],
+    },
+    RuleParts::Texts {
+        tag: 0x42005C,
         texts: &["0x00000008"],
+    },
+    RuleParts::Texts {
+        tag: 0x42005C,
+        texts: &["0x00000009"],
     },
     RuleParts::Texts {
         tag: 0x42005C,
@@ -864,6 +1322,14 @@ const RESPONSE_PAYLOAD_RULES: [RuleParts; 16] = [
     },
     RuleParts::Texts {
         tag: 0x42005C,
+        texts: &["0x00000010"],
+    },
+    RuleParts::Texts {
+        tag: 0x42005C,
+        texts: &["0x00000011"],
+    },
+    RuleParts::Texts {
+        tag: 0x42005C,
         texts: &["0x00000012"],
     },
     RuleParts::Texts {
@@ -876,11 +1342,55 @@ const RESPONSE_PAYLOAD_RULES: [RuleParts; 16] = [
     },
     RuleParts::Texts {
         tag: 0x42005C,
+        texts: &["0x00000015"],
+    },
+    RuleParts::Texts {
+        tag: 0x42005C,
+        texts: &["0x00000016"],
+    },
+    RuleParts::Texts {
+        tag: 0x42005C,
         texts: &["0x00000018"],
     },
     RuleParts::Texts {
         tag: 0x42005C,
+        texts: &["0x00000019"],
+    },
+    RuleParts::Texts {
+        tag: 0x42005C,
+        texts: &["0x0000001D"],
+    },
+    RuleParts::Texts {
+        tag: 0x42005C,
         texts: &["0x0000001E"],
+    },
+    RuleParts::Texts {
+        tag: 0x42005C,
+        texts: &["0x0000001F"],
+    },
+    RuleParts::Texts {
+        tag: 0x42005C,
+        texts: &["0x00000020"],
+    },
+    RuleParts::Texts {
+        tag: 0x42005C,
+        texts: &["0x00000021"],
+    },
+    RuleParts::Texts {
+        tag: 0x42005C,
+        texts: &["0x00000022"],
+    },
+    RuleParts::Texts {
+        tag: 0x42005C,
+        texts: &["0x00000023"],
+    },
+    RuleParts::Texts {
+        tag: 0x42005C,
+        texts: &["0x00000024"],
+    },
+    RuleParts::Texts {
+        tag: 0x42005C,
+        texts: &["0x00000027"],
     },
     RuleParts::Type(TtlvType::Structure),
 ];
@@ -888,20 +1398,36 @@ const RESPONSE_PAYLOAD_RULES: [RuleParts; 16] = [
 impl<A: Allocator + Copy> Choice<A> for ResponsePayload<A> {
     ghost chosen = { response_payload_choice ⟦<ResponsePayload<A> as PartialEq>⟧.eq record {
       create = held ⟦<Of<CreateResponse<A>, 0x42007C> as Element<A>>⟧.rules refl refl (λ x y e. e);
-      create_key_pair = held ⟦<Of<CreateKeyPairResponse<A>, 0x42007C> as Element<A>>⟧.rules refl refl (λ x y e. e);
+      create_key_pair = held ⟦<InBox<Of<CreateKeyPairResponse<A>, 0x42007C>> as Element<A>>⟧.rules refl refl (λ x y e. e);
       register = held ⟦<Of<RegisterResponse<A>, 0x42007C> as Element<A>>⟧.rules refl refl (λ x y e. e);
+      re_key = held ⟦<Of<RegisterResponse<A>, 0x42007C> as Element<A>>⟧.rules refl refl (λ x y e. e);
+      derive_key = held ⟦<Of<RegisterResponse<A>, 0x42007C> as Element<A>>⟧.rules refl refl (λ x y e. e);
       locate = held ⟦<Of<LocateResponse<A>, 0x42007C> as Element<A>>⟧.rules refl refl (λ x y e. e);
+      check = held ⟦<Of<CheckResponse<A>, 0x42007C> as Element<A>>⟧.rules refl refl (λ x y e. e);
       get = held ⟦<Of<GetResponse<A>, 0x42007C> as Element<A>>⟧.rules refl refl (λ x y e. e);
       get_attributes = held ⟦<Of<GetAttributesResponse<A>, 0x42007C> as Element<A>>⟧.rules refl refl (λ x y e. e);
       get_attribute_list = held ⟦<Of<GetAttributeListResponse<A>, 0x42007C> as Element<A>>⟧.rules refl refl (λ x y e. e);
-      add_attribute = held ⟦<Of<AttributeResponse<A>, 0x42007C> as Element<A>>⟧.rules refl refl (λ x y e. e);
-      modify_attribute = held ⟦<Of<AttributeResponse<A>, 0x42007C> as Element<A>>⟧.rules refl refl (λ x y e. e);
-      delete_attribute = held ⟦<Of<AttributeResponse<A>, 0x42007C> as Element<A>>⟧.rules refl refl (λ x y e. e);
+      add_attribute = held ⟦<InBox<Of<AttributeResponse<A>, 0x42007C>> as Element<A>>⟧.rules refl refl (λ x y e. e);
+      modify_attribute = held ⟦<InBox<Of<AttributeResponse<A>, 0x42007C>> as Element<A>>⟧.rules refl refl (λ x y e. e);
+      delete_attribute = held ⟦<InBox<Of<AttributeResponse<A>, 0x42007C>> as Element<A>>⟧.rules refl refl (λ x y e. e);
+      obtain_lease = held ⟦<Of<ObtainLeaseResponse<A>, 0x42007C> as Element<A>>⟧.rules refl refl (λ x y e. e);
+      get_usage_allocation = held ⟦<Of<ObjectResponse<A>, 0x42007C> as Element<A>>⟧.rules refl refl (λ x y e. e);
       activate = held ⟦<Of<ObjectResponse<A>, 0x42007C> as Element<A>>⟧.rules refl refl (λ x y e. e);
       revoke = held ⟦<Of<ObjectResponse<A>, 0x42007C> as Element<A>>⟧.rules refl refl (λ x y e. e);
       destroy = held ⟦<Of<ObjectResponse<A>, 0x42007C> as Element<A>>⟧.rules refl refl (λ x y e. e);
-      query = held ⟦<Of<QueryResponse<A>, 0x42007C> as Element<A>>⟧.rules refl refl (λ x y e. e);
+      archive = held ⟦<Of<ObjectResponse<A>, 0x42007C> as Element<A>>⟧.rules refl refl (λ x y e. e);
+      recover = held ⟦<Of<ObjectResponse<A>, 0x42007C> as Element<A>>⟧.rules refl refl (λ x y e. e);
+      query = held ⟦<InBox<Of<QueryResponse<A>, 0x42007C>> as Element<A>>⟧.rules refl refl (λ x y e. e);
+      cancel = held ⟦<Of<CancelResponse<A>, 0x42007C> as Element<A>>⟧.rules refl refl (λ x y e. e);
+      re_key_key_pair = held ⟦<InBox<Of<CreateKeyPairResponse<A>, 0x42007C>> as Element<A>>⟧.rules refl refl (λ x y e. e);
       discover_versions = held ⟦<Of<DiscoverVersionsResponse<A>, 0x42007C> as Element<A>>⟧.rules refl refl (λ x y e. e);
+      encrypt = held ⟦<InBox<Of<CryptographicResponse<A>, 0x42007C>> as Element<A>>⟧.rules refl refl (λ x y e. e);
+      decrypt = held ⟦<InBox<Of<CryptographicResponse<A>, 0x42007C>> as Element<A>>⟧.rules refl refl (λ x y e. e);
+      sign = held ⟦<InBox<Of<CryptographicResponse<A>, 0x42007C>> as Element<A>>⟧.rules refl refl (λ x y e. e);
+      signature_verify = held ⟦<InBox<Of<CryptographicResponse<A>, 0x42007C>> as Element<A>>⟧.rules refl refl (λ x y e. e);
+      mac = held ⟦<InBox<Of<CryptographicResponse<A>, 0x42007C>> as Element<A>>⟧.rules refl refl (λ x y e. e);
+      mac_verify = held ⟦<InBox<Of<CryptographicResponse<A>, 0x42007C>> as Element<A>>⟧.rules refl refl (λ x y e. e);
+      hash = held ⟦<InBox<Of<CryptographicResponse<A>, 0x42007C>> as Element<A>>⟧.rules refl refl (λ x y e. e);
       other = held ⟦<Of<Kept<A>, 0x42007C> as Element<A>>⟧.rules refl refl (λ x y e. e);
     } };
 
@@ -919,53 +1445,101 @@ impl<A: Allocator + Copy> Choice<A> for ResponsePayload<A> {
             0 => Ok(ResponsePayload::Create(<Of<CreateResponse<A>, 0x42007C> as Element<
                 A,
             >>::read_one(scope, cursor)?)),
-            1 => Ok(ResponsePayload::CreateKeyPair(<Of<
-                CreateKeyPairResponse<A>,
-                0x42007C,
+            1 => Ok(ResponsePayload::CreateKeyPair(<InBox<
+                Of<CreateKeyPairResponse<A>, 0x42007C>,
             > as Element<A>>::read_one(scope, cursor)?)),
             2 => Ok(ResponsePayload::Register(<Of<RegisterResponse<A>, 0x42007C> as Element<
                 A,
             >>::read_one(scope, cursor)?)),
-            3 => Ok(ResponsePayload::Locate(<Of<LocateResponse<A>, 0x42007C> as Element<
+            3 => Ok(ResponsePayload::ReKey(<Of<RegisterResponse<A>, 0x42007C> as Element<
                 A,
             >>::read_one(scope, cursor)?)),
-            4 => Ok(ResponsePayload::Get(<Of<GetResponse<A>, 0x42007C> as Element<A>>::read_one(
+            4 => Ok(ResponsePayload::DeriveKey(<Of<RegisterResponse<A>, 0x42007C> as Element<
+                A,
+            >>::read_one(scope, cursor)?)),
+            5 => Ok(ResponsePayload::Locate(<Of<LocateResponse<A>, 0x42007C> as Element<
+                A,
+            >>::read_one(scope, cursor)?)),
+            6 => Ok(ResponsePayload::Check(<Of<CheckResponse<A>, 0x42007C> as Element<A>>::read_one(
                 scope, cursor,
             )?)),
-            5 => Ok(ResponsePayload::GetAttributes(<Of<
+            7 => Ok(ResponsePayload::Get(<Of<GetResponse<A>, 0x42007C> as Element<A>>::read_one(
+                scope, cursor,
+            )?)),
+            8 => Ok(ResponsePayload::GetAttributes(<Of<
                 GetAttributesResponse<A>,
                 0x42007C,
             > as Element<A>>::read_one(scope, cursor)?)),
-            6 => Ok(ResponsePayload::GetAttributeList(<Of<
+            9 => Ok(ResponsePayload::GetAttributeList(<Of<
                 GetAttributeListResponse<A>,
                 0x42007C,
             > as Element<A>>::read_one(scope, cursor)?)),
-            7 => Ok(ResponsePayload::AddAttribute(<Of<AttributeResponse<A>, 0x42007C> as Element<
+            10 => Ok(ResponsePayload::AddAttribute(<InBox<
+                Of<AttributeResponse<A>, 0x42007C>,
+            > as Element<A>>::read_one(scope, cursor)?)),
+            11 => Ok(ResponsePayload::ModifyAttribute(<InBox<
+                Of<AttributeResponse<A>, 0x42007C>,
+            > as Element<A>>::read_one(scope, cursor)?)),
+            12 => Ok(ResponsePayload::DeleteAttribute(<InBox<
+                Of<AttributeResponse<A>, 0x42007C>,
+            > as Element<A>>::read_one(scope, cursor)?)),
+            13 => Ok(ResponsePayload::ObtainLease(<Of<ObtainLeaseResponse<A>, 0x42007C> as Element<
                 A,
             >>::read_one(scope, cursor)?)),
-            8 => Ok(ResponsePayload::ModifyAttribute(<Of<AttributeResponse<A>, 0x42007C> as Element<
+            14 => Ok(ResponsePayload::GetUsageAllocation(<Of<
+                ObjectResponse<A>,
+                0x42007C,
+            > as Element<A>>::read_one(scope, cursor)?)),
+            15 => Ok(ResponsePayload::Activate(<Of<ObjectResponse<A>, 0x42007C> as Element<
                 A,
             >>::read_one(scope, cursor)?)),
-            9 => Ok(ResponsePayload::DeleteAttribute(<Of<AttributeResponse<A>, 0x42007C> as Element<
+            16 => Ok(ResponsePayload::Revoke(<Of<ObjectResponse<A>, 0x42007C> as Element<
                 A,
             >>::read_one(scope, cursor)?)),
-            10 => Ok(ResponsePayload::Activate(<Of<ObjectResponse<A>, 0x42007C> as Element<
+            17 => Ok(ResponsePayload::Destroy(<Of<ObjectResponse<A>, 0x42007C> as Element<
                 A,
             >>::read_one(scope, cursor)?)),
-            11 => Ok(ResponsePayload::Revoke(<Of<ObjectResponse<A>, 0x42007C> as Element<
+            18 => Ok(ResponsePayload::Archive(<Of<ObjectResponse<A>, 0x42007C> as Element<
                 A,
             >>::read_one(scope, cursor)?)),
-            12 => Ok(ResponsePayload::Destroy(<Of<ObjectResponse<A>, 0x42007C> as Element<
+            19 => Ok(ResponsePayload::Recover(<Of<ObjectResponse<A>, 0x42007C> as Element<
                 A,
             >>::read_one(scope, cursor)?)),
-            13 => Ok(ResponsePayload::Query(<Of<QueryResponse<A>, 0x42007C> as Element<
+            20 => Ok(ResponsePayload::Query(<InBox<Of<QueryResponse<A>, 0x42007C>> as Element<
                 A,
             >>::read_one(scope, cursor)?)),
-            14 => Ok(ResponsePayload::DiscoverVersions(<Of<
+            21 => Ok(ResponsePayload::Cancel(<Of<CancelResponse<A>, 0x42007C> as Element<
+                A,
+            >>::read_one(scope, cursor)?)),
+            22 => Ok(ResponsePayload::ReKeyKeyPair(<InBox<
+                Of<CreateKeyPairResponse<A>, 0x42007C>,
+            > as Element<A>>::read_one(scope, cursor)?)),
+            23 => Ok(ResponsePayload::DiscoverVersions(<Of<
                 DiscoverVersionsResponse<A>,
                 0x42007C,
             > as Element<A>>::read_one(scope, cursor)?)),
-            15 => Ok(ResponsePayload::Other(<Of<Kept<A>, 0x42007C> as Element<A>>::read_one(
+            24 => Ok(ResponsePayload::Encrypt(<InBox<
+                Of<CryptographicResponse<A>, 0x42007C>,
+            > as Element<A>>::read_one(scope, cursor)?)),
+            25 => Ok(ResponsePayload::Decrypt(<InBox<
+                Of<CryptographicResponse<A>, 0x42007C>,
+            > as Element<A>>::read_one(scope, cursor)?)),
+            26 => Ok(ResponsePayload::Sign(<InBox<
+                Of<CryptographicResponse<A>, 0x42007C>,
+            > as Element<A>>::read_one(scope, cursor)?)),
+            27 => Ok(ResponsePayload::SignatureVerify(<InBox<
+                Of<CryptographicResponse<A>, 0x42007C>,
+            > as Element<A>>::read_one(scope, cursor)?)),
+            28 => Ok(ResponsePayload::Mac(<InBox<Of<CryptographicResponse<A>, 0x42007C>> as Element<
+                A,
+            >>::read_one(scope, cursor)?)),
+            29 => Ok(ResponsePayload::MacVerify(<InBox<
+                Of<CryptographicResponse<A>, 0x42007C>,
+            > as Element<A>>::read_one(scope, cursor)?)),
+            30 => Ok(ResponsePayload::Hash(<InBox<
+                Of<CryptographicResponse<A>, 0x42007C>,
+            > as Element<A>>::read_one(scope, cursor)?)),
+            31 => Ok(ResponsePayload::Other(<Of<Kept<A>, 0x42007C> as Element<A>>::read_one(
                 scope, cursor,
             )?)),
             _ => unreachable!(),
@@ -978,12 +1552,21 @@ impl<A: Allocator + Copy> Choice<A> for ResponsePayload<A> {
                 state, inner,
             ),
             ResponsePayload::CreateKeyPair(inner) => W::item::<
-                Of<CreateKeyPairResponse<A>, 0x42007C>,
+                InBox<Of<CreateKeyPairResponse<A>, 0x42007C>>,
             >(state, inner),
             ResponsePayload::Register(inner) => W::item::<Of<RegisterResponse<A>, 0x42007C>>(
                 state, inner,
             ),
+            ResponsePayload::ReKey(inner) => W::item::<Of<RegisterResponse<A>, 0x42007C>>(
+                state, inner,
+            ),
+            ResponsePayload::DeriveKey(inner) => W::item::<Of<RegisterResponse<A>, 0x42007C>>(
+                state, inner,
+            ),
             ResponsePayload::Locate(inner) => W::item::<Of<LocateResponse<A>, 0x42007C>>(
+                state, inner,
+            ),
+            ResponsePayload::Check(inner) => W::item::<Of<CheckResponse<A>, 0x42007C>>(
                 state, inner,
             ),
             ResponsePayload::Get(inner) => W::item::<Of<GetResponse<A>, 0x42007C>>(state, inner),
@@ -993,14 +1576,20 @@ impl<A: Allocator + Copy> Choice<A> for ResponsePayload<A> {
             ResponsePayload::GetAttributeList(inner) => W::item::<
                 Of<GetAttributeListResponse<A>, 0x42007C>,
             >(state, inner),
-            ResponsePayload::AddAttribute(inner) => W::item::<Of<AttributeResponse<A>, 0x42007C>>(
-                state, inner,
-            ),
+            ResponsePayload::AddAttribute(inner) => W::item::<
+                InBox<Of<AttributeResponse<A>, 0x42007C>>,
+            >(state, inner),
             ResponsePayload::ModifyAttribute(inner) => W::item::<
-                Of<AttributeResponse<A>, 0x42007C>,
+                InBox<Of<AttributeResponse<A>, 0x42007C>>,
             >(state, inner),
             ResponsePayload::DeleteAttribute(inner) => W::item::<
-                Of<AttributeResponse<A>, 0x42007C>,
+                InBox<Of<AttributeResponse<A>, 0x42007C>>,
+            >(state, inner),
+            ResponsePayload::ObtainLease(inner) => W::item::<Of<ObtainLeaseResponse<A>, 0x42007C>>(
+                state, inner,
+            ),
+            ResponsePayload::GetUsageAllocation(inner) => W::item::<
+                Of<ObjectResponse<A>, 0x42007C>,
             >(state, inner),
             ResponsePayload::Activate(inner) => W::item::<Of<ObjectResponse<A>, 0x42007C>>(
                 state, inner,
@@ -1011,11 +1600,44 @@ impl<A: Allocator + Copy> Choice<A> for ResponsePayload<A> {
             ResponsePayload::Destroy(inner) => W::item::<Of<ObjectResponse<A>, 0x42007C>>(
                 state, inner,
             ),
-            ResponsePayload::Query(inner) => W::item::<Of<QueryResponse<A>, 0x42007C>>(
+            ResponsePayload::Archive(inner) => W::item::<Of<ObjectResponse<A>, 0x42007C>>(
                 state, inner,
             ),
+            ResponsePayload::Recover(inner) => W::item::<Of<ObjectResponse<A>, 0x42007C>>(
+                state, inner,
+            ),
+            ResponsePayload::Query(inner) => W::item::<InBox<Of<QueryResponse<A>, 0x42007C>>>(
+                state, inner,
+            ),
+            ResponsePayload::Cancel(inner) => W::item::<Of<CancelResponse<A>, 0x42007C>>(
+                state, inner,
+            ),
+            ResponsePayload::ReKeyKeyPair(inner) => W::item::<
+                InBox<Of<CreateKeyPairResponse<A>, 0x42007C>>,
+            >(state, inner),
             ResponsePayload::DiscoverVersions(inner) => W::item::<
                 Of<DiscoverVersionsResponse<A>, 0x42007C>,
+            >(state, inner),
+            ResponsePayload::Encrypt(inner) => W::item::<
+                InBox<Of<CryptographicResponse<A>, 0x42007C>>,
+            >(state, inner),
+            ResponsePayload::Decrypt(inner) => W::item::<
+                InBox<Of<CryptographicResponse<A>, 0x42007C>>,
+            >(state, inner),
+            ResponsePayload::Sign(inner) => W::item::<
+                InBox<Of<CryptographicResponse<A>, 0x42007C>>,
+            >(state, inner),
+            ResponsePayload::SignatureVerify(inner) => W::item::<
+                InBox<Of<CryptographicResponse<A>, 0x42007C>>,
+            >(state, inner),
+            ResponsePayload::Mac(inner) => W::item::<InBox<Of<CryptographicResponse<A>, 0x42007C>>>(
+                state, inner,
+            ),
+            ResponsePayload::MacVerify(inner) => W::item::<
+                InBox<Of<CryptographicResponse<A>, 0x42007C>>,
+            >(state, inner),
+            ResponsePayload::Hash(inner) => W::item::<
+                InBox<Of<CryptographicResponse<A>, 0x42007C>>,
             >(state, inner),
             ResponsePayload::Other(inner) => W::item::<Of<Kept<A>, 0x42007C>>(state, inner),
         }

@@ -132,3 +132,131 @@ returns-in_err-read_one-in-15-clause-read g c =
 pub returns-in_ok-read_one-in-15-clause-read : goal.returns-in_ok-read_one-in-15-clause-read
 unfolding response_payload_by
 returns-in_ok-read_one-in-15-clause-read g c = is_held_at _ _ _ _ _ c.in_ok-read_one-in-15.ensures.read c.in-15.is refl refl
+
+pub returns-in_err-read_one-in-16-clause-read : goal.returns-in_err-read_one-in-16-clause-read
+returns-in_err-read_one-in-16-clause-read g c =
+    is_failed_at _ _ _ _ _ _ c.in_err-read_one-in-16.ensures.read c.from_residual-in_err-read_one-in-16.ensures.1 c.in-16.is refl
+
+pub returns-in_ok-read_one-in-16-clause-read : goal.returns-in_ok-read_one-in-16-clause-read
+unfolding response_payload_by
+returns-in_ok-read_one-in-16-clause-read g c = is_held_at _ _ _ _ _ c.in_ok-read_one-in-16.ensures.read c.in-16.is refl refl
+
+pub returns-in_err-read_one-in-17-clause-read : goal.returns-in_err-read_one-in-17-clause-read
+returns-in_err-read_one-in-17-clause-read g c =
+    is_failed_at _ _ _ _ _ _ c.in_err-read_one-in-17.ensures.read c.from_residual-in_err-read_one-in-17.ensures.1 c.in-17.is refl
+
+pub returns-in_ok-read_one-in-17-clause-read : goal.returns-in_ok-read_one-in-17-clause-read
+unfolding response_payload_by
+returns-in_ok-read_one-in-17-clause-read g c = is_held_at _ _ _ _ _ c.in_ok-read_one-in-17.ensures.read c.in-17.is refl refl
+
+pub returns-in_err-read_one-in-18-clause-read : goal.returns-in_err-read_one-in-18-clause-read
+returns-in_err-read_one-in-18-clause-read g c =
+    is_failed_at _ _ _ _ _ _ c.in_err-read_one-in-18.ensures.read c.from_residual-in_err-read_one-in-18.ensures.1 c.in-18.is refl
+
+pub returns-in_ok-read_one-in-18-clause-read : goal.returns-in_ok-read_one-in-18-clause-read
+unfolding response_payload_by
+returns-in_ok-read_one-in-18-clause-read g c = is_held_at _ _ _ _ _ c.in_ok-read_one-in-18.ensures.read c.in-18.is refl refl
+
+pub returns-in_err-read_one-in-19-clause-read : goal.returns-in_err-read_one-in-19-clause-read
+returns-in_err-read_one-in-19-clause-read g c =
+    is_failed_at _ _ _ _ _ _ c.in_err-read_one-in-19.ensures.read c.from_residual-in_err-read_one-in-19.ensures.1 c.in-19.is refl
+
+pub returns-in_ok-read_one-in-19-clause-read : goal.returns-in_ok-read_one-in-19-clause-read
+unfolding response_payload_by
+returns-in_ok-read_one-in-19-clause-read g c = is_held_at _ _ _ _ _ c.in_ok-read_one-in-19.ensures.read c.in-19.is refl refl
+
+pub returns-in_err-read_one-in-20-clause-read : goal.returns-in_err-read_one-in-20-clause-read
+returns-in_err-read_one-in-20-clause-read g c =
+    is_failed_at _ _ _ _ _ _ c.in_err-read_one-in-20.ensures.read c.from_residual-in_err-read_one-in-20.ensures.1 c.in-20.is refl
+
+pub returns-in_ok-read_one-in-20-clause-read : goal.returns-in_ok-read_one-in-20-clause-read
+unfolding response_payload_by
+returns-in_ok-read_one-in-20-clause-read g c = is_held_at _ _ _ _ _ c.in_ok-read_one-in-20.ensures.read c.in-20.is refl refl
+
+pub returns-in_err-read_one-in-21-clause-read : goal.returns-in_err-read_one-in-21-clause-read
+returns-in_err-read_one-in-21-clause-read g c =
+    is_failed_at _ _ _ _ _ _ c.in_err-read_one-in-21.ensures.read c.from_residual-in_err-read_one-in-21.ensures.1 c.in-21.is refl
+
+pub returns-in_ok-read_one-in-21-clause-read : goal.returns-in_ok-read_one-in-21-clause-read
+unfolding response_payload_by
+returns-in_ok-read_one-in-21-clause-read g c = is_held_at _ _ _ _ _ c.in_ok-read_one-in-21.ensures.read c.in-21.is refl refl
+
+pub returns-in_err-read_one-in-22-clause-read : goal.returns-in_err-read_one-in-22-clause-read
+returns-in_err-read_one-in-22-clause-read g c =
+    is_failed_at _ _ _ _ _ _ c.in_err-read_one-in-22.ensures.read c.from_residual-in_err-read_one-in-22.ensures.1 c.in-22.is refl
+
+pub returns-in_ok-read_one-in-22-clause-read : goal.returns-in_ok-read_one-in-22-clause-read
+unfolding response_payload_by
+returns-in_ok-read_one-in-22-clause-read g c = is_held_at _ _ _ _ _ c.in_ok-read_one-in-22.ensures.read c.in-22.is refl refl
+
+pub returns-in_err-read_one-in-23-clause-read : goal.returns-in_err-read_one-in-23-clause-read
+returns-in_err-read_one-in-23-clause-read g c =
+    is_failed_at _ _ _ _ _ _ c.in_err-read_one-in-23.ensures.read c.from_residual-in_err-read_one-in-23.ensures.1 c.in-23.is refl
+
+pub returns-in_ok-read_one-in-23-clause-read : goal.returns-in_ok-read_one-in-23-clause-read
+unfolding response_payload_by
+returns-in_ok-read_one-in-23-clause-read g c = is_held_at _ _ _ _ _ c.in_ok-read_one-in-23.ensures.read c.in-23.is refl refl
+
+pub returns-in_err-read_one-in-24-clause-read : goal.returns-in_err-read_one-in-24-clause-read
+returns-in_err-read_one-in-24-clause-read g c =
+    is_failed_at _ _ _ _ _ _ c.in_err-read_one-in-24.ensures.read c.from_residual-in_err-read_one-in-24.ensures.1 c.in-24.is refl
+
+pub returns-in_ok-read_one-in-24-clause-read : goal.returns-in_ok-read_one-in-24-clause-read
+unfolding response_payload_by
+returns-in_ok-read_one-in-24-clause-read g c = is_held_at _ _ _ _ _ c.in_ok-read_one-in-24.ensures.read c.in-24.is refl refl
+
+pub returns-in_err-read_one-in-25-clause-read : goal.returns-in_err-read_one-in-25-clause-read
+returns-in_err-read_one-in-25-clause-read g c =
+    is_failed_at _ _ _ _ _ _ c.in_err-read_one-in-25.ensures.read c.from_residual-in_err-read_one-in-25.ensures.1 c.in-25.is refl
+
+pub returns-in_ok-read_one-in-25-clause-read : goal.returns-in_ok-read_one-in-25-clause-read
+unfolding response_payload_by
+returns-in_ok-read_one-in-25-clause-read g c = is_held_at _ _ _ _ _ c.in_ok-read_one-in-25.ensures.read c.in-25.is refl refl
+
+pub returns-in_err-read_one-in-26-clause-read : goal.returns-in_err-read_one-in-26-clause-read
+returns-in_err-read_one-in-26-clause-read g c =
+    is_failed_at _ _ _ _ _ _ c.in_err-read_one-in-26.ensures.read c.from_residual-in_err-read_one-in-26.ensures.1 c.in-26.is refl
+
+pub returns-in_ok-read_one-in-26-clause-read : goal.returns-in_ok-read_one-in-26-clause-read
+unfolding response_payload_by
+returns-in_ok-read_one-in-26-clause-read g c = is_held_at _ _ _ _ _ c.in_ok-read_one-in-26.ensures.read c.in-26.is refl refl
+
+pub returns-in_err-read_one-in-27-clause-read : goal.returns-in_err-read_one-in-27-clause-read
+returns-in_err-read_one-in-27-clause-read g c =
+    is_failed_at _ _ _ _ _ _ c.in_err-read_one-in-27.ensures.read c.from_residual-in_err-read_one-in-27.ensures.1 c.in-27.is refl
+
+pub returns-in_ok-read_one-in-27-clause-read : goal.returns-in_ok-read_one-in-27-clause-read
+unfolding response_payload_by
+returns-in_ok-read_one-in-27-clause-read g c = is_held_at _ _ _ _ _ c.in_ok-read_one-in-27.ensures.read c.in-27.is refl refl
+
+pub returns-in_err-read_one-in-28-clause-read : goal.returns-in_err-read_one-in-28-clause-read
+returns-in_err-read_one-in-28-clause-read g c =
+    is_failed_at _ _ _ _ _ _ c.in_err-read_one-in-28.ensures.read c.from_residual-in_err-read_one-in-28.ensures.1 c.in-28.is refl
+
+pub returns-in_ok-read_one-in-28-clause-read : goal.returns-in_ok-read_one-in-28-clause-read
+unfolding response_payload_by
+returns-in_ok-read_one-in-28-clause-read g c = is_held_at _ _ _ _ _ c.in_ok-read_one-in-28.ensures.read c.in-28.is refl refl
+
+pub returns-in_err-read_one-in-29-clause-read : goal.returns-in_err-read_one-in-29-clause-read
+returns-in_err-read_one-in-29-clause-read g c =
+    is_failed_at _ _ _ _ _ _ c.in_err-read_one-in-29.ensures.read c.from_residual-in_err-read_one-in-29.ensures.1 c.in-29.is refl
+
+pub returns-in_ok-read_one-in-29-clause-read : goal.returns-in_ok-read_one-in-29-clause-read
+unfolding response_payload_by
+returns-in_ok-read_one-in-29-clause-read g c = is_held_at _ _ _ _ _ c.in_ok-read_one-in-29.ensures.read c.in-29.is refl refl
+
+pub returns-in_err-read_one-in-30-clause-read : goal.returns-in_err-read_one-in-30-clause-read
+returns-in_err-read_one-in-30-clause-read g c =
+    is_failed_at _ _ _ _ _ _ c.in_err-read_one-in-30.ensures.read c.from_residual-in_err-read_one-in-30.ensures.1 c.in-30.is refl
+
+pub returns-in_ok-read_one-in-30-clause-read : goal.returns-in_ok-read_one-in-30-clause-read
+unfolding response_payload_by
+returns-in_ok-read_one-in-30-clause-read g c = is_held_at _ _ _ _ _ c.in_ok-read_one-in-30.ensures.read c.in-30.is refl refl
+
+pub returns-in_err-read_one-in-31-clause-read : goal.returns-in_err-read_one-in-31-clause-read
+returns-in_err-read_one-in-31-clause-read g c =
+    is_failed_at _ _ _ _ _ _ c.in_err-read_one-in-31.ensures.read c.from_residual-in_err-read_one-in-31.ensures.1 c.in-31.is refl
+
+pub returns-in_ok-read_one-in-31-clause-read : goal.returns-in_ok-read_one-in-31-clause-read
+unfolding response_payload_by
+returns-in_ok-read_one-in-31-clause-read g c = is_held_at _ _ _ _ _ c.in_ok-read_one-in-31.ensures.read c.in-31.is refl refl
