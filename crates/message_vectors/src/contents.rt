@@ -1,16 +1,17 @@
 //! What tests ask of messages of kmip_messages: what becomes of one, and what is in it. Each type of message is decoded in one
 //! function here, since each function that does takes the prover long.
 
-use crate::fates::{Fate, fate_of};
+use crate::fates::{Fate, envelope_fate_of, fate_of};
 use kmip_messages::key::{
     KeyBlock, KeyMaterial, KeyValue, KeyWrappingData, WrappingParameters, wrapping_method,
 };
 use kmip_messages::object::ManagedObject;
-use kmip_messages::request::Request;
+use kmip_messages::request::{Request, RequestItem};
 use kmip_messages::request_payload::{RegisterRequest, RequestPayload};
 use kmip_messages::response::{Response, ResponseItem, result_status};
 use kmip_messages::response_payload::{GetResponse, ResponsePayload};
-use sample_shapes::rereads::decoded;
+use kmip_ttlv::error::Error;
+use kmip_ttlv::from_slice;
 use std::alloc::Global;
 
 /// What has to become of a message.
@@ -18,7 +19,7 @@ use std::alloc::Global;
 pub enum Wanted {
     /// It comes back equal and as the same bytes, and is no message of the other kind.
     Back,
-    /// It isn't decoded.
+    /// It isn't decoded, but comes back with its payloads kept as they are.
     Undecoded,
     /// It is decoded, and isn't sound.
     Unsound,
@@ -33,7 +34,9 @@ fn is_of_one_kind(alloc: Global, digits: &str) -> bool {
 pub fn becomes(alloc: Global, digits: &str, wanted: Wanted) -> bool {
     match (&fate_of(alloc, digits), wanted) {
         (Fate::Back, Wanted::Back) => is_of_one_kind(alloc, digits),
-        (Fate::Undecoded(_), Wanted::Undecoded) => true,
+        (Fate::Undecoded(_), Wanted::Undecoded) => {
+            matches!(&envelope_fate_of(alloc, digits), Fate::Back)
+        }
         (Fate::Unsound, Wanted::Unsound) => true,
         _ => false,
     }
@@ -47,6 +50,8 @@ const IDENTIFIER: &str = "49a1ca88-6bea-4fb2-b450-7e58802c3038";
 pub enum Asked {
     /// Anything is asked for.
     Anything,
+    /// The payload of each item has the type of its operation.
+    Known,
     /// The object of that identifier is asked for.
     Object,
     /// An object of this type is registered (KMIP 1.0, section 9.1.3.2); a symmetric key has so many bytes, and others have none.
@@ -94,14 +99,33 @@ fn is_asked(payload: &RequestPayload, asked: Asked) -> bool {
     }
 }
 
+// Whether the payload of each item has the type of its operation.
+fn are_known(items: &[RequestItem]) -> bool {
+    for item in items {
+        if matches!(&item.payload, RequestPayload::Other(_)) {
+            return false;
+        }
+    }
+    true
+}
+
+/// The request that bytes are.
+pub fn request_of(alloc: Global, bytes: &[u8]) -> Result<Request, Error> {
+    from_slice(alloc, bytes)
+}
+
 /// Whether a request is decoded, and that is in its first item.
 pub fn request_has(alloc: Global, digits: &str, asked: Asked) -> bool {
-    let Some(request) = &decoded::<Request>(alloc, digits) else {
+    let Ok(bytes) = &hex::decode(alloc, digits) else {
         return false;
     };
-    match request.items.first() {
-        Some(item) => is_asked(&item.payload, asked),
-        None => false,
+    let Ok(request) = &request_of(alloc, bytes.as_slice()) else {
+        return false;
+    };
+    match (request.items.first(), asked) {
+        (_, Asked::Known) => are_known(request.items.as_slice()),
+        (Some(item), _) => is_asked(&item.payload, asked),
+        (None, _) => false,
     }
 }
 
@@ -110,6 +134,8 @@ pub fn request_has(alloc: Global, digits: &str, asked: Asked) -> bool {
 pub enum Told {
     /// Anything is said.
     Anything,
+    /// The payload of each item that has one has the type of its operation.
+    Known,
     /// The key `KEY` under that identifier, which nothing wraps.
     Key,
     /// That key, wrapped by `MAC` and `NONCE`; the key of the MAC is used so.
@@ -186,6 +212,16 @@ fn failures(items: &[ResponseItem]) -> usize {
     count
 }
 
+// Whether the payload of each item that has one has the type of its operation.
+fn are_known_answers(items: &[ResponseItem]) -> bool {
+    for item in items {
+        if matches!(&item.payload, Some(ResponsePayload::Other(_))) {
+            return false;
+        }
+    }
+    true
+}
+
 // Whether that key is in the first of the items of a response.
 fn has_key(items: &[ResponseItem], told: Told) -> bool {
     let Some(item) = items.first() else {
@@ -201,15 +237,24 @@ fn has_key(items: &[ResponseItem], told: Told) -> bool {
 fn is_told(items: &[ResponseItem], told: Told) -> bool {
     match told {
         Told::Anything => true,
+        Told::Known => are_known_answers(items),
         Told::Failures(count) => failures(items) == count,
         _ => has_key(items, told),
     }
 }
 
+// The response that bytes are.
+fn response_of(alloc: Global, bytes: &[u8]) -> Result<Response, Error> {
+    from_slice(alloc, bytes)
+}
+
 /// Whether a response is decoded, and that is in it.
 pub fn response_has(alloc: Global, digits: &str, told: Told) -> bool {
-    match &decoded::<Response>(alloc, digits) {
-        Some(response) => is_told(response.items.as_slice(), told),
-        None => false,
+    let Ok(bytes) = &hex::decode(alloc, digits) else {
+        return false;
+    };
+    match &response_of(alloc, bytes.as_slice()) {
+        Ok(response) => is_told(response.items.as_slice(), told),
+        Err(_) => false,
     }
 }

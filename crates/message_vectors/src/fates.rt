@@ -1,6 +1,8 @@
-//! What becomes of a message that is decoded and encoded again. Each type of message is named in one place, `fate_of`, since each call
-//! at such a type takes the prover long.
+//! What becomes of a message that is decoded and encoded again, with its payloads in the types of their operations, or kept as they are.
+//! Each type of message is named in one place, `fate_of_bytes` or `envelope_fate_of_bytes`, since each call at such a type takes the
+//! prover long.
 
+use kmip_messages::envelope::{RequestEnvelope, ResponseEnvelope};
 use kmip_messages::request::Request;
 use kmip_messages::response::Response;
 use kmip_ttlv::error::Error;
@@ -42,8 +44,8 @@ impl fmt::Display for Fate {
     }
 }
 
-/// Whether a message that is encoded and decoded again is equal to what it was.
-pub fn is_equal_again<T: Message<Global>>(alloc: Global, message: &T) -> bool {
+// Whether a message that is encoded and decoded again is equal to what it was.
+fn is_equal_again<T: Message<Global>>(alloc: Global, message: &T) -> bool {
     match &reread(alloc, message) {
         Ok(other) => *message == *other,
         Err(_) => false,
@@ -72,14 +74,41 @@ fn fate_as<T: Message<Global>>(alloc: Global, bytes: &[u8]) -> Fate {
     }
 }
 
+/// Whether bytes begin as a request.
+pub fn is_request(bytes: &[u8]) -> bool {
+    bytes.starts_with(&REQUEST)
+}
+
+/// What becomes of the message that bytes are, whatever kind of message it has.
+pub fn fate_of_bytes(alloc: Global, bytes: &[u8]) -> Fate {
+    if is_request(bytes) {
+        fate_as::<Request>(alloc, bytes)
+    } else {
+        fate_as::<Response>(alloc, bytes)
+    }
+}
+
+/// The same of a message whose payloads are kept as they are.
+pub fn envelope_fate_of_bytes(alloc: Global, bytes: &[u8]) -> Fate {
+    if is_request(bytes) {
+        fate_as::<RequestEnvelope>(alloc, bytes)
+    } else {
+        fate_as::<ResponseEnvelope>(alloc, bytes)
+    }
+}
+
 /// What becomes of the message that these digits are, whatever kind of message it has.
 pub fn fate_of(alloc: Global, digits: &str) -> Fate {
-    let Ok(bytes) = &hex::decode(alloc, digits) else {
-        return Fate::NoDigits;
-    };
-    if bytes.as_slice().starts_with(&REQUEST) {
-        fate_as::<Request>(alloc, bytes.as_slice())
-    } else {
-        fate_as::<Response>(alloc, bytes.as_slice())
+    match &hex::decode(alloc, digits) {
+        Ok(bytes) => fate_of_bytes(alloc, bytes.as_slice()),
+        Err(_) => Fate::NoDigits,
+    }
+}
+
+/// The same of a message whose payloads are kept as they are.
+pub fn envelope_fate_of(alloc: Global, digits: &str) -> Fate {
+    match &hex::decode(alloc, digits) {
+        Ok(bytes) => envelope_fate_of_bytes(alloc, bytes.as_slice()),
+        Err(_) => Fate::NoDigits,
     }
 }

@@ -1,15 +1,15 @@
 //! Messages of kmip_messages come back: encoded and decoded again they are equal; and which are sound. Their bytes are made of
 //! items by hand, as KMIP 1.0, section 9.1, has them.
 
-use crate::contents::{Asked, Told, Wanted, becomes, request_has, response_has};
-use crate::fates::is_equal_again;
+use crate::contents::{Asked, Told, Wanted, becomes, request_has, request_of, response_has};
 use crate::tally::Tally;
 use kmip_messages::attribute::{Attribute, AttributeValue};
 use kmip_messages::header::{Operation, ProtocolVersion, RequestHeader, operation};
 use kmip_messages::request::{Request, RequestItem};
 use kmip_messages::request_payload::{LocateRequest, RequestPayload};
 use kmip_messages::values::{ObjectType, object_type, state};
-use kmip_ttlv::laws::Message;
+use kmip_ttlv::laws::Sound;
+use kmip_ttlv::{Kept, to_vec};
 use std::alloc::{AllocError, Global};
 use std::io;
 
@@ -180,15 +180,27 @@ fn search(
         storage_status_mask: None,
         object_group_member: None,
         attributes: one(alloc, attribute)?,
+        other_items: Kept::none(alloc),
     });
     let items = one(alloc, RequestItem::new(operation, payload))?;
     let header = RequestHeader::new(ProtocolVersion { major: 1, minor: 0 }, 1);
     Ok(Request { header, items })
 }
 
-// Whether a message is sound and comes back equal, or neither.
-fn is_judged<T: Message<Global>>(alloc: Global, message: &T, wanted: bool) -> bool {
-    message.is_sound() == wanted && is_equal_again(alloc, message) == wanted
+// Whether a request that is encoded and decoded again is equal to what it was.
+fn is_equal_again(alloc: Global, request: &Request) -> bool {
+    let Ok(bytes) = &to_vec(alloc, request) else {
+        return false;
+    };
+    match &request_of(alloc, bytes.as_slice()) {
+        Ok(other) => *request == *other,
+        Err(_) => false,
+    }
+}
+
+// Whether a request is sound and comes back equal, or neither.
+fn is_judged(alloc: Global, request: &Request, wanted: bool) -> bool {
+    request.is_sound() == wanted && is_equal_again(alloc, request) == wanted
 }
 
 // Whether that is so of a search of this row.
