@@ -6,7 +6,8 @@ use kmip_messages::envelope::{RequestEnvelope, ResponseEnvelope};
 use kmip_messages::request::Request;
 use kmip_messages::response::Response;
 use kmip_ttlv::error::Error;
-use kmip_ttlv::laws::{Message, reread};
+use kmip_ttlv::laws::Sound;
+use kmip_ttlv::shape::{Decode, Serialize};
 use kmip_ttlv::{from_slice, to_vec};
 use std::alloc::Global;
 use std::fmt;
@@ -44,29 +45,35 @@ impl fmt::Display for Fate {
     }
 }
 
-// Whether a message that is encoded and decoded again is equal to what it was.
-fn is_equal_again<T: Message<Global>>(alloc: Global, message: &T) -> bool {
-    match &reread(alloc, message) {
+// Whether bytes are decoded as a message that is equal to this one.
+fn is_equal_again<T: Decode<Global> + PartialEq>(alloc: Global, message: &T, bytes: &[u8]) -> bool {
+    let read: Result<T, Error> = from_slice(alloc, bytes);
+    match &read {
         Ok(other) => *message == *other,
         Err(_) => false,
     }
 }
 
 // What becomes of a message that was decoded from these bytes.
-fn fate_of_decoded<T: Message<Global>>(alloc: Global, message: &T, bytes: &[u8]) -> Fate {
+fn fate_of_decoded<T: Decode<Global> + Serialize + Sound + PartialEq>(
+    alloc: Global,
+    message: &T,
+    bytes: &[u8],
+) -> Fate {
     if !message.is_sound() {
         return Fate::Unsound;
     }
-    let is_equal = is_equal_again(alloc, message);
     match to_vec(alloc, message) {
-        Ok(again) if is_equal && again.as_slice() == bytes => Fate::Back,
+        Ok(again) if again.as_slice() == bytes && is_equal_again(alloc, message, bytes) => {
+            Fate::Back
+        }
         Ok(_) => Fate::Changed,
         Err(error) => Fate::Unencoded(error),
     }
 }
 
 // What becomes of the message of this type that bytes are.
-fn fate_as<T: Message<Global>>(alloc: Global, bytes: &[u8]) -> Fate {
+fn fate_as<T: Decode<Global> + Serialize + Sound + PartialEq>(alloc: Global, bytes: &[u8]) -> Fate {
     let read: Result<T, Error> = from_slice(alloc, bytes);
     match read {
         Ok(message) => fate_of_decoded(alloc, &message, bytes),
