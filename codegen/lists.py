@@ -2,23 +2,9 @@
 
 import re
 
-from tables import REST, snake
+from tables import REST, RUST_NAMES, snake
 
 CLAIM = "Written by codegen from types.table: change that, and run codegen/codegen."
-
-# What a module imports, by its path, if it names it.
-RUST_NAMES = {
-    "kmip_ttlv::error": "Error",
-    "kmip_ttlv_kinds": "Alone Any Before Choice Decided Element Four FromParts Holds InBox Inside Leaf LeafItem Listed ListedItem Maybe MaybeLeaf MaybeOneOf Of One OneOf"
-    " PartList Rest Several Structure Under Walk Wrapper decode_structure is_apart is_structure_whole read_choice read_structure structures_come_back visit_structure",
-    "kmip_ttlv_parts": "Boxed Enumeration Kept",
-    "kmip_ttlv_parts::laws": "Message Sound is_none_of",
-    "kmip_ttlv_parts::reader": "BigNumber Cursor DateTime Interval RuleParts Scope Step",
-    "kmip_ttlv_parts::shape": "Decode Serialize",
-    "kmip_ttlv_parts::types": "TtlvType",
-    "kmip_ttlv_parts::visit": "Visitor",
-    "std::alloc": "AllocError Allocator Global",
-}
 
 GHOST_NAMES = {
     "Rattle.std.specs.Prelude": "◌≡◌ ◌↔◌ ◌+◌ None IfSome IsTrue Some codes false refl string_bytes true",

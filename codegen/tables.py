@@ -53,12 +53,23 @@ LEAVES = {
     ]
 }
 
+# What a module imports, by its path, if it names it.
+RUST_NAMES = {
+    "kmip_ttlv::error": "Error",
+    "kmip_ttlv_kinds": "Alone Any Before Choice Decided Element Four FromParts Holds InBox Inside Leaf LeafItem Listed ListedItem Maybe MaybeLeaf MaybeOneOf Of One OneOf"
+    " PartList Rest Several Structure Under Walk Wrapper decode_structure is_apart is_structure_whole read_choice read_structure structures_come_back visit_structure",
+    "kmip_ttlv_parts": "Boxed Enumeration Kept",
+    "kmip_ttlv_parts::laws": "Message Sound is_none_of",
+    "kmip_ttlv_parts::reader": "BigNumber Cursor DateTime Interval RuleParts Scope Step",
+    "kmip_ttlv_parts::shape": "Decode Serialize",
+    "kmip_ttlv_parts::types": "TtlvType",
+    "kmip_ttlv_parts::visit": "Visitor",
+    "std::alloc": "AllocError Allocator Global",
+}
+
 # Names that a type can't have, since written files have them in another sense: the parameters of types, and imports.
-TYPE_NAMES = set(
-    "A W AllocError Allocator Alone Any Before BigNumber Box Boxed Choice Clone Copy Cursor DateTime Debug Decided Decode Drop Element Enumeration Eq Err"
-    " Error Four FromParts Global Holds InBox Inside Interval Kept Leaf LeafItem Listed ListedItem Maybe MaybeLeaf MaybeOneOf Message None Of Ok One OneOf"
-    " Option PartList PartialEq Rest Result RuleParts Scope Self Serialize Several Some Sound Step String Structure TheVariants TtlvType Type Under Vec"
-    " Visitor Walk Wrapper types".split()
+TYPE_NAMES = {name for names in RUST_NAMES.values() for name in names.split() if name[0].isupper()} | set(
+    "A W Box Clone Copy Debug Drop Eq Err None Ok Option PartialEq Result Self Some String TheVariants Type Vec types".split()
 )
 
 # The part that holds what stands behind those of a table's rows, where a structure keeps that.

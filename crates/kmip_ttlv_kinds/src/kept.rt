@@ -84,8 +84,8 @@ impl<A: Allocator + Copy> Structure<A> for Kept<A> {
     }
 }
 
-/// Whether what is kept behind the parts of this list begins with no item of a part's tag. What is decoded as the part would not be
-/// kept again.
+/// Whether what is kept behind the parts of this list begins with no item of a part's tag: such an item might be decoded as the part,
+/// and not be kept again.
 pub fn is_apart<L: PartList<A>, A: Allocator + Copy>(rest: &Kept<A>) -> bool
     ensures { IsTrue result ↔ is_apart L.fields (first_kept rest.now) ≡ true }
 {

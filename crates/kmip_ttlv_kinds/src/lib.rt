@@ -1,9 +1,10 @@
 //! Message types that are lists of parts: a type names its parts once, each by a kind, and is encoded, decoded, checked and proved to come
 //! back by them.
 //!
-//! A structure implements [`Structure`], with a [`PartList`]: a tuple of up to four kinds, or [`Four`] of them with others behind. It may
-//! end with [`Rest`], which keeps what stands behind its parts. A kind is a count, [`One`], [`Maybe`], [`Several`] or [`Any`], of an element: another structure ([`Of`]), be it one that is kept with any items
-//! in it (`Kept`), or a leaf of a type of Rust under a tag ([`LeafItem`]). [`Leaf`] is one leaf, [`MaybeLeaf`] one that may be absent.
+//! A structure implements [`Structure`], with a [`PartList`]: a tuple of up to four kinds, or [`Before`] or [`Four`] of them with others
+//! behind. It may end with [`Rest`], which keeps what stands behind its parts. A kind is a count, [`One`], [`Maybe`], [`Several`] or
+//! [`Any`], of an element: another structure ([`Of`]), be it one that is kept with any items in it (`Kept`), or a leaf of a type of Rust
+//! under a tag ([`LeafItem`]). [`Leaf`] is one leaf, [`MaybeLeaf`] one that may be absent.
 //!
 //! ```
 //! #[derive(Clone, Copy, PartialEq)]
