@@ -45,8 +45,12 @@ impl fmt::Display for Fate {
     }
 }
 
-// Whether bytes are decoded as a message that is equal to this one.
-fn is_equal_again<T: Decode<Global> + PartialEq>(alloc: Global, message: &T, bytes: &[u8]) -> bool {
+/// Whether bytes are decoded as a message that is equal to this one.
+pub fn is_equal_again<T: Decode<Global> + PartialEq>(
+    alloc: Global,
+    message: &T,
+    bytes: &[u8],
+) -> bool {
     let read: Result<T, Error> = from_slice(alloc, bytes);
     match &read {
         Ok(other) => *message == *other,

@@ -2,10 +2,10 @@
 //! They may hold any items, which have to be whole (KMIP 1.0, section 9.1.1).
 
 use crate::by_hand::{STRUCTURE, asked, item, request, request_item};
+use crate::contents::request_of;
 use crate::fates::{Fate, envelope_fate_of_bytes, fate_of_bytes};
 use crate::tally::Tally;
 use kmip_messages::envelope::{RequestEnvelope, RequestEnvelopeItem};
-use kmip_messages::request::Request;
 use kmip_messages::request_payload::RequestPayload;
 use kmip_ttlv::error::{Error, ErrorKind, MalformedTtlvError, SerdeError};
 use kmip_ttlv::memory::BoundedAllocator;
@@ -82,8 +82,7 @@ fn are_items(alloc: Global, bytes: &[u8]) -> bool {
 
 // Whether the payloads of the batch are in the types of their operations, but for that of the unknown one.
 fn are_payloads(alloc: Global, bytes: &[u8]) -> bool {
-    let read: Result<Request, Error> = from_slice(alloc, bytes);
-    let Ok(request) = &read else {
+    let Ok(request) = &request_of(alloc, bytes) else {
         return false;
     };
     match request.items.as_slice() {

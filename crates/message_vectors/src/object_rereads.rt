@@ -1,7 +1,8 @@
 //! Messages of kmip_messages come back: encoded and decoded again they are equal; and which are sound. Their bytes are made of
 //! items by hand, as KMIP 1.0, section 9.1, has them.
 
-use crate::contents::{Asked, Told, Wanted, becomes, request_has, request_of, response_has};
+use crate::contents::{Asked, Told, Wanted, becomes, request_has, response_has};
+use crate::fates::is_equal_again;
 use crate::tally::Tally;
 use kmip_messages::attribute::{Attribute, AttributeValue};
 use kmip_messages::header::{Operation, ProtocolVersion, RequestHeader, operation};
@@ -187,20 +188,13 @@ fn search(
     Ok(Request { header, items })
 }
 
-// Whether a request that is encoded and decoded again is equal to what it was.
-fn is_equal_again(alloc: Global, request: &Request) -> bool {
-    let Ok(bytes) = &to_vec(alloc, request) else {
-        return false;
-    };
-    match &request_of(alloc, bytes.as_slice()) {
-        Ok(other) => *request == *other,
-        Err(_) => false,
-    }
-}
-
 // Whether a request is sound and comes back equal, or neither.
 fn is_judged(alloc: Global, request: &Request, wanted: bool) -> bool {
-    request.is_sound() == wanted && is_equal_again(alloc, request) == wanted
+    let is_equal = match &to_vec(alloc, request) {
+        Ok(bytes) => is_equal_again(alloc, request, bytes.as_slice()),
+        Err(_) => false,
+    };
+    request.is_sound() == wanted && is_equal == wanted
 }
 
 // Whether that is so of a search of this row.
