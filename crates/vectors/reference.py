@@ -221,11 +221,11 @@ def subject(items, operations):
 
 
 def peer():
-    """The file of the peer's messages: those members that don't follow from others."""
+    """The file of the peer's messages, which are all but those of worked.py: those members that don't follow from others."""
     tests, operations = [], value_names(0x42005C)
     with open(f"{HERE}/../message_vectors/stdin", encoding="utf-8") as lines:
         for name, _, rest in (line.rstrip("\n").partition(" ") for line in lines):
-            if name and not name.startswith("#"):
+            if name and not name.startswith("#") and not name.endswith("_worked"):
                 message = bytes.fromhex(rest)
                 members = known(message, ())
                 for it in ("text", "hidden_json"):
@@ -237,6 +237,15 @@ def peer():
     source += " them is by reference.py."
     held = {"description": "Messages of another implementation.", "source": source, "messages": tests}
     return json.dumps(held, ensure_ascii=False, indent=2) + "\n"
+
+
+def members(pairs):
+    """An object, of whose members no two have one name."""
+    found = dict(pairs)
+    if len(found) != len(pairs):
+        names = [name for name, _ in pairs]
+        raise ValueError(f"an object has two members {next(it for it in names if names.count(it) > 1)!r}")
+    return found
 
 
 def main(words):
@@ -251,7 +260,12 @@ def main(words):
     compared = differ = 0
     for file in sorted(glob.glob(f"{HERE}/data/*.json")):
         with open(file, encoding="utf-8") as it:
-            held = json.load(it)
+            try:
+                held = json.load(it, object_pairs_hook=members)
+            except ValueError as error:
+                print(f"{os.path.basename(file)}: {error}")
+                differ += 1
+                continue
         decodings = [test for group in held.get("decodings", []) for test in group["tests"]]
         for tests in (*(held.get(it, []) for it in ("messages", "diagnostics", "names", "jsons", "encodings")), decodings):
             names = [it["name"] for it in tests]

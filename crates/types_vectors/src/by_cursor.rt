@@ -38,7 +38,11 @@ mod tests {
         let Ok(number) = Vec::from_slice(heap, number) else {
             return false;
         };
-        match &write_and_read(heap, heap, &TtlvBigInteger(number)) {
+        is_read_as(heap, &TtlvBigInteger(number), wanted)
+    }
+
+    fn is_read_as(heap: Global, number: &TtlvBigInteger, wanted: &[u8]) -> bool {
+        match &write_and_read(heap, heap, number) {
             Ok(read) => read.as_slice() == wanted,
             Err(_) => false,
         }

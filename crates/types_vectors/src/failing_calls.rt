@@ -61,7 +61,7 @@ fn room_runs_out<T: Drop>(alloc: Global, len: usize) -> bool {
 
 #[test]
 fn large_requests_fail(rt: HostRuntime) -> Result<(), Fail> {
-    assert!(rt; ten_bytes_fit(rt.alloc()) == Some(true));
+    assert!(rt; matches!(ten_bytes_fit(rt.alloc()), Some(true)));
     assert!(rt; room_runs_out::<u8>(rt.alloc(), 11));
     assert!(rt; room_runs_out::<u64>(rt.alloc(), 2));
     Ok(())
@@ -91,15 +91,18 @@ fn fails<A: Allocator>(alloc: A, len: usize) -> bool {
 
 #[test]
 fn a_budget_is_of_all_blocks(rt: HostRuntime) -> Result<(), Fail> {
-    assert!(rt; budget_holds(rt.alloc()) == Some(true));
+    assert!(rt; matches!(budget_holds(rt.alloc()), Some(true)));
     Ok(())
 }
 
 // Whether what is asked for is counted, also after it was freed, and what fails isn't.
 fn asked_is_a_sum(alloc: Global) -> bool {
     let memory = BoundedAllocator::in_blocks(alloc, 10);
-    let is_first = !fails(&memory, 6) && memory.asked() == 6;
-    is_first && fails(&memory, 11) && !fails(&memory, 7) && memory.asked() == 13
+    let first = fails(&memory, 6);
+    let asked = memory.asked();
+    let large = fails(&memory, 11);
+    let second = fails(&memory, 7);
+    !first && asked == 6 && large && !second && memory.asked() == 13
 }
 
 #[test]
@@ -107,33 +110,50 @@ fn what_is_asked_for_is_counted(rt: HostRuntime) {
     assert!(rt; asked_is_a_sum(rt.alloc()));
 }
 
+// Whether a vector of eight bytes, of a budget of a hundred over blocks of ten, can't grow by ten, which costs nothing; nor does a new
+// block.
+fn growth_costs_nothing<A: Allocator + Copy>(memory: &BoundedAllocator<A>) -> Option<bool> {
+    let mut bytes = Vec::with_capacity(memory, 8).ok()?;
+    let is_refused = fails(memory, 11);
+    let before = memory.left();
+    let has_grown = takes_ten(&mut bytes);
+    Some(is_refused && before == 92 && !has_grown && memory.left() == 92)
+}
+
 // Whether what the allocator below refuses costs nothing of a budget: neither a new block, nor the growth of a vector.
-fn refusals_cost_nothing(alloc: Global) -> Option<bool> {
+fn refusals_cost_nothing(alloc: Global) -> bool {
     let below = BoundedAllocator::in_blocks(alloc, 10);
     let memory = BoundedAllocator::new(&below, 100);
-    let mut bytes = Vec::with_capacity(&memory, 8).ok()?;
-    let is_refused = fails(&memory, 11) && below.has_failed() && !memory.has_failed();
-    let is_held = memory.left() == 92 && !takes_ten(&mut bytes) && memory.left() == 92;
-    drop(bytes);
-    Some(is_refused && is_held && memory.left() == 100)
+    let costs_nothing = growth_costs_nothing(&memory);
+    matches!(costs_nothing, Some(true))
+        && below.has_failed()
+        && !memory.has_failed()
+        && memory.left() == 100
 }
 
 #[test]
-fn a_budget_counts_what_was_given(rt: HostRuntime) -> Result<(), Fail> {
-    assert!(rt; refusals_cost_nothing(rt.alloc()) == Some(true));
-    Ok(())
+fn a_budget_counts_what_was_given(rt: HostRuntime) {
+    assert!(rt; refusals_cost_nothing(rt.alloc()));
+}
+
+// Whether a vector that grows keeps what is in it, which is memory of the allocator below, and a hundred bytes more can't be had.
+fn keeps_ten<A: Allocator + Copy>(memory: A, below: &BoundedAllocator<Global>) -> bool {
+    let mut bytes = Vec::new(memory);
+    let is_taken = takes_ten(&mut bytes);
+    let left = below.left();
+    let is_refused = fails(memory, 100);
+    is_taken
+        && left <= 90
+        && is_refused
+        && bytes.as_slice() == [0, 1, 2, 3, 4, 5, 6, 7, 8, 9].as_slice()
 }
 
 // Whether an allocator that wipes gives what the one below has, keeps what is in a vector that grows, and gives all back.
 fn gives_and_wipes(alloc: Global) -> bool {
     let below = BoundedAllocator::new(alloc, 100);
     let memory = Wiping::new(&below);
-    let mut bytes = Vec::new(&memory);
-    let is_kept = takes_ten(&mut bytes)
-        && bytes.as_slice() == [0, 1, 2, 3, 4, 5, 6, 7, 8, 9].as_slice();
-    let is_held = below.left() <= 90 && fails(&memory, 100) && below.has_failed();
-    drop(bytes);
-    is_kept && is_held && below.left() == 100
+    let is_kept = keeps_ten(&memory, &below);
+    is_kept && below.has_failed() && below.left() == 100
 }
 
 #[test]

@@ -195,12 +195,16 @@ fn growths_of(heap: Global, call: Call, leaf: &[u8]) -> Option<u64> {
     None
 }
 
+// Whether the call needs so many growths at least.
+fn grows(heap: Global, call: Call, leaf: &[u8], least: u64) -> bool {
+    matches!(growths_of(heap, call, leaf), Some(growths) if growths >= least)
+}
+
 #[test]
 fn calls_grow(rt: HostRuntime) -> Result<(), Fail> {
     let leaf = long_leaf(rt.alloc())?;
     for (call, least) in CALLS {
-        let growths = growths_of(rt.alloc(), call, leaf.as_slice());
-        assert!(rt; growths >= Some(least), "{call:?}: {growths:?}");
+        assert!(rt; grows(rt.alloc(), call, leaf.as_slice(), least), "{call:?}");
     }
     Ok(())
 }

@@ -6,7 +6,10 @@ use crate::samples::{
 use kmip_ttlv_memory::BoundedAllocator;
 use kmip_ttlv_types::laws::reread;
 use kmip_ttlv_types::stream::{MemoryCursor, MemorySink, MemorySource, Sink};
-use kmip_ttlv_types::{Error, SerializableTtlvType, TtlvInteger, TtlvTag, TtlvType};
+use kmip_ttlv_types::{
+    SerializableTtlvType, TtlvBigInteger, TtlvByteString, TtlvInteger, TtlvTag, TtlvTextString,
+    TtlvType,
+};
 use std::alloc::Global;
 use std::io::{Cursor, ErrorKind};
 use std::test::Fail;
@@ -19,15 +22,23 @@ fn written_with_room(heap: Global) -> Option<Vec<u8>> {
     Some(sink.0)
 }
 
+// Whether these bytes are that tag and that Integer, and nothing follows.
+fn are_tag_and_integer(bytes: &[u8]) -> bool {
+    let mut source = MemorySource(bytes);
+    is_tag(&mut source, 0x42_0020)
+        && is_type(&mut source, TtlvType::Integer)
+        && is_integer(&mut source, 8)
+        && is_failure(&TtlvTag::read(&mut source), ErrorKind::UnexpectedEof)
+}
+
+// Whether they are written into memory with room, and read.
+fn memory_has_room(heap: Global) -> bool {
+    matches!(&written_with_room(heap), Some(written) if are_tag_and_integer(written))
+}
+
 #[test]
-fn memory_with_room(rt: HostRuntime) -> Result<(), Fail> {
-    let written = written_with_room(rt.alloc()).ok_or("no memory")?;
-    let mut source = MemorySource(written.as_slice());
-    assert!(rt; is_tag(&mut source, 0x42_0020));
-    assert!(rt; is_type(&mut source, TtlvType::Integer));
-    assert!(rt; is_integer(&mut source, 8));
-    assert!(rt; is_failure(&TtlvTag::read(&mut source), ErrorKind::UnexpectedEof));
-    Ok(())
+fn memory_with_room(rt: HostRuntime) {
+    assert!(rt; memory_has_room(rt.alloc()));
 }
 
 // Whether a vector that can't grow is an error of kind OutOfMemory.
@@ -143,6 +154,14 @@ fn end_of_failed_writing(heap: Global, sample: Sample, buffer: &mut [u8], at: u6
     }
 }
 
+// Whether so many bytes are there, and are the same.
+fn begins_alike(one: &[u8], other: &[u8], count: u64) -> bool {
+    match usize::try_from(count) {
+        Ok(count) => count <= one.len() && one.get(..count) == other.get(..count),
+        Err(_) => false,
+    }
+}
+
 // Whether a slice that is one byte too short gets a beginning of the value, and the result is an IoError of
 // kind WriteZero.
 fn is_one_byte_short(heap: Global, sample: Sample) -> bool {
@@ -150,9 +169,9 @@ fn is_one_byte_short(heap: Global, sample: Sample) -> bool {
     let Some(mut buffer) = filled(heap, len) else {
         return false;
     };
-    match end_of_failed_writing(heap, sample, &mut buffer[..], 0).map(usize::try_from) {
-        Some(Ok(end)) => end <= len && buffer.get(..end) == sample.bytes.get(..end),
-        _ => false,
+    match end_of_failed_writing(heap, sample, &mut buffer[..], 0) {
+        Some(end) => begins_alike(&buffer[..], sample.bytes, end),
+        None => false,
     }
 }
 
@@ -192,30 +211,45 @@ fn cursors_past_the_end(rt: HostRuntime) -> Result<(), Fail> {
     Ok(())
 }
 
-// What `reread` makes of a primitive's value; None for a part of a header.
-fn reread_value(heap: Global, value: &Value) -> Result<Option<Value>, Error> {
+// Whether a primitive's value is what `reread` makes of it.
+fn is_again<T: SerializableTtlvType + PartialEq>(heap: Global, alloc: T::Alloc, value: &T) -> bool {
+    matches!(&reread(heap, alloc, value), Ok(again) if *again == *value)
+}
+
+// The same of those that take memory.
+fn number_is_again(heap: Global, number: &TtlvBigInteger) -> bool {
+    matches!(&reread(heap, heap, number), Ok(again) if again.as_slice() == number.as_slice())
+}
+
+fn text_is_again(heap: Global, text: &TtlvTextString) -> bool {
+    matches!(&reread(heap, heap, text), Ok(again) if again.as_str() == text.as_str())
+}
+
+fn bytes_are_again(heap: Global, bytes: &TtlvByteString) -> bool {
+    matches!(&reread(heap, heap, bytes), Ok(again) if again.as_slice() == bytes.as_slice())
+}
+
+// Whether that is so of a primitive's value; not for a part of a header.
+fn value_is_again(heap: Global, value: &Value) -> bool {
     match value {
-        Value::Integer(number) => Ok(Some(Value::Integer(reread(heap, (), number)?))),
-        Value::LongInteger(number) => Ok(Some(Value::LongInteger(reread(heap, (), number)?))),
-        Value::BigInteger(number) => Ok(Some(Value::BigInteger(reread(heap, heap, number)?))),
-        Value::Enumeration(number) => Ok(Some(Value::Enumeration(reread(heap, (), number)?))),
-        Value::Boolean(truth) => Ok(Some(Value::Boolean(reread(heap, (), truth)?))),
-        Value::TextString(text) => Ok(Some(Value::TextString(reread(heap, heap, text)?))),
-        Value::ByteString(bytes) => Ok(Some(Value::ByteString(reread(heap, heap, bytes)?))),
-        Value::DateTime(seconds) => Ok(Some(Value::DateTime(reread(heap, (), seconds)?))),
-        Value::Interval(seconds) => Ok(Some(Value::Interval(reread(heap, (), seconds)?))),
-        Value::Tag(_) | Value::Type(_) | Value::Length(_) => Ok(None),
+        Value::Integer(number) => is_again(heap, (), number),
+        Value::LongInteger(number) => is_again(heap, (), number),
+        Value::BigInteger(number) => number_is_again(heap, number),
+        Value::Enumeration(number) => is_again(heap, (), number),
+        Value::Boolean(truth) => is_again(heap, (), truth),
+        Value::TextString(text) => text_is_again(heap, text),
+        Value::ByteString(bytes) => bytes_are_again(heap, bytes),
+        Value::DateTime(seconds) => is_again(heap, (), seconds),
+        Value::Interval(seconds) => is_again(heap, (), seconds),
+        Value::Tag(_) | Value::Type(_) | Value::Length(_) => false,
     }
 }
 
 // Whether the sample is written and read back by `reread`.
 fn is_reread(heap: Global, sample: Sample) -> bool {
-    let Ok(value) = sample.value(heap) else {
-        return false;
-    };
-    match &reread_value(heap, &value) {
-        Ok(Some(read)) => read.is_sample(),
-        _ => false,
+    match &sample.value(heap) {
+        Ok(value) => value.is_sample() && value_is_again(heap, value),
+        Err(_) => false,
     }
 }
 

@@ -23,23 +23,26 @@ fn is_number(text: &str, wanted: Option<u32>) -> bool {
     number(text) == wanted
 }
 
+// A name, and its number if it is a tag's.
+const NAMES: [(&str, Option<u32>); 13] = [
+    ("0x0x1", Some(1)),
+    ("+1F", Some(0x1F)),
+    ("000", Some(0)),
+    ("0x0", Some(0)),
+    ("001", Some(1)),
+    ("0x4200AA", Some(0x42_00AA)),
+    ("FFFFFF", Some(0xFF_FFFF)),
+    ("0x1000000", None),
+    ("", None),
+    ("XYZ", None),
+    ("    ", None),
+    ("0x", None),
+    ("-1", None),
+];
+
 #[test]
 fn names_of_tags(rt: HostRuntime) -> Result<(), Fail> {
-    for (name, value) in [
-        ("0x0x1", Some(1)),
-        ("+1F", Some(0x1F)),
-        ("000", Some(0)),
-        ("0x0", Some(0)),
-        ("001", Some(1)),
-        ("0x4200AA", Some(0x42_00AA)),
-        ("FFFFFF", Some(0xFF_FFFF)),
-        ("0x1000000", None),
-        ("", None),
-        ("XYZ", None),
-        ("    ", None),
-        ("0x", None),
-        ("-1", None),
-    ] {
+    for (name, value) in NAMES {
         assert!(rt; names_tag(rt.alloc(), name, value), "{name}");
     }
     assert!(rt; is_number("0xFFFFFFFF", Some(u32::MAX)));
@@ -105,20 +108,23 @@ pub fn prints<D: Display + Drop>(heap: Global, shown: D, text: &str) -> bool {
     is_text(&format!(in heap; "{shown}"), text)
 }
 
+// A type, and how it is printed.
+const TYPES: [(TtlvType, &str); 10] = [
+    (TtlvType::Structure, "Structure (0x01)"),
+    (TtlvType::Integer, "Integer (0x02)"),
+    (TtlvType::LongInteger, "LongInteger (0x03)"),
+    (TtlvType::BigInteger, "BigInteger (0x04)"),
+    (TtlvType::Enumeration, "Enumeration (0x05)"),
+    (TtlvType::Boolean, "Boolean (0x06)"),
+    (TtlvType::TextString, "TextString (0x07)"),
+    (TtlvType::ByteString, "ByteString (0x08)"),
+    (TtlvType::DateTime, "DateTime (0x09)"),
+    (TtlvType::Interval, "Interval (0x0A)"),
+];
+
 #[test]
 fn texts_of_types(rt: HostRuntime) -> Result<(), Fail> {
-    for (typ, text) in [
-        (TtlvType::Structure, "Structure (0x01)"),
-        (TtlvType::Integer, "Integer (0x02)"),
-        (TtlvType::LongInteger, "LongInteger (0x03)"),
-        (TtlvType::BigInteger, "BigInteger (0x04)"),
-        (TtlvType::Enumeration, "Enumeration (0x05)"),
-        (TtlvType::Boolean, "Boolean (0x06)"),
-        (TtlvType::TextString, "TextString (0x07)"),
-        (TtlvType::ByteString, "ByteString (0x08)"),
-        (TtlvType::DateTime, "DateTime (0x09)"),
-        (TtlvType::Interval, "Interval (0x0A)"),
-    ] {
+    for (typ, text) in TYPES {
         assert!(rt; prints(rt.alloc(), typ, text), "{text}");
     }
     Ok(())
@@ -147,28 +153,40 @@ fn tag_is_shown(heap: Global, row: ([u8; 3], &str, &str, &str)) -> bool {
         && is_text(&format!(in heap; "{tag:X}"), digits)
 }
 
-#[test]
-fn texts_of_tags(rt: HostRuntime) -> Result<(), Fail> {
-    for row in TAGS {
-        assert!(rt; tag_is_shown(rt.alloc(), row), "{row:?}");
-    }
-    let tag = TtlvTag::from([0, 0, 0x12]);
-    assert!(rt; is_text(&format!(in rt.alloc(); "{tag:06X}"), "000012"));
-    assert!(rt; is_text(&format!(in rt.alloc(); "{tag:8X}"), "      12"));
-    Ok(())
+// Whether a tag is printed with zeros, and in eight characters, as it is asked.
+fn tag_is_padded(heap: Global, tag: TtlvTag) -> bool {
+    is_text(&format!(in heap; "{tag:06X}"), "000012")
+        && is_text(&format!(in heap; "{tag:8X}"), "      12")
 }
 
 #[test]
-fn texts_of_lengths_and_values(rt: HostRuntime) -> Result<(), Fail> {
-    let length = TtlvLength::new(0x1_00AB);
-    assert!(rt; prints(rt.alloc(), length, "0x000100AB"));
-    assert!(rt; shows(rt.alloc(), length, "0x100AB"));
-    assert!(rt; is_text(&format!(in rt.alloc(); "{length:X}"), "100AB"));
-    assert!(rt; is_text(&format!(in rt.alloc(); "{length:08X}"), "000100AB"));
-    assert!(rt; shows(rt.alloc(), TtlvInteger(-5), "TtlvInteger(-5)"));
-    let text = TtlvTextString(String::from_str(rt.alloc(), "a")?);
-    assert!(rt; shows(rt.alloc(), text, "TtlvTextString(\"a\")"));
+fn texts_of_tags(rt: HostRuntime) -> Result<(), Fail> {
+    for row in TAGS {
+        assert!(rt; tag_is_shown(rt.alloc(), row), "{}", row.1);
+    }
+    assert!(rt; tag_is_padded(rt.alloc(), TtlvTag::from([0, 0, 0x12])));
     Ok(())
+}
+
+fn length_is_shown(heap: Global, length: TtlvLength) -> bool {
+    prints(heap, length, "0x000100AB")
+        && shows(heap, length, "0x100AB")
+        && is_text(&format!(in heap; "{length:X}"), "100AB")
+        && is_text(&format!(in heap; "{length:08X}"), "000100AB")
+}
+
+fn text_is_shown(heap: Global) -> bool {
+    match String::from_str(heap, "a") {
+        Ok(text) => shows(heap, TtlvTextString(text), "TtlvTextString(\"a\")"),
+        Err(_) => false,
+    }
+}
+
+#[test]
+fn texts_of_lengths_and_values(rt: HostRuntime) {
+    assert!(rt; length_is_shown(rt.alloc(), TtlvLength::new(0x1_00AB)));
+    assert!(rt; shows(rt.alloc(), TtlvInteger(-5), "TtlvInteger(-5)"));
+    assert!(rt; text_is_shown(rt.alloc()));
 }
 
 #[test]

@@ -142,18 +142,41 @@ impl Sample {
     /// Reads the sample's bytes as a value of its kind.
     pub fn read_from<S: Source>(&self, heap: Global, source: &mut S) -> Result<Value, Error> {
         match self.kind {
-            Kind::Integer => Ok(Value::Integer(read_leaf((), source)?)),
-            Kind::LongInteger => Ok(Value::LongInteger(read_leaf((), source)?)),
+            Kind::BigInteger | Kind::TextString | Kind::ByteString => {
+                self.read_string(heap, source)
+            }
+            Kind::Tag | Kind::Type | Kind::Length => self.read_part(source),
+            _ => self.read_number(source),
+        }
+    }
+
+    // The same of a primitive that takes memory.
+    fn read_string<S: Source>(&self, heap: Global, source: &mut S) -> Result<Value, Error> {
+        match self.kind {
             Kind::BigInteger => Ok(Value::BigInteger(read_leaf(heap, source)?)),
-            Kind::Enumeration => Ok(Value::Enumeration(read_leaf((), source)?)),
-            Kind::Boolean => Ok(Value::Boolean(read_leaf((), source)?)),
             Kind::TextString => Ok(Value::TextString(read_leaf(heap, source)?)),
-            Kind::ByteString => Ok(Value::ByteString(read_leaf(heap, source)?)),
-            Kind::DateTime => Ok(Value::DateTime(read_leaf((), source)?)),
-            Kind::Interval => Ok(Value::Interval(read_leaf((), source)?)),
+            _ => Ok(Value::ByteString(read_leaf(heap, source)?)),
+        }
+    }
+
+    // The same of a part of a header.
+    fn read_part<S: Source>(&self, source: &mut S) -> Result<Value, Error> {
+        match self.kind {
             Kind::Tag => Ok(Value::Tag(TtlvTag::read(source)?)),
             Kind::Type => Ok(Value::Type(TtlvType::read(source)?)),
-            Kind::Length => Ok(Value::Length(TtlvLength::read(source)?)),
+            _ => Ok(Value::Length(TtlvLength::read(source)?)),
+        }
+    }
+
+    // The same of any other primitive.
+    fn read_number<S: Source>(&self, source: &mut S) -> Result<Value, Error> {
+        match self.kind {
+            Kind::Integer => Ok(Value::Integer(read_leaf((), source)?)),
+            Kind::LongInteger => Ok(Value::LongInteger(read_leaf((), source)?)),
+            Kind::Enumeration => Ok(Value::Enumeration(read_leaf((), source)?)),
+            Kind::Boolean => Ok(Value::Boolean(read_leaf((), source)?)),
+            Kind::DateTime => Ok(Value::DateTime(read_leaf((), source)?)),
+            _ => Ok(Value::Interval(read_leaf((), source)?)),
         }
     }
 }

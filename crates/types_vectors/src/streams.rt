@@ -258,15 +258,21 @@ fn is_cut_leaf(heap: Global, leaf: &[u8]) -> bool {
     )
 }
 
+// Whether that is so of a leaf, read and written whole, and of the leaf without its last byte.
+fn is_right_leaf(heap: Global, leaf: &[u8]) -> bool {
+    let cut = leaf.get(..leaf.len().saturating_sub(1)).unwrap_or(&[]);
+    is_read_whole(heap, leaf) && is_written_whole(heap, leaf) && is_cut_leaf(heap, cut)
+}
+
+fn long_leaf_is_right(heap: Global, count: u32) -> bool {
+    matches!(&long_leaf(heap, count), Some(leaf) if is_right_leaf(heap, leaf))
+}
+
 // Content of several pieces is read and written whole, and a missing byte is noticed.
 #[test]
 fn content_of_several_pieces(rt: HostRuntime) -> Result<(), Fail> {
     for count in [150_000u32, 3_100_000] {
-        let leaf = long_leaf(rt.alloc(), count).ok_or("no memory")?;
-        let cut = leaf.get(..leaf.len().saturating_sub(1)).unwrap_or(&[]);
-        assert!(rt; is_read_whole(rt.alloc(), &leaf), "{count}");
-        assert!(rt; is_written_whole(rt.alloc(), &leaf), "{count}");
-        assert!(rt; is_cut_leaf(rt.alloc(), cut), "{count}");
+        assert!(rt; long_leaf_is_right(rt.alloc(), count), "{count}");
     }
     Ok(())
 }

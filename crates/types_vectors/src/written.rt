@@ -159,25 +159,42 @@ fn each_growth_may_fail(rt: HostRuntime) {
     }
 }
 
-// A thousand structures, each within the one before: each length is less by eight.
-fn is_nested(alloc: Global) -> bool {
+// A thousand structures, each within the one before.
+fn nested() -> [GivenItem; 1_000] {
     let mut items = [item(0, 0, 0x42_0069, 1, 0); 1_000];
     for (depth, item) in items.iter_mut().enumerate() {
         item.depth = depth;
     }
-    let Ok(out) = write_items(alloc, &items, &[]) else {
-        return false;
-    };
-    let mut holds = out.len() == 8_000;
-    let mut wanted: u32 = 8_000;
-    for header in out.as_slice().chunks(8) {
-        wanted = wanted.saturating_sub(8);
-        let [_, _, _, typ, a, b, c, d] = header else {
-            return false;
-        };
-        holds = holds && *typ == 1 && u32::from_be_bytes([*a, *b, *c, *d]) == wanted;
+    items
+}
+
+// Whether this is the header of a structure of this length.
+fn is_header(header: &[u8], length: u32) -> bool {
+    match header {
+        [_, _, _, typ, a, b, c, d] => {
+            *typ == 1 && u32::from_be_bytes([*a, *b, *c, *d]) == length
+        }
+        _ => false,
     }
-    holds
+}
+
+// Whether these are headers of structures: each length is less by eight.
+fn lengths_fall(headers: &[u8], first: u32) -> bool {
+    let mut wanted = first;
+    for header in headers.chunks(8) {
+        wanted = wanted.saturating_sub(8);
+        if !is_header(header, wanted) {
+            return false;
+        }
+    }
+    true
+}
+
+fn is_nested(alloc: Global) -> bool {
+    match &write_items(alloc, &nested(), &[]) {
+        Ok(out) => out.len() == 8_000 && lengths_fall(out.as_slice(), 8_000),
+        Err(_) => false,
+    }
 }
 
 #[test]
@@ -185,29 +202,46 @@ fn structures_nest(rt: HostRuntime) {
     assert!(rt; is_nested(rt.alloc()));
 }
 
-// Whether a structure of so many integers of 1 is written, and asks for no more memory than its bytes.
-fn is_flat(alloc: Global, count: u32) -> Result<bool, AllocError> {
+// A structure of so many integers of 1.
+fn flat(alloc: Global, count: u32) -> Result<Vec<GivenItem>, AllocError> {
     let mut items = Vec::from_slice(alloc, &[item(0, 0, 0x42_0069, 1, 0)])?;
-    items.resize(
-        (count as usize).saturating_add(1),
-        item(16, 1, 0x42_006A, 2, 4),
-    )?;
-    let memory = BoundedAllocator::in_blocks(alloc, usize::MAX);
-    let Ok(out) = write_items(&memory, &items, &VALUES) else {
-        return Ok(false);
-    };
-    let length = count.saturating_mul(16);
-    let mut wanted = Vec::from_array(alloc, [0x42, 0, 0x69, 1])?;
-    wanted.extend_from_slice(&length.to_be_bytes())?;
+    let all = (count as usize).saturating_add(1);
+    items.resize(all, item(16, 1, 0x42_006A, 2, 4))?;
+    Ok(items)
+}
+
+// Its bytes.
+fn flat_bytes(alloc: Global, count: u32) -> Result<Vec<u8>, AllocError> {
+    let mut bytes = Vec::from_array(alloc, [0x42, 0, 0x69, 1])?;
+    bytes.extend_from_slice(&count.saturating_mul(16).to_be_bytes())?;
     for _ in 0..count {
-        wanted.extend_from_slice(b"\x42\0\x6A\x02\0\0\0\x04\0\0\0\x01\0\0\0\0")?;
+        bytes.extend_from_slice(b"\x42\0\x6A\x02\0\0\0\x04\0\0\0\x01\0\0\0\0")?;
     }
-    Ok(out.as_slice() == wanted.as_slice() && memory.asked() <= wanted.len())
+    Ok(bytes)
+}
+
+// Whether items are written as these bytes, and that asks for no more memory than they have.
+fn asks_for_bytes(alloc: Global, items: &[GivenItem], wanted: &[u8]) -> bool {
+    let memory = BoundedAllocator::in_blocks(alloc, usize::MAX);
+    let is_written = match &write_items(&memory, items, &VALUES) {
+        Ok(out) => out.as_slice() == wanted,
+        Err(_) => false,
+    };
+    is_written && memory.asked() <= wanted.len()
+}
+
+// Whether that is so of a structure of so many integers.
+fn is_flat(alloc: Global, count: u32) -> bool {
+    match (&flat(alloc, count), &flat_bytes(alloc, count)) {
+        (Ok(items), Ok(bytes)) => asks_for_bytes(alloc, items, bytes),
+        _ => false,
+    }
 }
 
 #[test]
 fn any_number_of_items(rt: HostRuntime) {
-    for count in (0..=40u32).chain([5_000]) {
-        assert!(rt; is_flat(rt.alloc(), count) == Ok(true), "{count}");
+    for count in 0..=40u32 {
+        assert!(rt; is_flat(rt.alloc(), count), "{count}");
     }
+    assert!(rt; is_flat(rt.alloc(), 5_000));
 }

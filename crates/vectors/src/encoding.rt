@@ -1,26 +1,15 @@
 //! Tries what values are encoded as.
 
 use crate::errors::{error_text, has_any_words};
+use crate::file::{text, text_if, value};
 use crate::tally::Tally;
 use crate::values::{MOST_DEEP, data_of};
 use kmip_ttlv_base::error::Error;
 use kmip_ttlv_base::shape::{Data, Serialize};
 use kmip_ttlv_ser::{TtlvSerializer, to_vec, to_writer};
-use serde::Deserialize;
 use serde_json::Value;
 use std::alloc::{AllocError, Global};
 use std::io;
-
-/// A value, and its canonical bytes in hexadecimal, or the error.
-#[derive(Drop, Deserialize)]
-#[serde(deny_unknown_fields)]
-pub struct Encoding {
-    pub name: String,
-    pub comment: String,
-    pub value: Value,
-    pub bytes: Option<String>,
-    pub error: Option<Value>,
-}
 
 // The bytes in hexadecimal, or the error, in words.
 fn found_text(
@@ -35,9 +24,9 @@ fn found_text(
 }
 
 // What is wanted, in words.
-fn wanted_text(alloc: Global, test: &Encoding) -> Result<String, AllocError> {
-    match (&test.bytes, &test.error) {
-        (Some(bytes), None) => String::from_str(alloc, bytes.as_str()),
+fn wanted_text(alloc: Global, test: &Value) -> Result<String, AllocError> {
+    match (text_if(test, "bytes"), value(test, "error")) {
+        (Some(bytes), None) => String::from_str(alloc, bytes),
         (None, Some(error)) => error.to_string(alloc),
         _ => String::from_str(alloc, "bytes or an error"),
     }
@@ -65,17 +54,17 @@ fn is_told_again(alloc: Global, data: &Data) -> bool {
 // Compares what a call found with what is wanted.
 fn try_bytes(
     tally: &mut Tally<'_>,
-    test: &Encoding,
+    test: &Value,
     what: &str,
     found: &Result<Vec<u8>, Error>,
     wanted: &str,
 ) -> io::Result<()> {
-    let found = found_text(tally.alloc(), found, has_any_words(&test.error))?;
-    tally.compare(test.name.as_str(), what, found.as_str(), wanted)
+    let found = found_text(tally.alloc(), found, has_any_words(value(test, "error")))?;
+    tally.compare(text(test, "name"), what, found.as_str(), wanted)
 }
 
 // Tries data: its bytes by each call, and that the data of what it tells is the same.
-fn try_data(tally: &mut Tally<'_>, test: &Encoding, data: &Data, wanted: &str) -> io::Result<()> {
+fn try_data(tally: &mut Tally<'_>, test: &Value, data: &Data, wanted: &str) -> io::Result<()> {
     let alloc = tally.alloc();
     try_bytes(tally, test, "encoded", &to_vec(alloc, data), wanted)?;
     try_bytes(tally, test, "written", &written(alloc, data), wanted)?;
@@ -85,14 +74,19 @@ fn try_data(tally: &mut Tally<'_>, test: &Encoding, data: &Data, wanted: &str) -
     } else {
         "other data"
     };
-    tally.compare(test.name.as_str(), "told", told, "the same")
+    tally.compare(text(test, "name"), "told", told, "the same")
+}
+
+// The data of a test.
+fn data_in(alloc: Global, test: &Value) -> Option<Data> {
+    data_of(alloc, value(test, "value")?, MOST_DEEP)
 }
 
 /// Encodes a test's value, and compares its bytes, or the error, with those of the test.
-pub fn try_encoding(tally: &mut Tally<'_>, test: &Encoding) -> io::Result<()> {
+pub fn try_encoding(tally: &mut Tally<'_>, test: &Value) -> io::Result<()> {
     tally.begin();
-    let Some(data) = &data_of(tally.alloc(), &test.value, MOST_DEEP) else {
-        return tally.compare(test.name.as_str(), "value", "no value", "a value");
+    let Some(data) = &data_in(tally.alloc(), test) else {
+        return tally.compare(text(test, "name"), "value", "no value", "a value");
     };
     let wanted = wanted_text(tally.alloc(), test)?;
     try_data(tally, test, data, wanted.as_str())

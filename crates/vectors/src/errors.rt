@@ -5,7 +5,7 @@ use serde_json::Value;
 use std::alloc::{AllocError, Global};
 
 /// Whether the words of an error don't matter: of kind `SerdeError(Other)`, where none are wanted.
-pub fn has_any_words(wanted: &Option<Value>) -> bool {
+pub fn has_any_words(wanted: Option<&Value>) -> bool {
     match wanted {
         Some(error) => {
             matches!(error.get("kind"), Some(Value::String(kind)) if kind.as_str() == "SerdeError(Other)")

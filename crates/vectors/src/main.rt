@@ -18,33 +18,63 @@ mod values;
 
 use crate::decoding::try_decodings;
 use crate::encoding::try_encoding;
-use crate::file::File;
+use crate::file::{
+    DECODINGS, DIAGNOSTIC, ENCODING, FILE, JSON, MESSAGE, Member, NAMED, has_members, list, text,
+};
 use crate::messages::try_message;
 use crate::names::try_named;
 use crate::readings::{try_diagnostic, try_json};
 use crate::tally::Tally;
+use serde_json::Value;
 use std::process::ExitCode;
 use std::{env, fs, io};
 
+// The lists of a file, with the members of their tests.
+const LISTS: [(&str, &[Member]); 6] = [
+    ("messages", &MESSAGE),
+    ("diagnostics", &DIAGNOSTIC),
+    ("names", &NAMED),
+    ("jsons", &JSON),
+    ("decodings", &DECODINGS),
+    ("encodings", &ENCODING),
+];
+
+// Tries a test of a list.
+fn try_test(tally: &mut Tally<'_>, name: &str, test: &Value) -> io::Result<()> {
+    match name {
+        "messages" => try_message(tally, test),
+        "diagnostics" => try_diagnostic(tally, test),
+        "names" => try_named(tally, test),
+        "jsons" => try_json(tally, test),
+        "decodings" => try_decodings(tally, test),
+        _ => try_encoding(tally, test),
+    }
+}
+
+// Tries the tests of a list.
+fn try_list(
+    tally: &mut Tally<'_>,
+    name: &str,
+    members: &[Member],
+    tests: &[Value],
+) -> io::Result<()> {
+    for test in tests {
+        if has_members(members, test) {
+            try_test(tally, name, test)?;
+        } else {
+            tally.differs(text(test, "name"), name)?;
+        }
+    }
+    Ok(())
+}
+
 // Tries the tests of a file.
-fn try_all(tally: &mut Tally<'_>, file: &File) -> io::Result<()> {
-    for message in &file.messages {
-        try_message(tally, message)?;
+fn try_all(tally: &mut Tally<'_>, file: &Value) -> io::Result<()> {
+    if !has_members(&FILE, file) {
+        return tally.differs("the file", "file");
     }
-    for diagnostic in &file.diagnostics {
-        try_diagnostic(tally, diagnostic)?;
-    }
-    for named in &file.names {
-        try_named(tally, named)?;
-    }
-    for json in &file.jsons {
-        try_json(tally, json)?;
-    }
-    for decodings in &file.decodings {
-        try_decodings(tally, decodings)?;
-    }
-    for encoding in &file.encodings {
-        try_encoding(tally, encoding)?;
+    for (name, members) in &LISTS {
+        try_list(tally, name, members, list(file, name))?;
     }
     Ok(())
 }
@@ -52,7 +82,7 @@ fn try_all(tally: &mut Tally<'_>, file: &File) -> io::Result<()> {
 // Tries a file, and returns whether all is as it says.
 fn try_file(rt: &HostRuntime, path: &str) -> io::Result<bool> {
     let text = fs::read_to_string(rt, path)?;
-    let file: File = match serde_json::from_str(rt.alloc(), text.as_str()) {
+    let file = match Value::from_str(rt.alloc(), text.as_str()) {
         Ok(file) => file,
         Err(error) => {
             println!(rt; "{path}: {error}")?;

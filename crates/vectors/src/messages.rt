@@ -1,10 +1,11 @@
 //! Tries the bytes of messages: the first fault, the printed forms, and the bytes that JSON is read back as.
 
-use crate::file::{Message, Shown};
+use crate::file::{FAULT, SHOWN, flag, has_members, list, number_if, text, text_if, value};
 use crate::tally::Tally;
 use kmip_ttlv_items::{Fault, FaultKind, FoundItem, find_fault, walk_items};
 use kmip_ttlv_json::{Hiding, from_json, push_json};
 use kmip_ttlv_util::{CheckedError, LentTagMap, PrettyPrinter};
+use serde_json::Value;
 use std::alloc::{AllocError, Global};
 use std::collections::HashMap;
 use std::{io, str};
@@ -36,32 +37,45 @@ fn fault_text(alloc: Global, fault: Option<Fault>) -> Result<String, AllocError>
 }
 
 // The fault that is wanted, in words.
-fn wanted_fault(alloc: Global, message: &Message) -> Result<String, AllocError> {
-    match &message.fault {
-        Some(fault) => {
-            let kind = fault.kind.as_str();
-            let offset = fault.offset;
+fn wanted_fault(alloc: Global, message: &Value) -> Result<String, AllocError> {
+    let Some(fault) = value(message, "fault") else {
+        return String::from_str(alloc, "none");
+    };
+    match number_if(fault, "offset") {
+        Some(offset) if has_members(&FAULT, fault) => {
+            let kind = text(fault, "kind");
             format!(in alloc; "{kind} at {offset}")
         }
-        None => String::from_str(alloc, "none"),
+        _ => String::from_str(alloc, "a kind and an offset"),
     }
 }
 
+// Compares a fault.
+fn try_fault(
+    tally: &mut Tally<'_>,
+    test: &str,
+    what: &str,
+    fault: Option<Fault>,
+    wanted: &str,
+) -> io::Result<()> {
+    let found = fault_text(tally.alloc(), fault)?;
+    tally.compare(test, what, found.as_str(), wanted)
+}
+
 // Tries the first fault, by the check and by the walk over the items, and their number.
-fn try_walks(tally: &mut Tally<'_>, message: &Message, bytes: &[u8]) -> io::Result<()> {
+fn try_walks(tally: &mut Tally<'_>, message: &Value, bytes: &[u8]) -> io::Result<()> {
     let alloc = tally.alloc();
-    let test = message.name.as_str();
+    let test = text(message, "name");
     let wanted = wanted_fault(alloc, message)?;
-    let found = fault_text(alloc, find_fault(alloc, bytes)?)?;
-    tally.compare(test, "fault", found.as_str(), wanted.as_str())?;
+    let wanted = wanted.as_str();
+    try_fault(tally, test, "fault", find_fault(alloc, bytes)?, wanted)?;
     let mut none: [FoundItem; 0] = [];
     let end = walk_items(alloc, bytes, &mut none)?;
-    let walked = fault_text(alloc, end.fault)?;
-    tally.compare(test, "fault of the walk", walked.as_str(), wanted.as_str())?;
-    if let Some(items) = message.items {
-        tally.compare_number(test, "items", end.count as u64, items)?;
+    try_fault(tally, test, "fault of the walk", end.fault, wanted)?;
+    match number_if(message, "items") {
+        Some(items) => tally.compare_number(test, "items", end.count as u64, items),
+        None => Ok(()),
     }
-    Ok(())
 }
 
 // Tries each beginning of the bytes, without the last: it is cut, and its diagnostic ends so.
@@ -111,14 +125,14 @@ fn try_text(
     test: &str,
     closed: bool,
     bytes: &[u8],
-    wanted: &Option<String>,
+    wanted: Option<&str>,
 ) -> io::Result<()> {
     let what = if closed { "closed text" } else { "text" };
     let printer = printer_of(tally.alloc(), closed);
-    let text = printer.to_string(bytes)?;
-    tally.compare_if(test, what, text.as_str(), wanted)?;
+    let found = printer.to_string(bytes)?;
+    tally.compare_if(test, what, found.as_str(), wanted)?;
     let written = written_text(tally.alloc(), &printer, bytes)?;
-    tally.compare(test, "written text", written.as_str(), text.as_str())
+    tally.compare(test, "written text", written.as_str(), found.as_str())
 }
 
 // The diagnostic as it is written.
@@ -141,41 +155,69 @@ fn checked_text(
     }
 }
 
+// Tries a diagnostic in one string, and how many items are read for it.
+fn try_counted(
+    tally: &mut Tally<'_>,
+    test: &str,
+    shown: &Value,
+    printer: &PrettyPrinter,
+    bytes: &[u8],
+) -> io::Result<()> {
+    let (found, count) = printer.to_diag_counted(bytes)?;
+    let wanted = text(shown, "text");
+    tally.compare(test, "diagnostic", found.as_str(), wanted)?;
+    let read = number_if(shown, "read").unwrap_or(0);
+    tally.compare_number(test, "items of the diagnostic", count as u64, read)
+}
+
+// Tries a diagnostic that was made otherwise.
+fn try_made(
+    tally: &mut Tally<'_>,
+    test: &str,
+    what: &str,
+    found: String,
+    shown: &Value,
+) -> io::Result<()> {
+    tally.compare(test, what, found.as_str(), text(shown, "text"))
+}
+
+// A printer of a test's diagnostic.
+fn diagnostic_printer(alloc: Global, shown: &Value) -> Result<PrettyPrinter, AllocError> {
+    let mut printer = printer_of(alloc, flag(shown, "closed"));
+    printer.with_tag_prefix(String::from_str(alloc, text(shown, "prefix"))?);
+    Ok(printer)
+}
+
 // Tries a diagnostic.
 fn try_shown(
     tally: &mut Tally<'_>,
-    message: &Message,
-    shown: &Shown,
+    message: &Value,
+    shown: &Value,
     bytes: &[u8],
 ) -> io::Result<()> {
     let alloc = tally.alloc();
-    let test = message.name.as_str();
-    let mut printer = printer_of(alloc, shown.closed);
-    printer.with_tag_prefix(String::from_str(alloc, shown.prefix.as_str())?);
-    let (found, count) = printer.to_diag_counted(bytes)?;
-    tally.compare(test, "diagnostic", found.as_str(), shown.text.as_str())?;
-    tally.compare_number(test, "items of the diagnostic", count as u64, shown.read)?;
-    let written = written_diagnostic(alloc, &printer, bytes)?;
-    let what = "written diagnostic";
-    tally.compare(test, what, written.as_str(), shown.text.as_str())?;
-    if message.fault.is_some() {
+    let test = text(message, "name");
+    let printer = &diagnostic_printer(alloc, shown)?;
+    try_counted(tally, test, shown, printer, bytes)?;
+    let written = written_diagnostic(alloc, printer, bytes)?;
+    try_made(tally, test, "written diagnostic", written, shown)?;
+    if value(message, "fault").is_some() {
         return Ok(());
     }
-    let checked = checked_text(alloc, &printer, bytes)?;
-    let what = "checked diagnostic";
-    tally.compare(test, what, checked.as_str(), shown.text.as_str())
+    let checked = checked_text(alloc, printer, bytes)?;
+    try_made(tally, test, "checked diagnostic", checked, shown)
 }
 
 // Tries the fault that a checked diagnostic has, with empty structures closed and open.
-fn try_checked_faults(tally: &mut Tally<'_>, message: &Message, bytes: &[u8]) -> io::Result<()> {
-    if message.fault.is_none() {
+fn try_checked_faults(tally: &mut Tally<'_>, message: &Value, bytes: &[u8]) -> io::Result<()> {
+    if value(message, "fault").is_none() {
         return Ok(());
     }
     let alloc = tally.alloc();
     let wanted = wanted_fault(alloc, message)?;
     for closed in [false, true] {
         let found = checked_text(alloc, &printer_of(alloc, closed), bytes)?;
-        let test = message.name.as_str();
+        let test = text(message, "name");
         tally.compare(test, "checked fault", found.as_str(), wanted.as_str())?;
     }
     Ok(())
@@ -198,40 +240,60 @@ pub fn bytes_in(alloc: Global, json: &str) -> Result<String, AllocError> {
 }
 
 // Tries the printed forms.
-fn try_forms(tally: &mut Tally<'_>, message: &Message, bytes: &[u8]) -> io::Result<()> {
-    let test = message.name.as_str();
-    try_text(tally, test, false, bytes, &message.text)?;
-    try_text(tally, test, true, bytes, &message.closed_text)?;
+fn try_forms(tally: &mut Tally<'_>, message: &Value, bytes: &[u8]) -> io::Result<()> {
+    let test = text(message, "name");
+    try_text(tally, test, false, bytes, text_if(message, "text"))?;
+    let closed = text_if(message, "closed_text");
+    try_text(tally, test, true, bytes, closed)?;
     try_checked_faults(tally, message, bytes)?;
-    if message.cuts {
+    if flag(message, "cuts") {
         try_cuts(tally, test, bytes)?;
     }
-    for shown in &message.diagnostics {
-        try_shown(tally, message, shown, bytes)?;
+    for shown in list(message, "diagnostics") {
+        if has_members(&SHOWN, shown) {
+            try_shown(tally, message, shown, bytes)?;
+        } else {
+            tally.differs(test, "diagnostics")?;
+        }
     }
     Ok(())
+}
+
+// Tries the JSON with hidden values.
+fn try_hidden(tally: &mut Tally<'_>, message: &Value, bytes: &[u8]) -> io::Result<()> {
+    let json = json_of(tally.alloc(), Hiding::Values, bytes)?;
+    let wanted = text_if(message, "hidden_json");
+    tally.compare_if(text(message, "name"), "hidden JSON", json.as_str(), wanted)
+}
+
+// Tries the bytes that JSON is read back as.
+fn try_canonical(tally: &mut Tally<'_>, message: &Value, json: &str) -> io::Result<()> {
+    let Some(wanted) = text_if(message, "canonical") else {
+        return Ok(());
+    };
+    let found = bytes_in(tally.alloc(), json)?;
+    tally.compare(
+        text(message, "name"),
+        "canonical bytes",
+        found.as_str(),
+        wanted,
+    )
 }
 
 // Tries the JSON.
-fn try_jsons(tally: &mut Tally<'_>, message: &Message, bytes: &[u8]) -> io::Result<()> {
-    let alloc = tally.alloc();
-    let test = message.name.as_str();
-    let json = json_of(alloc, Hiding::Values, bytes)?;
-    tally.compare_if(test, "hidden JSON", json.as_str(), &message.hidden_json)?;
-    let json = json_of(alloc, Hiding::Nothing, bytes)?;
-    tally.compare_if(test, "JSON", json.as_str(), &message.json)?;
-    if let Some(wanted) = &message.canonical {
-        let found = bytes_in(alloc, json.as_str())?;
-        tally.compare(test, "canonical bytes", found.as_str(), wanted.as_str())?;
-    }
-    Ok(())
+fn try_jsons(tally: &mut Tally<'_>, message: &Value, bytes: &[u8]) -> io::Result<()> {
+    try_hidden(tally, message, bytes)?;
+    let json = json_of(tally.alloc(), Hiding::Nothing, bytes)?;
+    let wanted = text_if(message, "json");
+    tally.compare_if(text(message, "name"), "JSON", json.as_str(), wanted)?;
+    try_canonical(tally, message, json.as_str())
 }
 
 /// Walks over a test's message, prints it in each form, and compares what comes.
-pub fn try_message(tally: &mut Tally<'_>, message: &Message) -> io::Result<()> {
+pub fn try_message(tally: &mut Tally<'_>, message: &Value) -> io::Result<()> {
     tally.begin();
-    let Ok(bytes) = hex::decode(tally.alloc(), message.bytes.as_str()) else {
-        return tally.compare(message.name.as_str(), "bytes", "no digits", "digits");
+    let Ok(bytes) = hex::decode(tally.alloc(), text(message, "bytes")) else {
+        return tally.compare(text(message, "name"), "bytes", "no digits", "digits");
     };
     try_walks(tally, message, bytes.as_slice())?;
     try_forms(tally, message, bytes.as_slice())?;

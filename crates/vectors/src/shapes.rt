@@ -22,9 +22,17 @@ fn leaf_of(name: &str) -> Option<Shape> {
 }
 
 // A shape in a box.
+fn in_box(alloc: Global, shape: Shape) -> Option<Box<Shape>> {
+    Box::new(alloc, shape).ok()
+}
+
+// The shape that JSON is, in a box.
 #[cycle(shapes)]
 fn boxed(alloc: Global, json: &Value, depth: u32) -> Option<Box<Shape>> {
-    Box::new(alloc, shape_of(alloc, json, depth)?).ok()
+    match shape_of(alloc, json, depth) {
+        Some(shape) => in_box(alloc, shape),
+        None => None,
+    }
 }
 
 // The shapes of a tuple.

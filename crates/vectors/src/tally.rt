@@ -69,12 +69,22 @@ impl<'r> Tally<'r> {
         test: &str,
         what: &str,
         found: &str,
-        wanted: &Option<String>,
+        wanted: Option<&str>,
     ) -> io::Result<()> {
         match wanted {
-            Some(wanted) => self.compare(test, what, found, wanted.as_str()),
+            Some(wanted) => self.compare(test, what, found, wanted),
             None => Ok(()),
         }
+    }
+
+    /// Counts and prints a value that is no object of the members that it should have.
+    pub fn differs(&mut self, test: &str, what: &str) -> io::Result<()> {
+        self.compare(
+            test,
+            what,
+            "other members",
+            "the members of docs/VECTORS.md",
+        )
     }
 
     /// Prints the counts, and returns whether nothing differs.

@@ -7,10 +7,18 @@ use std::alloc::{AllocError, Global};
 /// How deep JSON is read: no file is read that is deeper.
 pub const MOST_DEEP: u32 = 127;
 
+// Bytes for as long as the program runs.
+fn lasting_bytes(alloc: Global, bytes: &[u8]) -> Result<&'static [u8], AllocError> {
+    let lasting = Vec::from_slice(alloc, bytes)?;
+    Ok(lasting.leak())
+}
+
 /// A name for as long as the program runs, as shapes and data have it.
 pub fn lasting(alloc: Global, name: &str) -> Result<&'static str, AllocError> {
-    let bytes: &'static [u8] = Vec::from_slice(alloc, name.as_bytes())?.leak();
-    Ok(str::from_utf8(bytes).unwrap_or("no text"))
+    match str::from_utf8(lasting_bytes(alloc, name.as_bytes())?) {
+        Ok(text) => Ok(text),
+        Err(_) => Ok("no text"),
+    }
 }
 
 /// The only member of an object: its name and its value.
@@ -41,19 +49,34 @@ pub fn pair(json: &Value) -> Option<(&str, &Value)> {
     }
 }
 
+// A number without a sign that is data, if it is one.
+fn unsigned_of(kind: &str, number: u64) -> Option<Data> {
+    match kind {
+        "enumeration" => Some(Data::U32(u32::try_from(number).ok()?)),
+        "interval" => Some(Data::Interval(u32::try_from(number).ok()?)),
+        "date_time_bits" => Some(Data::U64(number)),
+        _ => None,
+    }
+}
+
+// A number with a sign that is data, if it is one.
+fn signed_of(kind: &str, number: i64) -> Option<Data> {
+    match kind {
+        "integer_8" => Some(Data::I8(i8::try_from(number).ok()?)),
+        "integer_16" => Some(Data::I16(i16::try_from(number).ok()?)),
+        "integer" => Some(Data::I32(i32::try_from(number).ok()?)),
+        "long_integer" => Some(Data::I64(number)),
+        "date_time" => Some(Data::DateTime(number)),
+        _ => None,
+    }
+}
+
 // A number that is data, if it is one.
 fn number_of(kind: &str, json: &Value) -> Option<Data> {
     match kind {
         "boolean" => Some(Data::Bool(json.as_bool()?)),
-        "integer_8" => Some(Data::I8(i8::try_from(json.as_i64()?).ok()?)),
-        "integer_16" => Some(Data::I16(i16::try_from(json.as_i64()?).ok()?)),
-        "integer" => Some(Data::I32(i32::try_from(json.as_i64()?).ok()?)),
-        "enumeration" => Some(Data::U32(u32::try_from(json.as_u64()?).ok()?)),
-        "long_integer" => Some(Data::I64(json.as_i64()?)),
-        "date_time_bits" => Some(Data::U64(json.as_u64()?)),
-        "date_time" => Some(Data::DateTime(json.as_i64()?)),
-        "interval" => Some(Data::Interval(u32::try_from(json.as_u64()?).ok()?)),
-        _ => None,
+        "enumeration" | "interval" | "date_time_bits" => unsigned_of(kind, json.as_u64()?),
+        _ => signed_of(kind, json.as_i64()?),
     }
 }
 
@@ -78,10 +101,18 @@ fn all_of(alloc: Global, json: &Value, depth: u32) -> Option<Vec<Data>> {
     Some(all)
 }
 
+// Data in a box.
+fn in_box(alloc: Global, data: Data) -> Option<Box<Data>> {
+    Box::new(alloc, data).ok()
+}
+
 // The data that a value is, in a box.
 #[cycle(data)]
 fn boxed(alloc: Global, json: &Value, depth: u32) -> Option<Box<Data>> {
-    Box::new(alloc, data_of(alloc, json, depth)?).ok()
+    match data_of(alloc, json, depth) {
+        Some(data) => in_box(alloc, data),
+        None => None,
+    }
 }
 
 // The data of a variant: of a value, or of a list of them.
