@@ -1,0 +1,6 @@
+pub mod Options
+pub mod Walking
+pub mod Streaming
+pub mod Splitting
+pub mod Carrying
+pub mod Orders

@@ -1,0 +1,7 @@
+pub mod Numbers
+pub mod Frames
+pub mod Files
+pub mod Streams
+pub mod Messages
+pub mod Orders
+pub mod Captures
