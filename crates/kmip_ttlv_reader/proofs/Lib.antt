@@ -19,4 +19,4 @@ pub mod Alone
 pub mod Cuts
 pub mod ChosenLemmas
 mod StoredRows
-mod PartLemmas
+pub mod PartLemmas

@@ -1,6 +1,9 @@
 -- What a rule says by its parts.
 use Rattle.std.proofs.Common.{◌≡◌, ℕ, List, [], ◌∷◌, map, Bool, true, false, cond, ◌||◌, Option, Some, None, option_map, option_and_then, refl, sym, ap, ◌∙◌}
-use Rattle.std.proofs.Common.{◌==◌, codes, rules}
+use Rattle.std.proofs.Common.{◌==◌, codes, rules, arith, ◌<◌, ◌≤◌, length, get_or, position, ltb, ◌+◌}
+use Rattle.std.specs.{List.position_or_len, Option.option_copied}
+use Rattle.std.proofs.lemmas.List.Sums.{position_or_len_is}
+use Rattle.std.proofs.lemmas.Bool.{le-ltb, lt-ltb, ltb-false, ltb-true}
 use Rattle.std.specs.{Borrow.Bor, List.list_any, List.slice_split}
 use Rattle.std.specs.Str.{bytes_eq, trim, trim_end, trim_start, chars}
 use lib.Utf8.{encode}
@@ -108,6 +111,11 @@ rule_in_parts : (ks : List TagValue) (typ : TtlvType) (name : List ℕ) (p : ℕ
     → rule name ks typ ≡ texts_verdict p.0 p.1 ks
 rule_in_parts ks typ name p e = rule_by_name ks typ name p (sym (computed name) ∙ e)
 
+-- the same by what was kept last under the tag
+pub said_by_texts : (ks : List TagValue) (typ : TtlvType) (name : List ℕ) (t : ℕ) (texts : List (List ℕ)) → parts_of name ≡ Some (t, texts)
+    → rule name ks typ ≡ plain_verdict (is_stored t texts ks)
+said_by_texts ks typ name t texts are = rule_in_parts ks typ name (t, texts) are ∙ as_stored t texts ks
+
 -- whether the last text is one of some texts
 pub is_wanted : (ks : List TagValue) (t : ℕ) (texts : List (Bor (List ℕ))) (text : List ℕ) → Some text ≡ last ks t
     → list_any (λ one. bytes_eq text one.now) texts ≡ is_stored t (texts_of texts) ks
@@ -116,6 +124,54 @@ is_wanted ks t texts text stored = seen texts ∙ ap (is_one_of (texts_of texts)
     seen : (xs : List (Bor (List ℕ))) → list_any (λ one. bytes_eq text one.now) xs ≡ list_any (bytes_eq text) (texts_of xs)
     seen [] = refl
     seen (x ∷ xs) = ap (λ b. bytes_eq text x.now || b) (seen xs)
+
+found_is : (ks : List TagValue) (t asked : ℕ) (found o : Option (Bor (List ℕ))) → asked ≡ t → found ≡ o → option_copied found ≡ last ks t
+    → option_copied o ≡ last ks asked
+found_is ks t asked found o at there stored = ap option_copied (sym there) ∙ stored ∙ ap (last ks) (sym at)
+
+-- a rule that asks for the text of a tag holds if what was found under it is one of its texts
+pub held_by_found : (ks : List TagValue) (typ : TtlvType) (rule : RuleParts) (t asked : ℕ) (texts : Bor (List (Bor (List ℕ))))
+    (found : Option (Bor (List ℕ))) (text : Bor (List ℕ)) → rule ≡ parts.Texts asked texts
+    → asked ≡ t
+    → found ≡ Some text
+    → option_copied found ≡ last ks t
+    → list_any (λ one. bytes_eq text.now one.now) texts.now ≡ holds rule ks typ
+held_by_found ks typ rule t asked texts found text is at there stored =
+    is_wanted ks asked texts.now text.now (found_is ks t asked found (Some text) at there stored) ∙ ap (λ r. holds r ks typ) (sym is)
+
+-- and not if there is none
+pub not_held : (ks : List TagValue) (typ : TtlvType) (rule : RuleParts) (t asked : ℕ) (texts : Bor (List (Bor (List ℕ))))
+    (found : Option (Bor (List ℕ))) → rule ≡ parts.Texts asked texts
+    → asked ≡ t
+    → found ≡ None
+    → option_copied found ≡ last ks t
+    → false ≡ holds rule ks typ
+not_held ks typ rule t asked texts found is at there stored =
+    ap (is_one_of (texts_of texts.now)) (found_is ks t asked found None at there stored) ∙ ap (λ r. holds r ks typ) (sym is)
+
+-- the first place at which a test passes, and that it passes nowhere
+pub first_place : {X : Type 0} (f : X → Bool) (xs : List X) (at : ℕ) (d : X) → at < length xs → ((k : ℕ) → k < at → f (get_or xs k d) ≡ false)
+    → f (get_or xs at d) ≡ true
+    → Some at ≡ position f xs
+first_place f xs at d within passed here =
+    let is : position_or_len f xs ≡ at = position_or_len_is f xs at d (omega (arith, within)) passed (λ _. here) in
+    rw (is, lt-ltb at (length xs) within) refl
+
+pub no_place : {X : Type 0} (f : X → Bool) (xs : List X) (at : ℕ) (d : X) → at ≤ length xs → length xs ≤ at
+    → ((k : ℕ) → k < at → f (get_or xs k d) ≡ false)
+    → None ≡ position f xs
+no_place f xs at d within over passed =
+    let is : position_or_len f xs ≡ at = position_or_len_is f xs at d within passed (λ below. absurd (omega (arith, below, over))) in
+    rw (is, le-ltb at (length xs) over) refl
+
+pub passed_more : {X : Type 0} (f : X → Bool) (xs : List X) (at : ℕ) (d : X) → ((k : ℕ) → k < at → f (get_or xs k d) ≡ false)
+    → f (get_or xs at d) ≡ false
+    → (k : ℕ) → k < at + 1 → f (get_or xs k d) ≡ false
+passed_more f xs at d passed here k below = by (ltb k at) refl
+  where
+    by : (b : Bool) → ltb k at ≡ b → f (get_or xs k d) ≡ false
+    by true less = passed k (ltb-true k at less)
+    by false not_less = let same : k ≡ at = omega (arith, below, ltb-false k at not_less) in ap (λ n. f (get_or xs n d)) same ∙ here
 
 sides_computed : (name : List ℕ) → equal_sides name ≡ option_and_then (sides (codes "==")) (after_prefix (codes "if ") name)
 unfolding equal_sides sides trim_end trim_start chars encode

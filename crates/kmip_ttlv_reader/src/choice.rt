@@ -23,7 +23,26 @@ pub fn first_that_holds<'b, A: Allocator + Copy>(
 ) -> Option<usize>
     ensures { result ≡ position (λ rule. holds rule stored.now typ) rules.now }
 {
-    rules.iter().position(|rule| parts_hold(*rule, stored, typ))
+    let Some(RuleParts::Texts { tag, .. }) = rules.first() else {
+        return rules.iter().position(|rule| parts_hold(*rule, stored, typ));
+    };
+    // most rules of a choice ask for a text of one tag, which is looked up once
+    let found = stored.last_under(*tag);
+    let mut at = 0;
+    while at < rules.len() {
+        let holds = match rules[at] {
+            RuleParts::Texts { tag: asked, texts } if asked == *tag => match found {
+                Some(text) => crate::rules::is_among(text, texts),
+                None => false,
+            },
+            rule => parts_hold(rule, stored, typ),
+        };
+        if holds {
+            return Some(at);
+        }
+        at += 1;
+    }
+    None
 }
 
 /// What is read where no rule holds and no number names a variant: an error, of an item that is no number, or of a number.

@@ -106,7 +106,7 @@ pub fn parts_hold<'b, A: Allocator + Copy>(
 {
     match parts {
         RuleParts::Texts { tag, texts } => is_stored(tag, texts, stored),
-        RuleParts::Type(asked) => type_name(asked) == type_name(typ),
+        RuleParts::Type(asked) => asked == typ,
     }
 }
 
