@@ -28,8 +28,8 @@ SPEC_NAMES = {
     "lib.Utf8": "encode",
     "Rattle.kmip_ttlv_kinds.specs.Choices": "Case ChoiceOf Held HeldChoice Meaning TypedCase as_choice as_item case_of case_within choice_by choice_by_type typed_case",
     "Rattle.kmip_ttlv_parts.proofs.Equal": "apart in_variant",
-    "Rattle.kmip_ttlv_parts.proofs.MessageRules": "not_first",
-    "Rattle.kmip_ttlv_parts.specs.Agreements": "first_variant later_variant",
+    "Rattle.kmip_ttlv_parts.proofs.ChoiceTexts": "BeginsBy chosen_by_others chosen_by_text is_there",
+    "Rattle.kmip_ttlv_parts.specs.RuleParts": "parts_of",
     "Rattle.kmip_ttlv_parts.specs.Forms": "Variants enum no_variants variant wrapped",
     "Rattle.kmip_ttlv_parts.specs.MessageParts": "there",
     "Rattle.kmip_ttlv_parts.specs.Names": "number tag_of",
@@ -90,7 +90,8 @@ def names_of(t):
         names += [f"{t.name}{word}" for word in ("Cases", "Items")] + [f"{t.snake}_{word}" for word in ("variants", "cases", "case", "by", "same", "choice")]
         names += [f"{t.snake}_chosen_by"] if t.is_by_numbers else [f"Chooses{t.name}"] if t.rule_tag else []
         names += [f"{t.snake}_typ"] if t.has_heads else []
-        names += [f"{t.snake}_names", f"{t.snake}_unnamed", f"{t.screaming}_NAMES", f"is_no_{t.snake}"] if t.is_mixed else []
+        names += [f"{t.snake}_names", f"{t.screaming}_NAMES", f"is_no_{t.snake}"] if t.is_mixed else []
+        names += [f"{t.snake}_texts", f"{t.snake}_begins"] if t.rule_tag else []
         names += [f"{t.screaming}_RULES"]
     return names
 
@@ -226,11 +227,6 @@ NOT_TOLD = """
 -- of an error nothing is told
 not_told : {T E : Type 0} (P : Type 0) (r : Result T E) (e : E) → r ≡ Err e → OnOk r P
 not_told P r e is = subst (λ x. OnOk x P) (sym is) tt
-
-pub returns-in_err-four-clause-told : goal.returns-in_err-four-clause-told
-returns-in_err-four-clause-told g c =
-    let p = err_from_is_err_and c.from_residual.result c.from_residual.ensures.1 in
-    not_told _ c.from_residual.result p.0 p.1
 """
 
 
@@ -695,8 +691,13 @@ class Writer:
         if t.choices or t.one_ofs or t.keeps_rest:
             told = f"(g.W.Walk.steps.checked _ _ _ _ _ {told} c.check.ensures)"
         imports, rows = [], ""
-        if counts == {"four": 1} and any(found.part.type.names_numbers and found.part.type.typed for found in t.choices):
+        if "four" in counts and any(found.part.type.names_numbers and found.part.type.typed for found in t.choices):
             imports, rows = NOT_TOLD_USES, NOT_TOLD  # which the search doesn't find
+            for at, call in enumerate(calls):
+                name = call.removeprefix("c.in_ok-").removesuffix(".ensures.told")
+                residual = f"c.from_residual-in_err-{name}" if at else "c.from_residual"
+                rows += f"\npub returns-in_err-{name}-clause-told : goal.returns-in_err-{name}-clause-told\nreturns-in_err-{name}-clause-told g c =\n"
+                rows += f"    let p = err_from_is_err_and {residual}.result {residual}.ensures.1 in\n    not_told _ {residual}.result p.0 p.1\n"
         rows += f"\npub returns-clause-told : goal.returns-clause-told\nreturns-clause-told g c = {told[1:-1]}\n"
         return self.answers(t, "Structure", "tell_parts", imports, rows)
 
@@ -777,23 +778,22 @@ class Writer:
         out.append(f"abbrev pub {name}_cases : {eq} → {items} → {t.name}Cases{A}\n{name}_cases i = record {{\n{meanings}}}\n")
         means = f"{name}_by ({name}_cases i)"
         unfold = "unfolding tag_of number rule sides equal at_least member in_brackets trim_end chars trim_start encode"
-        out += self.unnamed(t, eq, items, name, unfold)
+        out += self.begins(t, eq, items, name)
         proved = ""
         for nth, v in enumerate(t.variants):
-            at_place = "(later_variant " * nth + "first_variant" + ")" * nth
+            at_place = f"(is_there _ {nth} refl)"
             call = "case_within" if v.inner else "case_of" if t.rule_tag else "typed_case"
-            picks = "(λ k. refl)" if not t.rule_tag else f"(λ said chooses k found. {self.picked(v.rule_parts[1] if v.rule_parts else ())})"
-            if t.is_mixed and v in t.typed:
-                picks = f"(λ said none k found. {name}_unnamed i said k types.{v.typ} {nth - len(t.named)} none found refl)"
+            picks = "(λ k. refl)"
+            if t.rule_tag:
+                picks = f"(λ said chooses. {self.picked(name, v)})" if v in t.named else f"(λ said none. chosen_by_others types.{v.typ} ({name}_begins i) none)"
             proved += f"{name}_case i {cases[nth]} = {call} i.{snake(v.name)} {held(v)} {at_place} {picks}\n"
         typ = self.typ(t)("x")
         head = f"Case 0x{t.tag} 0x{t.rule_tag} {typ}" if t.rule_tag else f"TypedCase 0x{t.tag} {typ}"
         relation = f"(λ said x. said ≡ text_of_number ({name}_chosen_by x))" if t.is_by_numbers else f"Chooses{t.name}"
         said = f"said ≡ text_of_number ({name}_chosen_by x)" if t.is_by_numbers else f"Chooses{t.name} said x"
         chooses = f" (λ said. {said})" if t.rule_tag else ""
-        out.append(
-            f"pub {name}_case : {eq} (i : {items}) (x : {of})\n    → {head} (enum ({own}) ({name}_variants i)){chooses} ({means} x)\n{unfold} {name}_by\n{proved}"
-        )
+        unfold = f"{unfold} {name}_by" if t.typed or not t.rule_tag else f"unfolding {name}_by"
+        out.append(f"pub {name}_case : {eq} (i : {items}) (x : {of})\n    → {head} (enum ({own}) ({name}_variants i)){chooses} ({means} x)\n{unfold}\n{proved}")
         proved = "".join(
             f"{name}_same i {case} {case.replace(' x)', ' y)')} e = i.{snake(v.name)}.same {held(v)} {held(v).replace('x', 'y') if held(v) == 'x' else held(v)} (i.{snake(v.name)}.rules.same {held(v)} {held(v).replace('x', 'y') if held(v) == 'x' else held(v)} (in_variant e))\n"
             for case, v in zip(cases, t.variants)
@@ -809,11 +809,12 @@ class Writer:
         )
         return "".join("\n" + one for one in out)
 
-    def picked(self, texts):
-        """That a variant is the first whose rule holds, where what is said is one of these texts."""
+    def picked(self, name, v):
+        """That a variant is the first whose rule holds, where what is said is one of its texts."""
+        texts, by_text = v.rule_parts[1], f"chosen_by_text types.{v.typ} ({name}_begins i) {{}} refl"
         if len(texts) < 2:
-            return "rw (found ∙ ap Some chooses) refl"
-        *others, last = [f'(λ (e : said ≡ codes "{text}"). rw (found ∙ ap Some e) refl)' for text in texts]
+            return by_text.format("chooses")
+        *others, last = [f'(λ (e : said ≡ codes "{text}"). {by_text.format("e")})' for text in texts]
         for one in reversed(others):
             last = f"(⊎_elim {one} {last})"
         return f"{last[1:-1]} chooses"
@@ -854,21 +855,19 @@ class Writer:
             return f"HeldChoice 0x{t.tag} 0x{t.rule_tag} types.{v.typ} Chooses{v.type.name} {into} eq"
         return f"Held 0x{t.tag} types.{v.typ} {into} eq"
 
-    def unnamed(self, t, eq, items, name, unfold):
-        """That a type chooses where what is said is none of the names."""
-        if not t.is_mixed:
+    def begins(self, t, eq, items, name):
+        """The texts that its first rules ask for, in their order."""
+        if not t.rule_tag:
             return []
-        forms = [f'variant (codes "{v.rule}") (wrapped i.{snake(v.name)}.form)' for v in t.typed]
-        typed = "(" + " (".join(forms) + " no_variants" + ")" * len(forms)
-        lets = ""
-        for place in range(len(t.named)):
-            texts = [f'codes "{v.rule_parts[1][0]}"' for v in t.named[place:]]
-            lets += f"    let n{place} = not_first said ({texts[0]}) ({''.join(f'{one} ∷ ' for one in texts[1:])}[]) {f'n{place - 1}.1' if place else 'none'} in\n"
-        past, end = "past 1 (" * len(t.named), ")" * len(t.named)
+        asked = lambda v: "".join(f'codes "{text}" ∷ ' for text in v.rule_parts[1])
+        texts = "".join(f"    ({asked(v)}[]) ∷\n" for v in t.named)
+        forms = [f'variant (codes "{v.rule}") (wrapped i.{snake(v.name)}.form) ' for v in t.typed]
+        others = "(" + "(".join(forms) + "no_variants" + ")" * len(forms) if forms else "no_variants"
+        each = "(refl, " * len(t.named) + "refl" + ")" * len(t.named)
         return [
-            f"-- where what is said is none of the names, the type of the item chooses\n{name}_unnamed : {eq} (i : {items}) (said : List ℕ) (k : List TagValue) (typ : TtlvType) (n : ℕ)\n"
-            f"    → IsNoneOf said {name}_names → last k 0x{t.rule_tag} ≡ Some said\n    → choice {typed} k typ ≡ chosen n\n    → choice ({name}_variants i) k typ ≡ {past}chosen n{end}\n"
-            f"{unfold}\n{name}_unnamed i said k typ n none found e =\n{lets}    rw (found, {', '.join(f'n{place}.0' for place in range(len(t.named)))})\n    (ap (λ c. {past}c{end}) e)\n"
+            f"-- the texts of {t.rule_tag} that its rules ask for\nabbrev pub {name}_texts : List (List (List ℕ))\n{name}_texts =\n{texts}    []\n",
+            f"{name}_begins : {eq} (i : {items}) → BeginsBy 0x{t.rule_tag} {name}_texts ({name}_variants i) {others}\n"
+            f"unfolding parts_of\n{name}_begins i = record {{ all = {each} }}\n",
         ]
 
     def relation_of(self, t, one):

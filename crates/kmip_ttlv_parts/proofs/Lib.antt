@@ -7,6 +7,7 @@ pub mod Known
 pub mod TagNumbers
 pub mod MessageParts
 pub mod MessageRules
+pub mod ChoiceTexts
 pub mod Lacking
 pub mod Canonical
 pub mod DataTexts

@@ -1,9 +1,9 @@
 -- Parts of messages that a rule chooses by the texts that were kept before, and parts that are kept for such rules.
 use Rattle.std.proofs.Common.{◌≡◌, ◌<◌, ◌^◌, subst, ℕ, Bool as Boole, true, false, List, [], ◌++◌, ◌∷◌, Some, None, Option, option_map, map, length, refl, sym}
 use Rattle.std.proofs.Common.{◌∙◌, ◌==◌, arith}
-use Rattle.std.specs.{Option.IsSomeAnd, List.AllByRecursion, Str.bytes_eq, Str.is_utf8}
+use Rattle.std.specs.{Option.IsSomeAnd, List.AllByRecursion, Str.is_utf8}
 use Rattle.std.specs.Prelude.{All, IfSome, ◌||◌, not}
-use Rattle.std.proofs.lemmas.{List.Elements.recursion_from_All, Bool.and_parts, Bool.or_parts, Option.none-some}
+use Rattle.std.proofs.lemmas.{List.Elements.recursion_from_All, Bool.and_parts, Option.none-some}
 use Rattle.kmip_ttlv_types.specs.declared.typ.TtlvType.TheVariants.{Structure, Enumeration, TextString}
 use Rattle.kmip_ttlv_types.specs.{declared.typ.TtlvType.TtlvType, Digits.tag_text, Names.number, Names.transparent_name}
 use Rattle.kmip_ttlv_base.specs.Forms.{Form, any_number, option, seq, text as text_form, struct, enum, wrapped, Fields, field, Variants}
@@ -17,7 +17,7 @@ use Rattle.kmip_ttlv_reader.specs.{TagValues.TagValue, TagValues.last, Reads.is_
 use Rattle.kmip_ttlv_parts.specs.Agreements.{Head, Agrees, HasVariant, RunAgrees, Wraps, absent_agrees, field_agrees, inner_agrees, is_alike, is_field_of}
 use Rattle.kmip_ttlv_parts.specs.Agreements.{is_run, last_agrees, leaf_agrees, leaf_type, newtype_agrees, newtype_encodes, newtype_wraps, next_agrees}
 use Rattle.kmip_ttlv_parts.specs.Agreements.{nothing_agrees, option_agrees, rule_agrees, seq_agrees, struct_agrees, struct_encodes, unit_is_numbered}
-use Rattle.kmip_ttlv_parts.specs.Returns.{ComesBack, IsNoneOf, as_number, as_text, NamesUnit, text_of_number}
+use Rattle.kmip_ttlv_parts.specs.Returns.{ComesBack, as_number, as_text, NamesUnit, text_of_number}
 use Rattle.kmip_ttlv_parts.proofs.Known.{Known, finds_stored, finds_left, finds_less, finds_unknown, is_without, left, said, spared, spares}
 use Rattle.kmip_ttlv_parts.proofs.MessageParts.{IsUnit, PartAgrees, PartsAgree, ends, first_of, head_or, run_ends, unit_agrees, unlike, unwrapped_unit}
 use Rattle.kmip_ttlv_parts.proofs.TagNumbers.{IsTag, in_its_field, is_tagged, named_is_tagged, takes_overriding, takes_tag}
@@ -101,10 +101,6 @@ if_any None = tt
 if_any (Some t) = tt
 
 -- ---- what is chosen
-
--- a text that is none of some is not the first of them, and none of the others
-pub not_first : (said other : List ℕ) (others : List (List ℕ)) → IsNoneOf said (other ∷ others) → (bytes_eq said other ≡ false) × IsNoneOf said others
-not_first said other others none = or_parts (bytes_eq said other) _ none
 
 -- where this text was kept last under a tag, the value agrees with the form as the other
 pub record PartAfter (tag : ℕ) (text : List ℕ) (s : Form) (w : Value) (x : Head) (v : Value) : Type 0 where
