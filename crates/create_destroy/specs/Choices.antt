@@ -1,16 +1,13 @@
 -- Written by codegen from types.table: change that, and run codegen/codegen.
 -- Which rules choose what, and what is there of what may be.
-use Rattle.std.proofs.Common.{ap, refl, true, ◌∙◌}
+use Rattle.std.proofs.Common.{refl, true}
 use Rattle.std.proofs.Math.Logic.{⊎_elim}
-use Rattle.std.specs.Prelude.{List, Some, codes, ℕ, ◌≡◌, ◌⊎◌}
-use Rattle.std.specs.Str.{chars, trim_end, trim_start}
-use lib.Utf8.{encode}
+use Rattle.std.specs.Prelude.{List, codes, ℕ, ◌≡◌, ◌⊎◌, [], ◌∷◌}
 use Rattle.kmip_ttlv_kinds.specs.Choices.{Case, ChoiceOf, Held, Meaning, as_item, case_of, choice_by}
 use Rattle.kmip_ttlv_parts.proofs.Equal.{apart, in_variant}
-use Rattle.kmip_ttlv_parts.specs.Agreements.{first_variant, later_variant}
+use Rattle.kmip_ttlv_parts.proofs.ChoiceTexts.{BeginsBy, chosen_by_text, is_there}
+use Rattle.kmip_ttlv_parts.specs.RuleParts.{parts_of}
 use Rattle.kmip_ttlv_parts.specs.Forms.{Variants, enum, no_variants, variant, wrapped}
-use Rattle.kmip_ttlv_parts.specs.Names.{number, tag_of}
-use Rattle.kmip_ttlv_parts.specs.Rules.{at_least, equal, in_brackets, member, rule, sides}
 use Rattle.std.proofs.Common.{Bool as Boole}
 use Rattle.kmip_ttlv_parts.specs.declared.types.TtlvType.{TtlvType}
 use Rattle.kmip_ttlv_parts.specs.declared.types.TtlvType.TheVariants as types
@@ -64,11 +61,22 @@ attribute_value_cases i = record {
   integer = as_item (codes "value") (codes "if 0x42000A in [Cryptographic Length, Cryptographic Usage Mask]") i.integer;
 }
 
+-- the texts of 42000A that its rules ask for
+abbrev pub attribute_value_texts : List (List (List ℕ))
+attribute_value_texts =
+    (codes "Cryptographic Algorithm" ∷ []) ∷
+    (codes "Cryptographic Length" ∷ codes "Cryptographic Usage Mask" ∷ []) ∷
+    []
+
+attribute_value_begins : {eq : AttributeValue → AttributeValue → Boole} (i : AttributeValueItems eq) → BeginsBy 0x42000A attribute_value_texts (attribute_value_variants i) no_variants
+unfolding parts_of
+attribute_value_begins i = record { all = (refl, (refl, refl)) }
+
 pub attribute_value_case : {eq : AttributeValue → AttributeValue → Boole} (i : AttributeValueItems eq) (x : AttributeValue)
     → Case 0x42000B 0x42000A (attribute_value_typ x) (enum (codes "value") (attribute_value_variants i)) (λ said. ChoosesAttributeValue said x) (attribute_value_by (attribute_value_cases i) x)
-unfolding tag_of number rule sides equal at_least member in_brackets trim_end chars trim_start encode attribute_value_by
-attribute_value_case i attribute_value.Aes = case_of i.aes attribute_value_aes.Only first_variant (λ said chooses k found. rw (found ∙ ap Some chooses) refl)
-attribute_value_case i (attribute_value.Integer x) = case_of i.integer x (later_variant first_variant) (λ said chooses k found. ⊎_elim (λ (e : said ≡ codes "Cryptographic Length"). rw (found ∙ ap Some e) refl) (λ (e : said ≡ codes "Cryptographic Usage Mask"). rw (found ∙ ap Some e) refl) chooses)
+unfolding attribute_value_by
+attribute_value_case i attribute_value.Aes = case_of i.aes attribute_value_aes.Only (is_there _ 0 refl) (λ said chooses. chosen_by_text types.Enumeration (attribute_value_begins i) chooses refl)
+attribute_value_case i (attribute_value.Integer x) = case_of i.integer x (is_there _ 1 refl) (λ said chooses. ⊎_elim (λ (e : said ≡ codes "Cryptographic Length"). chosen_by_text types.Integer (attribute_value_begins i) e refl) (λ (e : said ≡ codes "Cryptographic Usage Mask"). chosen_by_text types.Integer (attribute_value_begins i) e refl) chooses)
 
 pub attribute_value_same : {eq : AttributeValue → AttributeValue → Boole} (i : AttributeValueItems eq) (x y : AttributeValue)
     → (attribute_value_by (attribute_value_cases i) x).value ≡ (attribute_value_by (attribute_value_cases i) y).value
@@ -114,11 +122,22 @@ request_payload_cases i = record {
   destroy = as_item (codes "payload") (codes "if 0x42005C==0x00000014") i.destroy;
 }
 
+-- the texts of 42005C that its rules ask for
+abbrev pub request_payload_texts : List (List (List ℕ))
+request_payload_texts =
+    (codes "0x00000001" ∷ []) ∷
+    (codes "0x00000014" ∷ []) ∷
+    []
+
+request_payload_begins : {A : Type 0} {eq : RequestPayload A → RequestPayload A → Boole} (i : RequestPayloadItems A eq) → BeginsBy 0x42005C request_payload_texts (request_payload_variants i) no_variants
+unfolding parts_of
+request_payload_begins i = record { all = (refl, (refl, refl)) }
+
 pub request_payload_case : {A : Type 0} {eq : RequestPayload A → RequestPayload A → Boole} (i : RequestPayloadItems A eq) (x : RequestPayload A)
     → Case 0x420079 0x42005C types.Structure (enum (codes "payload") (request_payload_variants i)) (λ said. ChoosesRequestPayload said x) (request_payload_by (request_payload_cases i) x)
-unfolding tag_of number rule sides equal at_least member in_brackets trim_end chars trim_start encode request_payload_by
-request_payload_case i (request_payload.Create x) = case_of i.create x first_variant (λ said chooses k found. rw (found ∙ ap Some chooses) refl)
-request_payload_case i (request_payload.Destroy x) = case_of i.destroy x (later_variant first_variant) (λ said chooses k found. rw (found ∙ ap Some chooses) refl)
+unfolding request_payload_by
+request_payload_case i (request_payload.Create x) = case_of i.create x (is_there _ 0 refl) (λ said chooses. chosen_by_text types.Structure (request_payload_begins i) chooses refl)
+request_payload_case i (request_payload.Destroy x) = case_of i.destroy x (is_there _ 1 refl) (λ said chooses. chosen_by_text types.Structure (request_payload_begins i) chooses refl)
 
 pub request_payload_same : {A : Type 0} {eq : RequestPayload A → RequestPayload A → Boole} (i : RequestPayloadItems A eq) (x y : RequestPayload A)
     → (request_payload_by (request_payload_cases i) x).value ≡ (request_payload_by (request_payload_cases i) y).value
@@ -164,11 +183,22 @@ response_payload_cases i = record {
   destroy = as_item (codes "payload") (codes "if 0x42005C==0x00000014") i.destroy;
 }
 
+-- the texts of 42005C that its rules ask for
+abbrev pub response_payload_texts : List (List (List ℕ))
+response_payload_texts =
+    (codes "0x00000001" ∷ []) ∷
+    (codes "0x00000014" ∷ []) ∷
+    []
+
+response_payload_begins : {A : Type 0} {eq : ResponsePayload A → ResponsePayload A → Boole} (i : ResponsePayloadItems A eq) → BeginsBy 0x42005C response_payload_texts (response_payload_variants i) no_variants
+unfolding parts_of
+response_payload_begins i = record { all = (refl, (refl, refl)) }
+
 pub response_payload_case : {A : Type 0} {eq : ResponsePayload A → ResponsePayload A → Boole} (i : ResponsePayloadItems A eq) (x : ResponsePayload A)
     → Case 0x42007C 0x42005C types.Structure (enum (codes "payload") (response_payload_variants i)) (λ said. ChoosesResponsePayload said x) (response_payload_by (response_payload_cases i) x)
-unfolding tag_of number rule sides equal at_least member in_brackets trim_end chars trim_start encode response_payload_by
-response_payload_case i (response_payload.Create x) = case_of i.create x first_variant (λ said chooses k found. rw (found ∙ ap Some chooses) refl)
-response_payload_case i (response_payload.Destroy x) = case_of i.destroy x (later_variant first_variant) (λ said chooses k found. rw (found ∙ ap Some chooses) refl)
+unfolding response_payload_by
+response_payload_case i (response_payload.Create x) = case_of i.create x (is_there _ 0 refl) (λ said chooses. chosen_by_text types.Structure (response_payload_begins i) chooses refl)
+response_payload_case i (response_payload.Destroy x) = case_of i.destroy x (is_there _ 1 refl) (λ said chooses. chosen_by_text types.Structure (response_payload_begins i) chooses refl)
 
 pub response_payload_same : {A : Type 0} {eq : ResponsePayload A → ResponsePayload A → Boole} (i : ResponsePayloadItems A eq) (x y : ResponsePayload A)
     → (response_payload_by (response_payload_cases i) x).value ≡ (response_payload_by (response_payload_cases i) y).value

@@ -24,6 +24,7 @@ fn item(
 ) -> Result<RequestItem, AllocError> {
     Ok(RequestItem {
         operation,
+        ephemeral: None,
         unique_batch_item_id: Some([id].to_vec(alloc)?),
         payload,
         message_extension: None,
@@ -48,7 +49,7 @@ pub fn request(alloc: Global) -> Result<Vec<u8>, Error> {
     items.push(item(alloc, 2, operation::ARCHIVE, archive)?)?;
     items.push(item(alloc, 3, operation::DISCOVER_VERSIONS, discover)?)?;
     items.push(item(alloc, 4, operation::DESTROY, destroy)?)?;
-    let header = RequestHeader::new(ProtocolVersion { major: 1, minor: 0 }, 4);
+    let header = RequestHeader::new(alloc, ProtocolVersion { major: 1, minor: 0 }, 4);
     to_vec(alloc, &Request { header, items })
 }
 

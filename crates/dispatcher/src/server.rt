@@ -101,14 +101,11 @@ fn done<A: Allocator + Copy>(
 }
 
 // A response of these items.
-fn response<A: Allocator + Copy>(items: Vec<ResponseItem<A>, A>) -> Response<A>
+fn response<A: Allocator + Copy>(alloc: A, items: Vec<ResponseItem<A>, A>) -> Response<A>
     ensures { result.items ≡ items }
 {
-    let header = ResponseHeader {
-        version: VERSION,
-        time_stamp: DateTime(0),
-        batch_count: i32::try_from(items.len()).unwrap_or(i32::MAX),
-    };
+    let count = i32::try_from(items.len()).unwrap_or(i32::MAX);
+    let header = ResponseHeader::new(alloc, VERSION, DateTime(0), count);
     Response { header, items }
 }
 
@@ -120,21 +117,21 @@ pub fn respond<A: Allocator + Copy>(
     let mut items = Vec::new(alloc);
     if !request.is_consistent() {
         items.push(item(None, None, Err(result_reason::INVALID_MESSAGE)))?;
-        return Ok(response(items));
+        return Ok(response(alloc, items));
     }
     for asked in &request.items {
         let done = done(alloc, asked)?;
         let id = copied(alloc, &asked.unique_batch_item_id)?;
         items.push(item(Some(asked.operation), id, done))?;
     }
-    Ok(response(items))
+    Ok(response(alloc, items))
 }
 
 /// The response to bytes that are no request.
 pub fn refuse<A: Allocator + Copy>(alloc: A) -> Result<Response<A>, AllocError> {
     let mut items = Vec::new(alloc);
     items.push(item(None, None, Err(result_reason::INVALID_MESSAGE)))?;
-    Ok(response(items))
+    Ok(response(alloc, items))
 }
 
 // What is known of a message without any of its values.

@@ -1,18 +1,17 @@
 -- Written by codegen from types.table: change that, and run codegen/codegen.
 -- Which rules choose what, and what is there of what may be.
-use Rattle.std.proofs.Common.{ap, refl, true, ◌∙◌}
-use Rattle.std.specs.Prelude.{List, Some, codes, ℕ, ◌≡◌, [], ◌∷◌}
+use Rattle.std.proofs.Common.{refl, true}
+use Rattle.std.specs.Prelude.{List, codes, ℕ, ◌≡◌, [], ◌∷◌}
 use Rattle.std.specs.Str.{chars, trim_end, trim_start}
 use lib.Utf8.{encode}
 use Rattle.kmip_ttlv_kinds.specs.Choices.{Case, ChoiceOf, Held, HeldChoice, Meaning, as_choice, as_item, case_of, case_within, choice_by}
 use Rattle.kmip_ttlv_parts.proofs.Equal.{apart, in_variant}
-use Rattle.kmip_ttlv_parts.proofs.MessageRules.{not_first}
-use Rattle.kmip_ttlv_parts.specs.Agreements.{first_variant, later_variant}
+use Rattle.kmip_ttlv_parts.proofs.ChoiceTexts.{BeginsBy, chosen_by_others, chosen_by_text, is_there}
+use Rattle.kmip_ttlv_parts.specs.RuleParts.{parts_of}
 use Rattle.kmip_ttlv_parts.specs.Forms.{Variants, enum, no_variants, variant, wrapped}
 use Rattle.kmip_ttlv_parts.specs.Names.{number, tag_of}
 use Rattle.kmip_ttlv_parts.specs.Returns.{IsNoneOf}
-use Rattle.kmip_ttlv_parts.specs.Rules.{at_least, chosen, choice, equal, in_brackets, member, past, rule, sides}
-use Rattle.kmip_ttlv_parts.specs.TagValues.{TagValue, last}
+use Rattle.kmip_ttlv_parts.specs.Rules.{at_least, equal, in_brackets, member, rule, sides}
 use Rattle.std.proofs.Common.{Bool as Boole}
 use Rattle.kmip_ttlv_parts.specs.declared.types.TtlvType.{TtlvType}
 use Rattle.kmip_ttlv_parts.specs.declared.types.TtlvType.TheVariants as types
@@ -148,42 +147,41 @@ attribute_structure_cases i = record {
   other = as_item (codes "structure") (codes "if type==Structure") i.other;
 }
 
--- where what is said is none of the names, the type of the item chooses
-attribute_structure_unnamed : {A : Type 0} {eq : AttributeStructure A → AttributeStructure A → Boole} (i : AttributeStructureItems A eq) (said : List ℕ) (k : List TagValue) (typ : TtlvType) (n : ℕ)
-    → IsNoneOf said attribute_structure_names → last k 0x42000A ≡ Some said
-    → choice (variant (codes "if type==Structure") (wrapped i.other.form) no_variants) k typ ≡ chosen n
-    → choice (attribute_structure_variants i) k typ ≡ past 1 (past 1 (past 1 (past 1 (past 1 (past 1 (past 1 (past 1 (past 1 (past 1 (past 1 (chosen n)))))))))))
-unfolding tag_of number rule sides equal at_least member in_brackets trim_end chars trim_start encode
-attribute_structure_unnamed i said k typ n none found e =
-    let n0 = not_first said (codes "Name") (codes "Cryptographic Parameters" ∷ codes "Cryptographic Domain Parameters" ∷ codes "Certificate Identifier" ∷ codes "Certificate Subject" ∷ codes "Certificate Issuer" ∷ codes "Digest" ∷ codes "Usage Limits" ∷ codes "Revocation Reason" ∷ codes "Link" ∷ codes "Application Specific Information" ∷ []) none in
-    let n1 = not_first said (codes "Cryptographic Parameters") (codes "Cryptographic Domain Parameters" ∷ codes "Certificate Identifier" ∷ codes "Certificate Subject" ∷ codes "Certificate Issuer" ∷ codes "Digest" ∷ codes "Usage Limits" ∷ codes "Revocation Reason" ∷ codes "Link" ∷ codes "Application Specific Information" ∷ []) n0.1 in
-    let n2 = not_first said (codes "Cryptographic Domain Parameters") (codes "Certificate Identifier" ∷ codes "Certificate Subject" ∷ codes "Certificate Issuer" ∷ codes "Digest" ∷ codes "Usage Limits" ∷ codes "Revocation Reason" ∷ codes "Link" ∷ codes "Application Specific Information" ∷ []) n1.1 in
-    let n3 = not_first said (codes "Certificate Identifier") (codes "Certificate Subject" ∷ codes "Certificate Issuer" ∷ codes "Digest" ∷ codes "Usage Limits" ∷ codes "Revocation Reason" ∷ codes "Link" ∷ codes "Application Specific Information" ∷ []) n2.1 in
-    let n4 = not_first said (codes "Certificate Subject") (codes "Certificate Issuer" ∷ codes "Digest" ∷ codes "Usage Limits" ∷ codes "Revocation Reason" ∷ codes "Link" ∷ codes "Application Specific Information" ∷ []) n3.1 in
-    let n5 = not_first said (codes "Certificate Issuer") (codes "Digest" ∷ codes "Usage Limits" ∷ codes "Revocation Reason" ∷ codes "Link" ∷ codes "Application Specific Information" ∷ []) n4.1 in
-    let n6 = not_first said (codes "Digest") (codes "Usage Limits" ∷ codes "Revocation Reason" ∷ codes "Link" ∷ codes "Application Specific Information" ∷ []) n5.1 in
-    let n7 = not_first said (codes "Usage Limits") (codes "Revocation Reason" ∷ codes "Link" ∷ codes "Application Specific Information" ∷ []) n6.1 in
-    let n8 = not_first said (codes "Revocation Reason") (codes "Link" ∷ codes "Application Specific Information" ∷ []) n7.1 in
-    let n9 = not_first said (codes "Link") (codes "Application Specific Information" ∷ []) n8.1 in
-    let n10 = not_first said (codes "Application Specific Information") ([]) n9.1 in
-    rw (found, n0.0, n1.0, n2.0, n3.0, n4.0, n5.0, n6.0, n7.0, n8.0, n9.0, n10.0)
-    (ap (λ c. past 1 (past 1 (past 1 (past 1 (past 1 (past 1 (past 1 (past 1 (past 1 (past 1 (past 1 (c)))))))))))) e)
+-- the texts of 42000A that its rules ask for
+abbrev pub attribute_structure_texts : List (List (List ℕ))
+attribute_structure_texts =
+    (codes "Name" ∷ []) ∷
+    (codes "Cryptographic Parameters" ∷ []) ∷
+    (codes "Cryptographic Domain Parameters" ∷ []) ∷
+    (codes "Certificate Identifier" ∷ []) ∷
+    (codes "Certificate Subject" ∷ []) ∷
+    (codes "Certificate Issuer" ∷ []) ∷
+    (codes "Digest" ∷ []) ∷
+    (codes "Usage Limits" ∷ []) ∷
+    (codes "Revocation Reason" ∷ []) ∷
+    (codes "Link" ∷ []) ∷
+    (codes "Application Specific Information" ∷ []) ∷
+    []
+
+attribute_structure_begins : {A : Type 0} {eq : AttributeStructure A → AttributeStructure A → Boole} (i : AttributeStructureItems A eq) → BeginsBy 0x42000A attribute_structure_texts (attribute_structure_variants i) (variant (codes "if type==Structure") (wrapped i.other.form) no_variants)
+unfolding parts_of
+attribute_structure_begins i = record { all = (refl, (refl, (refl, (refl, (refl, (refl, (refl, (refl, (refl, (refl, (refl, refl))))))))))) }
 
 pub attribute_structure_case : {A : Type 0} {eq : AttributeStructure A → AttributeStructure A → Boole} (i : AttributeStructureItems A eq) (x : AttributeStructure A)
     → Case 0x42000B 0x42000A types.Structure (enum (codes "structure") (attribute_structure_variants i)) (λ said. ChoosesAttributeStructure said x) (attribute_structure_by (attribute_structure_cases i) x)
 unfolding tag_of number rule sides equal at_least member in_brackets trim_end chars trim_start encode attribute_structure_by
-attribute_structure_case i (attribute_structure.Name x) = case_of i.name x first_variant (λ said chooses k found. rw (found ∙ ap Some chooses) refl)
-attribute_structure_case i (attribute_structure.CryptographicParameters x) = case_of i.cryptographic_parameters x (later_variant first_variant) (λ said chooses k found. rw (found ∙ ap Some chooses) refl)
-attribute_structure_case i (attribute_structure.CryptographicDomainParameters x) = case_of i.cryptographic_domain_parameters x (later_variant (later_variant first_variant)) (λ said chooses k found. rw (found ∙ ap Some chooses) refl)
-attribute_structure_case i (attribute_structure.CertificateIdentifier x) = case_of i.certificate_identifier x (later_variant (later_variant (later_variant first_variant))) (λ said chooses k found. rw (found ∙ ap Some chooses) refl)
-attribute_structure_case i (attribute_structure.CertificateSubject x) = case_of i.certificate_subject x (later_variant (later_variant (later_variant (later_variant first_variant)))) (λ said chooses k found. rw (found ∙ ap Some chooses) refl)
-attribute_structure_case i (attribute_structure.CertificateIssuer x) = case_of i.certificate_issuer x (later_variant (later_variant (later_variant (later_variant (later_variant first_variant))))) (λ said chooses k found. rw (found ∙ ap Some chooses) refl)
-attribute_structure_case i (attribute_structure.Digest x) = case_of i.digest x (later_variant (later_variant (later_variant (later_variant (later_variant (later_variant first_variant)))))) (λ said chooses k found. rw (found ∙ ap Some chooses) refl)
-attribute_structure_case i (attribute_structure.UsageLimits x) = case_of i.usage_limits x (later_variant (later_variant (later_variant (later_variant (later_variant (later_variant (later_variant first_variant))))))) (λ said chooses k found. rw (found ∙ ap Some chooses) refl)
-attribute_structure_case i (attribute_structure.RevocationReason x) = case_of i.revocation_reason x (later_variant (later_variant (later_variant (later_variant (later_variant (later_variant (later_variant (later_variant first_variant)))))))) (λ said chooses k found. rw (found ∙ ap Some chooses) refl)
-attribute_structure_case i (attribute_structure.Link x) = case_of i.link x (later_variant (later_variant (later_variant (later_variant (later_variant (later_variant (later_variant (later_variant (later_variant first_variant))))))))) (λ said chooses k found. rw (found ∙ ap Some chooses) refl)
-attribute_structure_case i (attribute_structure.ApplicationSpecificInformation x) = case_of i.application_specific_information x (later_variant (later_variant (later_variant (later_variant (later_variant (later_variant (later_variant (later_variant (later_variant (later_variant first_variant)))))))))) (λ said chooses k found. rw (found ∙ ap Some chooses) refl)
-attribute_structure_case i (attribute_structure.Other x) = case_of i.other x (later_variant (later_variant (later_variant (later_variant (later_variant (later_variant (later_variant (later_variant (later_variant (later_variant (later_variant first_variant))))))))))) (λ said none k found. attribute_structure_unnamed i said k types.Structure 0 none found refl)
+attribute_structure_case i (attribute_structure.Name x) = case_of i.name x (is_there _ 0 refl) (λ said chooses. chosen_by_text types.Structure (attribute_structure_begins i) chooses refl)
+attribute_structure_case i (attribute_structure.CryptographicParameters x) = case_of i.cryptographic_parameters x (is_there _ 1 refl) (λ said chooses. chosen_by_text types.Structure (attribute_structure_begins i) chooses refl)
+attribute_structure_case i (attribute_structure.CryptographicDomainParameters x) = case_of i.cryptographic_domain_parameters x (is_there _ 2 refl) (λ said chooses. chosen_by_text types.Structure (attribute_structure_begins i) chooses refl)
+attribute_structure_case i (attribute_structure.CertificateIdentifier x) = case_of i.certificate_identifier x (is_there _ 3 refl) (λ said chooses. chosen_by_text types.Structure (attribute_structure_begins i) chooses refl)
+attribute_structure_case i (attribute_structure.CertificateSubject x) = case_of i.certificate_subject x (is_there _ 4 refl) (λ said chooses. chosen_by_text types.Structure (attribute_structure_begins i) chooses refl)
+attribute_structure_case i (attribute_structure.CertificateIssuer x) = case_of i.certificate_issuer x (is_there _ 5 refl) (λ said chooses. chosen_by_text types.Structure (attribute_structure_begins i) chooses refl)
+attribute_structure_case i (attribute_structure.Digest x) = case_of i.digest x (is_there _ 6 refl) (λ said chooses. chosen_by_text types.Structure (attribute_structure_begins i) chooses refl)
+attribute_structure_case i (attribute_structure.UsageLimits x) = case_of i.usage_limits x (is_there _ 7 refl) (λ said chooses. chosen_by_text types.Structure (attribute_structure_begins i) chooses refl)
+attribute_structure_case i (attribute_structure.RevocationReason x) = case_of i.revocation_reason x (is_there _ 8 refl) (λ said chooses. chosen_by_text types.Structure (attribute_structure_begins i) chooses refl)
+attribute_structure_case i (attribute_structure.Link x) = case_of i.link x (is_there _ 9 refl) (λ said chooses. chosen_by_text types.Structure (attribute_structure_begins i) chooses refl)
+attribute_structure_case i (attribute_structure.ApplicationSpecificInformation x) = case_of i.application_specific_information x (is_there _ 10 refl) (λ said chooses. chosen_by_text types.Structure (attribute_structure_begins i) chooses refl)
+attribute_structure_case i (attribute_structure.Other x) = case_of i.other x (is_there _ 11 refl) (λ said none. chosen_by_others types.Structure (attribute_structure_begins i) none)
 
 pub attribute_structure_same : {A : Type 0} {eq : AttributeStructure A → AttributeStructure A → Boole} (i : AttributeStructureItems A eq) (x y : AttributeStructure A)
     → (attribute_structure_by (attribute_structure_cases i) x).value ≡ (attribute_structure_by (attribute_structure_cases i) y).value
@@ -337,37 +335,36 @@ attribute_value_cases i = record {
   structure = as_choice (codes "value") (codes "if type==Structure") i.structure;
 }
 
--- where what is said is none of the names, the type of the item chooses
-attribute_value_unnamed : {A : Type 0} {eq : AttributeValue A → AttributeValue A → Boole} (i : AttributeValueItems A eq) (said : List ℕ) (k : List TagValue) (typ : TtlvType) (n : ℕ)
-    → IsNoneOf said attribute_value_names → last k 0x42000A ≡ Some said
-    → choice (variant (codes "if type==Integer") (wrapped i.integer.form) (variant (codes "if type==LongInteger") (wrapped i.long_integer.form) (variant (codes "if type==BigInteger") (wrapped i.big_integer.form) (variant (codes "if type==Enumeration") (wrapped i.enumeration.form) (variant (codes "if type==Boolean") (wrapped i.boolean.form) (variant (codes "if type==TextString") (wrapped i.text_string.form) (variant (codes "if type==ByteString") (wrapped i.byte_string.form) (variant (codes "if type==DateTime") (wrapped i.date_time.form) (variant (codes "if type==Interval") (wrapped i.interval.form) (variant (codes "if type==Structure") (wrapped i.structure.form) no_variants)))))))))) k typ ≡ chosen n
-    → choice (attribute_value_variants i) k typ ≡ past 1 (past 1 (past 1 (past 1 (chosen n))))
-unfolding tag_of number rule sides equal at_least member in_brackets trim_end chars trim_start encode
-attribute_value_unnamed i said k typ n none found e =
-    let n0 = not_first said (codes "Object Type") (codes "Cryptographic Algorithm" ∷ codes "Certificate Type" ∷ codes "State" ∷ []) none in
-    let n1 = not_first said (codes "Cryptographic Algorithm") (codes "Certificate Type" ∷ codes "State" ∷ []) n0.1 in
-    let n2 = not_first said (codes "Certificate Type") (codes "State" ∷ []) n1.1 in
-    let n3 = not_first said (codes "State") ([]) n2.1 in
-    rw (found, n0.0, n1.0, n2.0, n3.0)
-    (ap (λ c. past 1 (past 1 (past 1 (past 1 (c))))) e)
+-- the texts of 42000A that its rules ask for
+abbrev pub attribute_value_texts : List (List (List ℕ))
+attribute_value_texts =
+    (codes "Object Type" ∷ []) ∷
+    (codes "Cryptographic Algorithm" ∷ []) ∷
+    (codes "Certificate Type" ∷ []) ∷
+    (codes "State" ∷ []) ∷
+    []
+
+attribute_value_begins : {A : Type 0} {eq : AttributeValue A → AttributeValue A → Boole} (i : AttributeValueItems A eq) → BeginsBy 0x42000A attribute_value_texts (attribute_value_variants i) (variant (codes "if type==Integer") (wrapped i.integer.form) (variant (codes "if type==LongInteger") (wrapped i.long_integer.form) (variant (codes "if type==BigInteger") (wrapped i.big_integer.form) (variant (codes "if type==Enumeration") (wrapped i.enumeration.form) (variant (codes "if type==Boolean") (wrapped i.boolean.form) (variant (codes "if type==TextString") (wrapped i.text_string.form) (variant (codes "if type==ByteString") (wrapped i.byte_string.form) (variant (codes "if type==DateTime") (wrapped i.date_time.form) (variant (codes "if type==Interval") (wrapped i.interval.form) (variant (codes "if type==Structure") (wrapped i.structure.form) no_variants))))))))))
+unfolding parts_of
+attribute_value_begins i = record { all = (refl, (refl, (refl, (refl, refl)))) }
 
 pub attribute_value_case : {A : Type 0} {eq : AttributeValue A → AttributeValue A → Boole} (i : AttributeValueItems A eq) (x : AttributeValue A)
     → Case 0x42000B 0x42000A (attribute_value_typ x) (enum (codes "value") (attribute_value_variants i)) (λ said. ChoosesAttributeValue said x) (attribute_value_by (attribute_value_cases i) x)
 unfolding tag_of number rule sides equal at_least member in_brackets trim_end chars trim_start encode attribute_value_by
-attribute_value_case i (attribute_value.ObjectType x) = case_of i.object_type x first_variant (λ said chooses k found. rw (found ∙ ap Some chooses) refl)
-attribute_value_case i (attribute_value.CryptographicAlgorithm x) = case_of i.cryptographic_algorithm x (later_variant first_variant) (λ said chooses k found. rw (found ∙ ap Some chooses) refl)
-attribute_value_case i (attribute_value.CertificateType x) = case_of i.certificate_type x (later_variant (later_variant first_variant)) (λ said chooses k found. rw (found ∙ ap Some chooses) refl)
-attribute_value_case i (attribute_value.State x) = case_of i.state x (later_variant (later_variant (later_variant first_variant))) (λ said chooses k found. rw (found ∙ ap Some chooses) refl)
-attribute_value_case i (attribute_value.Integer x) = case_of i.integer x (later_variant (later_variant (later_variant (later_variant first_variant)))) (λ said none k found. attribute_value_unnamed i said k types.Integer 0 none found refl)
-attribute_value_case i (attribute_value.LongInteger x) = case_of i.long_integer x (later_variant (later_variant (later_variant (later_variant (later_variant first_variant))))) (λ said none k found. attribute_value_unnamed i said k types.LongInteger 1 none found refl)
-attribute_value_case i (attribute_value.BigInteger x) = case_of i.big_integer x (later_variant (later_variant (later_variant (later_variant (later_variant (later_variant first_variant)))))) (λ said none k found. attribute_value_unnamed i said k types.BigInteger 2 none found refl)
-attribute_value_case i (attribute_value.Enumeration x) = case_of i.enumeration x (later_variant (later_variant (later_variant (later_variant (later_variant (later_variant (later_variant first_variant))))))) (λ said none k found. attribute_value_unnamed i said k types.Enumeration 3 none found refl)
-attribute_value_case i (attribute_value.Boolean x) = case_of i.boolean x (later_variant (later_variant (later_variant (later_variant (later_variant (later_variant (later_variant (later_variant first_variant)))))))) (λ said none k found. attribute_value_unnamed i said k types.Boolean 4 none found refl)
-attribute_value_case i (attribute_value.TextString x) = case_of i.text_string x (later_variant (later_variant (later_variant (later_variant (later_variant (later_variant (later_variant (later_variant (later_variant first_variant))))))))) (λ said none k found. attribute_value_unnamed i said k types.TextString 5 none found refl)
-attribute_value_case i (attribute_value.ByteString x) = case_of i.byte_string x (later_variant (later_variant (later_variant (later_variant (later_variant (later_variant (later_variant (later_variant (later_variant (later_variant first_variant)))))))))) (λ said none k found. attribute_value_unnamed i said k types.ByteString 6 none found refl)
-attribute_value_case i (attribute_value.DateTime x) = case_of i.date_time x (later_variant (later_variant (later_variant (later_variant (later_variant (later_variant (later_variant (later_variant (later_variant (later_variant (later_variant first_variant))))))))))) (λ said none k found. attribute_value_unnamed i said k types.DateTime 7 none found refl)
-attribute_value_case i (attribute_value.Interval x) = case_of i.interval x (later_variant (later_variant (later_variant (later_variant (later_variant (later_variant (later_variant (later_variant (later_variant (later_variant (later_variant (later_variant first_variant)))))))))))) (λ said none k found. attribute_value_unnamed i said k types.Interval 8 none found refl)
-attribute_value_case i (attribute_value.Structure x) = case_within i.structure x (later_variant (later_variant (later_variant (later_variant (later_variant (later_variant (later_variant (later_variant (later_variant (later_variant (later_variant (later_variant (later_variant first_variant))))))))))))) (λ said none k found. attribute_value_unnamed i said k types.Structure 9 none found refl)
+attribute_value_case i (attribute_value.ObjectType x) = case_of i.object_type x (is_there _ 0 refl) (λ said chooses. chosen_by_text types.Enumeration (attribute_value_begins i) chooses refl)
+attribute_value_case i (attribute_value.CryptographicAlgorithm x) = case_of i.cryptographic_algorithm x (is_there _ 1 refl) (λ said chooses. chosen_by_text types.Enumeration (attribute_value_begins i) chooses refl)
+attribute_value_case i (attribute_value.CertificateType x) = case_of i.certificate_type x (is_there _ 2 refl) (λ said chooses. chosen_by_text types.Enumeration (attribute_value_begins i) chooses refl)
+attribute_value_case i (attribute_value.State x) = case_of i.state x (is_there _ 3 refl) (λ said chooses. chosen_by_text types.Enumeration (attribute_value_begins i) chooses refl)
+attribute_value_case i (attribute_value.Integer x) = case_of i.integer x (is_there _ 4 refl) (λ said none. chosen_by_others types.Integer (attribute_value_begins i) none)
+attribute_value_case i (attribute_value.LongInteger x) = case_of i.long_integer x (is_there _ 5 refl) (λ said none. chosen_by_others types.LongInteger (attribute_value_begins i) none)
+attribute_value_case i (attribute_value.BigInteger x) = case_of i.big_integer x (is_there _ 6 refl) (λ said none. chosen_by_others types.BigInteger (attribute_value_begins i) none)
+attribute_value_case i (attribute_value.Enumeration x) = case_of i.enumeration x (is_there _ 7 refl) (λ said none. chosen_by_others types.Enumeration (attribute_value_begins i) none)
+attribute_value_case i (attribute_value.Boolean x) = case_of i.boolean x (is_there _ 8 refl) (λ said none. chosen_by_others types.Boolean (attribute_value_begins i) none)
+attribute_value_case i (attribute_value.TextString x) = case_of i.text_string x (is_there _ 9 refl) (λ said none. chosen_by_others types.TextString (attribute_value_begins i) none)
+attribute_value_case i (attribute_value.ByteString x) = case_of i.byte_string x (is_there _ 10 refl) (λ said none. chosen_by_others types.ByteString (attribute_value_begins i) none)
+attribute_value_case i (attribute_value.DateTime x) = case_of i.date_time x (is_there _ 11 refl) (λ said none. chosen_by_others types.DateTime (attribute_value_begins i) none)
+attribute_value_case i (attribute_value.Interval x) = case_of i.interval x (is_there _ 12 refl) (λ said none. chosen_by_others types.Interval (attribute_value_begins i) none)
+attribute_value_case i (attribute_value.Structure x) = case_within i.structure x (is_there _ 13 refl) (λ said none. chosen_by_others types.Structure (attribute_value_begins i) none)
 
 pub attribute_value_same : {A : Type 0} {eq : AttributeValue A → AttributeValue A → Boole} (i : AttributeValueItems A eq) (x y : AttributeValue A)
     → (attribute_value_by (attribute_value_cases i) x).value ≡ (attribute_value_by (attribute_value_cases i) y).value

@@ -5,11 +5,11 @@ ghost use Rattle.std.specs.Prelude.{◌↔◌, ◌+◌, IsTrue, refl, true};
 ghost use Rattle.kmip_ttlv_parts.specs.Returns.{IsNoneOf, text_of_number};
 ghost use Rattle.kmip_ttlv_kinds.specs.Parts.{structure, structure_where};
 ghost use Rattle.kmip_ttlv_kinds.specs.Choices.{held};
-ghost use Rattle.kmip_headers.specs.Choices.{credential_value_choice, ChoosesCredentialValue, credential_value_names};
+ghost use Rattle.kmip_headers.specs.Choices.{credential_value_choice, ChoosesCredentialValue, credential_value_names, asynchronous_indicator_choice};
 
 use kmip_ttlv_kinds::{
-    Alone, Choice, Decided, Element, Four, FromParts, Holds, Leaf, Maybe, MaybeLeaf, Of, One,
-    OneOf, PartList, Several, Structure, Walk, read_structure,
+    Alone, Any, Choice, Decided, Element, Four, FromParts, Holds, Leaf, LeafItem, Maybe, MaybeLeaf,
+    MaybeOneOf, Of, One, OneOf, PartList, Several, Structure, Walk, read_structure,
 };
 use kmip_ttlv_parts::laws::is_none_of;
 use kmip_ttlv_parts::reader::{Cursor, DateTime, RuleParts, Scope, Step};
@@ -374,6 +374,60 @@ pub mod batch_error_continuation_option {
     };
 }
 
+/// Whether the client is able to poll for the response (section 6.7).
+#[derive(Clone, Copy, PartialEq, Eq)]
+pub enum AsynchronousIndicator {
+    /// A truth value, up to KMIP 1.4.
+    Boolean(bool),
+    /// A number: whether it has to, may or must not (KMIP 2.0).
+    Enumeration(u32),
+}
+
+// The rules of the variants, in their order.
+const ASYNCHRONOUS_INDICATOR_RULES: [RuleParts; 2] = [
+    RuleParts::Type(TtlvType::Boolean),
+    RuleParts::Type(TtlvType::Enumeration),
+];
+
+impl<A: Allocator + Copy> Choice<A> for AsynchronousIndicator {
+    ghost chosen = { asynchronous_indicator_choice ⟦<AsynchronousIndicator as PartialEq>⟧.eq record {
+      boolean = held ⟦<LeafItem<bool, 0x420007> as Element<A>>⟧.rules refl refl (λ x y e. e);
+      enumeration = held ⟦<LeafItem<u32, 0x420007> as Element<A>>⟧.rules refl refl (λ x y e. e);
+    } };
+
+    #[tactic(auto, unfolding(kmip_ttlv_reader::specs::RuleParts::parts_of, kmip_ttlv_reader::specs::RuleParts::equal_sides))]
+    fn variant_rules() -> &'static [RuleParts] {
+        &ASYNCHRONOUS_INDICATOR_RULES
+    }
+
+    fn read_held<'b>(
+        scope: &Scope<'b, A>,
+        cursor: &mut Cursor<'b, A>,
+        place: usize,
+    ) -> Step<Self, A> {
+        match place {
+            0 => Ok(AsynchronousIndicator::Boolean(<LeafItem<bool, 0x420007> as Element<
+                A,
+            >>::read_one(scope, cursor)?)),
+            1 => Ok(AsynchronousIndicator::Enumeration(<LeafItem<u32, 0x420007> as Element<
+                A,
+            >>::read_one(scope, cursor)?)),
+            _ => unreachable!(),
+        }
+    }
+
+    fn tell_held<W: Walk<A>>(&self, state: &mut W::State) -> Result<(), AllocError> {
+        match self {
+            AsynchronousIndicator::Boolean(inner) => W::item::<LeafItem<bool, 0x420007>>(
+                state, inner,
+            ),
+            AsynchronousIndicator::Enumeration(inner) => W::item::<LeafItem<u32, 0x420007>>(
+                state, inner,
+            ),
+        }
+    }
+}
+
 /// The header of a request (section 7.2).
 #[derive(Drop)]
 #[derive_where(PartialEq)]
@@ -382,8 +436,16 @@ pub struct RequestHeader<A: Allocator = Global> {
     pub version: ProtocolVersion,
     /// How many bytes the response may have.
     pub maximum_response_size: Option<i32>,
+    /// What the client calls the request (KMIP 1.4).
+    pub client_correlation_value: Option<String<A>>,
+    /// What the server called the one before (KMIP 1.4).
+    pub server_correlation_value: Option<String<A>>,
     /// Whether the client is able to poll for the response.
-    pub asynchronous_indicator: Option<bool>,
+    pub asynchronous_indicator: Option<AsynchronousIndicator>,
+    /// Whether the client is able to prove what it runs (KMIP 1.2).
+    pub attestation_capable_indicator: Option<bool>,
+    /// By what it is able to (KMIP 1.2).
+    pub attestation_types: Vec<u32, A>,
     /// Who the client is.
     pub authentication: Option<Authentication<A>>,
     /// What the server does after an item that failed.
@@ -399,35 +461,55 @@ pub struct RequestHeader<A: Allocator = Global> {
 type RequestHeaderFirst<A> = (
     One<Of<ProtocolVersion, 0x420069>>,
     MaybeLeaf<i32, 0x420050>,
-    MaybeLeaf<bool, 0x420007>,
+    MaybeLeaf<String<A>, 0x420105>,
+    MaybeLeaf<String<A>, 0x420106>,
+);
+
+type RequestHeaderSecond<A> = (
+    MaybeOneOf<AsynchronousIndicator, 0x420007>,
+    MaybeLeaf<bool, 0x4200D3>,
+    Any<LeafItem<u32, 0x4200C7>, 0x4200C7>,
     Maybe<Of<Authentication<A>, 0x42000C>, 0x42000C>,
 );
 
-type RequestHeaderSecond = (
+type RequestHeaderThird = (
     Maybe<BatchErrorContinuationOption, 0x42000E>,
     MaybeLeaf<bool, 0x420010>,
     MaybeLeaf<DateTime, 0x420092>,
     Leaf<i32, 0x42000D>,
 );
 
-type RequestHeaderParts<A> = Four<RequestHeaderFirst<A>, RequestHeaderSecond>;
+type RequestHeaderParts<A> = Four<
+    RequestHeaderFirst<A>,
+    Four<RequestHeaderSecond<A>, RequestHeaderThird>,
+>;
 
 impl<A: Allocator + Copy> FromParts<A, RequestHeaderParts<A>> for RequestHeader<A> {
-    ghost parts = { λ x. (x.version, x.maximum_response_size, x.asynchronous_indicator, x.authentication, (x.batch_error_continuation_option, x.batch_order_option, x.time_stamp, x.batch_count)) };
+    ghost parts = { λ x. (x.version, x.maximum_response_size, x.client_correlation_value, x.server_correlation_value, (x.asynchronous_indicator, x.attestation_capable_indicator, x.attestation_types, x.authentication, (x.batch_error_continuation_option, x.batch_order_option, x.time_stamp, x.batch_count))) };
 
     fn from_parts(
         (
             version,
             maximum_response_size,
-            asynchronous_indicator,
-            authentication,
-            (batch_error_continuation_option, batch_order_option, time_stamp, batch_count),
+            client_correlation_value,
+            server_correlation_value,
+            (
+                asynchronous_indicator,
+                attestation_capable_indicator,
+                attestation_types,
+                authentication,
+                (batch_error_continuation_option, batch_order_option, time_stamp, batch_count),
+            ),
         ): Holds<RequestHeaderParts<A>, A>,
     ) -> Self {
         RequestHeader {
             version,
             maximum_response_size,
+            client_correlation_value,
+            server_correlation_value,
             asynchronous_indicator,
+            attestation_capable_indicator,
+            attestation_types,
             authentication,
             batch_error_continuation_option,
             batch_order_option,
@@ -448,13 +530,25 @@ impl<A: Allocator + Copy> Structure<A> for RequestHeader<A> {
         W::four::<
             One<Of<ProtocolVersion, 0x420069>>,
             MaybeLeaf<i32, 0x420050>,
-            MaybeLeaf<bool, 0x420007>,
-            Maybe<Of<Authentication<A>, 0x42000C>, 0x42000C>,
+            MaybeLeaf<String<A>, 0x420105>,
+            MaybeLeaf<String<A>, 0x420106>,
         >(
             state,
             &self.version,
             &self.maximum_response_size,
+            &self.client_correlation_value,
+            &self.server_correlation_value,
+        )?;
+        W::four::<
+            MaybeOneOf<AsynchronousIndicator, 0x420007>,
+            MaybeLeaf<bool, 0x4200D3>,
+            Any<LeafItem<u32, 0x4200C7>, 0x4200C7>,
+            Maybe<Of<Authentication<A>, 0x42000C>, 0x42000C>,
+        >(
+            state,
             &self.asynchronous_indicator,
+            &self.attestation_capable_indicator,
+            &self.attestation_types,
             &self.authentication,
         )?;
         W::four::<
@@ -473,48 +567,141 @@ impl<A: Allocator + Copy> Structure<A> for RequestHeader<A> {
     }
 }
 
+/// What a proof has to be of, so that it is no older one (KMIP 1.2, section 2.1.14).
+#[derive(Drop)]
+#[derive_where(PartialEq)]
+pub struct Nonce<A: Allocator = Global> {
+    /// What names it.
+    pub nonce_id: Vec<u8, A>,
+    /// Bytes that come once.
+    pub nonce_value: Vec<u8, A>,
+}
+
+type NonceParts<A> = (Leaf<Vec<u8, A>, 0x4200C9>, Leaf<Vec<u8, A>, 0x4200CA>);
+
+impl<A: Allocator + Copy> FromParts<A, NonceParts<A>> for Nonce<A> {
+    ghost parts = { λ x. (x.nonce_id, x.nonce_value) };
+
+    fn from_parts((nonce_id, nonce_value): Holds<NonceParts<A>, A>) -> Self {
+        Nonce {
+            nonce_id,
+            nonce_value,
+        }
+    }
+}
+
+impl<A: Allocator + Copy> Structure<A> for Nonce<A> {
+    ghost rules = { structure true ⟦<NonceParts<A> as PartList<A>>⟧.rules ⟦<Nonce<A> as FromParts<A, NonceParts<A>>>⟧.parts refl ⟦<Nonce<A> as PartialEq>⟧.eq (λ x y e. e) };
+
+    fn read<'b>(scope: &Scope<'b, A>, tag: u32, cursor: &mut Cursor<'b, A>) -> Step<Self, A> {
+        read_structure::<NonceParts<A>, Self, A>(scope, tag, true, cursor)
+    }
+
+    fn tell_parts<W: Walk<A>>(&self, state: &mut W::State) -> Result<(), AllocError> {
+        W::two::<Leaf<Vec<u8, A>, 0x4200C9>, Leaf<Vec<u8, A>, 0x4200CA>>(
+            state,
+            &self.nonce_id,
+            &self.nonce_value,
+        )
+    }
+}
+
 /// The header of a response (section 7.2).
-#[derive(Clone, Copy, PartialEq, Eq)]
-pub struct ResponseHeader {
+#[derive(Drop)]
+#[derive_where(PartialEq)]
+pub struct ResponseHeader<A: Allocator = Global> {
     /// The version of the response.
     pub version: ProtocolVersion,
     /// When it was made, in seconds since 1970.
     pub time_stamp: DateTime,
+    /// What a proof of what the client runs has to be of (KMIP 1.2).
+    pub nonce: Option<Nonce<A>>,
+    /// A proof that the server knows the client's password (KMIP 2.0).
+    pub server_hashed_password: Option<Vec<u8, A>>,
+    /// How the client may prove what it runs (KMIP 1.2).
+    pub attestation_types: Vec<u32, A>,
+    /// What the client called the request (KMIP 1.4).
+    pub client_correlation_value: Option<String<A>>,
+    /// What the server calls it (KMIP 1.4).
+    pub server_correlation_value: Option<String<A>>,
     /// How many items follow.
     pub batch_count: i32,
 }
 
-type ResponseHeaderParts = (
+type ResponseHeaderFirst<A> = (
     One<Of<ProtocolVersion, 0x420069>>,
     Leaf<DateTime, 0x420092>,
+    Maybe<Of<Nonce<A>, 0x4200C8>, 0x4200C8>,
+    MaybeLeaf<Vec<u8, A>, 0x420155>,
+);
+
+type ResponseHeaderSecond<A> = (
+    Any<LeafItem<u32, 0x4200C7>, 0x4200C7>,
+    MaybeLeaf<String<A>, 0x420105>,
+    MaybeLeaf<String<A>, 0x420106>,
     Leaf<i32, 0x42000D>,
 );
 
-impl<A: Allocator + Copy> FromParts<A, ResponseHeaderParts> for ResponseHeader {
-    ghost parts = { λ x. (x.version, x.time_stamp, x.batch_count) };
+type ResponseHeaderParts<A> = Four<ResponseHeaderFirst<A>, ResponseHeaderSecond<A>>;
 
-    fn from_parts((version, time_stamp, batch_count): Holds<ResponseHeaderParts, A>) -> Self {
+impl<A: Allocator + Copy> FromParts<A, ResponseHeaderParts<A>> for ResponseHeader<A> {
+    ghost parts = { λ x. (x.version, x.time_stamp, x.nonce, x.server_hashed_password, (x.attestation_types, x.client_correlation_value, x.server_correlation_value, x.batch_count)) };
+
+    fn from_parts(
+        (
+            version,
+            time_stamp,
+            nonce,
+            server_hashed_password,
+            (attestation_types, client_correlation_value, server_correlation_value, batch_count),
+        ): Holds<ResponseHeaderParts<A>, A>,
+    ) -> Self {
         ResponseHeader {
             version,
             time_stamp,
+            nonce,
+            server_hashed_password,
+            attestation_types,
+            client_correlation_value,
+            server_correlation_value,
             batch_count,
         }
     }
 }
 
-impl<A: Allocator + Copy> Structure<A> for ResponseHeader {
-    ghost rules = { structure true ⟦<ResponseHeaderParts as PartList<A>>⟧.rules ⟦<ResponseHeader as FromParts<A, ResponseHeaderParts>>⟧.parts refl ⟦<ResponseHeader as PartialEq>⟧.eq (λ x y e. e) };
+impl<A: Allocator + Copy> Structure<A> for ResponseHeader<A> {
+    ghost rules = { structure true ⟦<ResponseHeaderParts<A> as PartList<A>>⟧.rules ⟦<ResponseHeader<A> as FromParts<A, ResponseHeaderParts<A>>>⟧.parts refl ⟦<ResponseHeader<A> as PartialEq>⟧.eq (λ x y e. e) };
 
     fn read<'b>(scope: &Scope<'b, A>, tag: u32, cursor: &mut Cursor<'b, A>) -> Step<Self, A> {
-        read_structure::<ResponseHeaderParts, Self, A>(scope, tag, true, cursor)
+        read_structure::<ResponseHeaderParts<A>, Self, A>(scope, tag, true, cursor)
     }
 
     fn tell_parts<W: Walk<A>>(&self, state: &mut W::State) -> Result<(), AllocError> {
-        W::three::<
+        W::four::<
             One<Of<ProtocolVersion, 0x420069>>,
             Leaf<DateTime, 0x420092>,
+            Maybe<Of<Nonce<A>, 0x4200C8>, 0x4200C8>,
+            MaybeLeaf<Vec<u8, A>, 0x420155>,
+        >(
+            state,
+            &self.version,
+            &self.time_stamp,
+            &self.nonce,
+            &self.server_hashed_password,
+        )?;
+        W::four::<
+            Any<LeafItem<u32, 0x4200C7>, 0x4200C7>,
+            MaybeLeaf<String<A>, 0x420105>,
+            MaybeLeaf<String<A>, 0x420106>,
             Leaf<i32, 0x42000D>,
-        >(state, &self.version, &self.time_stamp, &self.batch_count)
+        >(
+            state,
+            &self.attestation_types,
+            &self.client_correlation_value,
+            &self.server_correlation_value,
+            &self.batch_count,
+        )?;
+        Ok(())
     }
 }
 
@@ -611,6 +798,65 @@ pub mod operation {
     pub const IMPORT: Operation = Operation { number: 0x0000002A };
     /// To get one as another server is to have it (KMIP 1.4).
     pub const EXPORT: Operation = Operation { number: 0x0000002B };
+    /// To have the server log a message (KMIP 2.0).
+    pub const LOG: Operation = Operation { number: 0x0000002C };
+    /// To get a ticket (KMIP 2.0).
+    pub const LOGIN: Operation = Operation { number: 0x0000002D };
+    /// To have it no longer good (KMIP 2.0).
+    pub const LOGOUT: Operation = Operation { number: 0x0000002E };
+    /// To get a ticket for another (KMIP 2.0).
+    pub const DELEGATED_LOGIN: Operation = Operation { number: 0x0000002F };
+    /// To have an attribute more, less, or turned round (KMIP 2.0).
+    pub const ADJUST_ATTRIBUTE: Operation = Operation { number: 0x00000030 };
+    /// To give an attribute a value (KMIP 2.0).
+    pub const SET_ATTRIBUTE: Operation = Operation { number: 0x00000031 };
+    /// To say who is the client of a connection (KMIP 2.0).
+    pub const SET_ENDPOINT_ROLE: Operation = Operation { number: 0x00000032 };
+    /// To call a function of PKCS#11 (KMIP 2.0).
+    pub const PKCS11: Operation = Operation { number: 0x00000033 };
+    /// To begin or end a test of interoperability (KMIP 2.0).
+    pub const INTEROP: Operation = Operation { number: 0x00000034 };
+    /// To have a client known anew (KMIP 2.0).
+    pub const RE_PROVISION: Operation = Operation { number: 0x00000035 };
+}
+
+/// What a client that has logged in sends with its requests (KMIP 2.0).
+#[derive(Drop)]
+#[derive_where(PartialEq)]
+pub struct Ticket<A: Allocator = Global> {
+    /// What it is.
+    pub ticket_type: u32,
+    /// Its bytes.
+    pub ticket_value: Vec<u8, A>,
+}
+
+type TicketParts<A> = (Leaf<u32, 0x42014A>, Leaf<Vec<u8, A>, 0x42014B>);
+
+impl<A: Allocator + Copy> FromParts<A, TicketParts<A>> for Ticket<A> {
+    ghost parts = { λ x. (x.ticket_type, x.ticket_value) };
+
+    fn from_parts((ticket_type, ticket_value): Holds<TicketParts<A>, A>) -> Self {
+        Ticket {
+            ticket_type,
+            ticket_value,
+        }
+    }
+}
+
+impl<A: Allocator + Copy> Structure<A> for Ticket<A> {
+    ghost rules = { structure true ⟦<TicketParts<A> as PartList<A>>⟧.rules ⟦<Ticket<A> as FromParts<A, TicketParts<A>>>⟧.parts refl ⟦<Ticket<A> as PartialEq>⟧.eq (λ x y e. e) };
+
+    fn read<'b>(scope: &Scope<'b, A>, tag: u32, cursor: &mut Cursor<'b, A>) -> Step<Self, A> {
+        read_structure::<TicketParts<A>, Self, A>(scope, tag, true, cursor)
+    }
+
+    fn tell_parts<W: Walk<A>>(&self, state: &mut W::State) -> Result<(), AllocError> {
+        W::two::<Leaf<u32, 0x42014A>, Leaf<Vec<u8, A>, 0x42014B>>(
+            state,
+            &self.ticket_type,
+            &self.ticket_value,
+        )
+    }
 }
 
 /// What a vendor adds (section 6.16).

@@ -15,10 +15,12 @@ impl<A: Allocator> RequestItem<A> {
         ensures operation { result.operation ≡ operation }
         ensures payload { result.payload ≡ payload }
         ensures identifier { result.unique_batch_item_id ≡ None }
+        ensures ephemeral { result.ephemeral ≡ None }
         ensures extension { result.message_extension ≡ None }
     {
         RequestItem {
             operation,
+            ephemeral: None,
             unique_batch_item_id: None,
             payload,
             message_extension: None,

@@ -1,5 +1,5 @@
 //! KMIP's messages: requests and responses of the operations that clients and servers use most, in batches of any mix, for the
-//! protocol's versions 1.0 to 1.4 (KMIP 1.0, sections 4, 6 and 7).
+//! protocol's versions 1.0 to 2.0 (KMIP 1.0, sections 4, 6 and 7).
 //!
 //! This is the crate that a program lists: it has all types of a message, and those of the crates below it under the names of
 //! their modules. `request` and `response` are the messages, `envelope` the same with payloads that are kept as they are,

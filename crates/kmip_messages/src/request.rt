@@ -13,10 +13,11 @@ use kmip_ttlv::error::Error;
 use kmip_ttlv::laws::{Message, Sound};
 use kmip_ttlv::shape::{Decode, Serialize};
 use kmip_ttlv_kinds::{
-    Decided, Element, FromParts, Holds, Maybe, MaybeLeaf, Of, One, OneOf, PartList, Several,
-    Structure, Walk, decode_structure, is_structure_whole, read_structure, structures_come_back,
-    visit_structure,
+    Alone, Decided, Element, Four, FromParts, Holds, InBox, Maybe, MaybeLeaf, Of, One, OneOf,
+    PartList, Several, Structure, Walk, decode_structure, is_structure_whole, read_structure,
+    structures_come_back, visit_structure,
 };
+use kmip_ttlv_parts::Boxed;
 use kmip_ttlv_parts::reader::{Cursor, Scope, Step};
 use kmip_ttlv_parts::visit::Visitor;
 use std::alloc::{AllocError, Allocator, Global};
@@ -27,12 +28,14 @@ use std::alloc::{AllocError, Allocator, Global};
 pub struct RequestItem<A: Allocator = Global> {
     /// What is asked for.
     pub operation: Operation,
+    /// What KMIP 2.0 calls Ephemeral.
+    pub ephemeral: Option<bool>,
     /// What names the item, in a batch of several.
     pub unique_batch_item_id: Option<Vec<u8, A>>,
     /// What it needs.
     pub payload: RequestPayload<A>,
     /// What a vendor adds.
-    pub message_extension: Option<MessageExtension<A>>,
+    pub message_extension: Option<Boxed<MessageExtension<A>, A>>,
 }
 
 impl<A: Allocator> Decided for RequestItem<A> {
@@ -44,24 +47,29 @@ impl<A: Allocator> Decided for RequestItem<A> {
     }
 }
 
-type RequestItemParts<A> = (
+type RequestItemFirst<A> = (
     One<Operation>,
+    MaybeLeaf<bool, 0x420154>,
     MaybeLeaf<Vec<u8, A>, 0x420093>,
     OneOf<RequestPayload<A>, 0x420079>,
-    Maybe<Of<MessageExtension<A>, 0x420051>, 0x420051>,
 );
 
+type RequestItemSecond<A> = Alone<Maybe<InBox<Of<MessageExtension<A>, 0x420051>>, 0x420051>>;
+
+type RequestItemParts<A> = Four<RequestItemFirst<A>, RequestItemSecond<A>>;
+
 impl<A: Allocator + Copy> FromParts<A, RequestItemParts<A>> for RequestItem<A> {
-    ghost parts = { λ x. (x.operation, x.unique_batch_item_id, x.payload, x.message_extension) };
+    ghost parts = { λ x. (x.operation, x.ephemeral, x.unique_batch_item_id, x.payload, x.message_extension) };
 
     fn from_parts(
-        (operation, unique_batch_item_id, payload, message_extension): Holds<
+        (operation, ephemeral, unique_batch_item_id, payload, message_extension): Holds<
             RequestItemParts<A>,
             A,
         >,
     ) -> Self {
         RequestItem {
             operation,
+            ephemeral,
             unique_batch_item_id,
             payload,
             message_extension,
@@ -71,7 +79,7 @@ impl<A: Allocator + Copy> FromParts<A, RequestItemParts<A>> for RequestItem<A> {
 
 impl<A: Allocator + Copy> Structure<A> for RequestItem<A> {
     ghost rules = { structure_where true ⟦<RequestItemParts<A> as PartList<A>>⟧.rules ⟦<RequestItem<A> as FromParts<A, RequestItemParts<A>>>⟧.parts refl
-        (λ x. (ChoosesRequestPayload (text_of_number x.operation.number) x.payload)) (λ x d. (tt, (tt, (d, (tt))))) ⟦<RequestItem<A> as PartialEq>⟧.eq (λ x y e. e) };
+        (λ x. (ChoosesRequestPayload (text_of_number x.operation.number) x.payload)) (λ x d. (tt, (tt, (tt, (d, (tt)))))) ⟦<RequestItem<A> as PartialEq>⟧.eq (λ x y e. e) };
 
     fn read<'b>(scope: &Scope<'b, A>, tag: u32, cursor: &mut Cursor<'b, A>) -> Step<Self, A> {
         read_structure::<RequestItemParts<A>, Self, A>(scope, tag, true, cursor)
@@ -80,14 +88,18 @@ impl<A: Allocator + Copy> Structure<A> for RequestItem<A> {
     fn tell_parts<W: Walk<A>>(&self, state: &mut W::State) -> Result<(), AllocError> {
         W::four::<
             One<Operation>,
+            MaybeLeaf<bool, 0x420154>,
             MaybeLeaf<Vec<u8, A>, 0x420093>,
             OneOf<RequestPayload<A>, 0x420079>,
-            Maybe<Of<MessageExtension<A>, 0x420051>, 0x420051>,
         >(
             state,
             &self.operation,
+            &self.ephemeral,
             &self.unique_batch_item_id,
             &self.payload,
+        )?;
+        W::one::<Maybe<InBox<Of<MessageExtension<A>, 0x420051>>, 0x420051>>(
+            state,
             &self.message_extension,
         )?;
         W::check(state, self);

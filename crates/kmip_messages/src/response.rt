@@ -15,13 +15,13 @@ use kmip_ttlv::error::Error;
 use kmip_ttlv::laws::{Message, Sound};
 use kmip_ttlv::shape::{Decode, Serialize};
 use kmip_ttlv_kinds::{
-    Decided, Element, Four, FromParts, Holds, Maybe, MaybeLeaf, MaybeOneOf, Of, One, PartList,
-    Several, Structure, Walk, decode_structure, is_structure_whole, read_structure,
+    Decided, Element, Four, FromParts, Holds, InBox, Maybe, MaybeLeaf, MaybeOneOf, Of, One,
+    PartList, Several, Structure, Walk, decode_structure, is_structure_whole, read_structure,
     structures_come_back, visit_structure,
 };
-use kmip_ttlv_parts::Enumeration;
 use kmip_ttlv_parts::reader::{Cursor, Scope, Step};
 use kmip_ttlv_parts::visit::Visitor;
+use kmip_ttlv_parts::{Boxed, Enumeration};
 use std::alloc::{AllocError, Allocator, Global};
 
 /// What became of an operation (section 9.1.3.2.27).
@@ -109,7 +109,7 @@ pub struct ResponseItem<A: Allocator = Global> {
     /// What was done, if it was.
     pub payload: Option<ResponsePayload<A>>,
     /// What a vendor adds.
-    pub message_extension: Option<MessageExtension<A>>,
+    pub message_extension: Option<Boxed<MessageExtension<A>, A>>,
 }
 
 impl<A: Allocator> Decided for ResponseItem<A> {
@@ -135,7 +135,7 @@ type ResponseItemSecond<A> = (
     MaybeLeaf<String<A>, 0x42007D>,
     MaybeLeaf<Vec<u8, A>, 0x420006>,
     MaybeOneOf<ResponsePayload<A>, 0x42007C>,
-    Maybe<Of<MessageExtension<A>, 0x420051>, 0x420051>,
+    Maybe<InBox<Of<MessageExtension<A>, 0x420051>>, 0x420051>,
 );
 
 type ResponseItemParts<A> = Four<ResponseItemFirst<A>, ResponseItemSecond<A>>;
@@ -190,7 +190,7 @@ impl<A: Allocator + Copy> Structure<A> for ResponseItem<A> {
             MaybeLeaf<String<A>, 0x42007D>,
             MaybeLeaf<Vec<u8, A>, 0x420006>,
             MaybeOneOf<ResponsePayload<A>, 0x42007C>,
-            Maybe<Of<MessageExtension<A>, 0x420051>, 0x420051>,
+            Maybe<InBox<Of<MessageExtension<A>, 0x420051>>, 0x420051>,
         >(
             state,
             &self.result_message,
@@ -208,13 +208,13 @@ impl<A: Allocator + Copy> Structure<A> for ResponseItem<A> {
 #[derive_where(PartialEq)]
 pub struct Response<A: Allocator = Global> {
     /// What it begins with.
-    pub header: ResponseHeader,
+    pub header: ResponseHeader<A>,
     /// One or more.
     pub items: Vec<ResponseItem<A>, A>,
 }
 
 type ResponseParts<A> = (
-    One<Of<ResponseHeader, 0x42007A>>,
+    One<Of<ResponseHeader<A>, 0x42007A>>,
     Several<Of<ResponseItem<A>, 0x42000F>, 0x42000F>,
 );
 
@@ -235,7 +235,7 @@ impl<A: Allocator + Copy> Structure<A> for Response<A> {
 
     fn tell_parts<W: Walk<A>>(&self, state: &mut W::State) -> Result<(), AllocError> {
         W::two::<
-            One<Of<ResponseHeader, 0x42007A>>,
+            One<Of<ResponseHeader<A>, 0x42007A>>,
             Several<Of<ResponseItem<A>, 0x42000F>, 0x42000F>,
         >(state, &self.header, &self.items)
     }

@@ -6,7 +6,7 @@ use Rattle.std.specs.Str.{chars, trim_end, trim_start}
 use lib.Utf8.{encode}
 use Rattle.kmip_ttlv_kinds.specs.Choices.{ChoiceOf, Held, Meaning, TypedCase, as_item, choice_by_type, typed_case}
 use Rattle.kmip_ttlv_parts.proofs.Equal.{apart, in_variant}
-use Rattle.kmip_ttlv_parts.specs.Agreements.{first_variant, later_variant}
+use Rattle.kmip_ttlv_parts.proofs.ChoiceTexts.{is_there}
 use Rattle.kmip_ttlv_parts.specs.Forms.{Variants, enum, no_variants, variant, wrapped}
 use Rattle.kmip_ttlv_parts.specs.Names.{number, tag_of}
 use Rattle.kmip_ttlv_parts.specs.Rules.{at_least, equal, in_brackets, member, rule, sides}
@@ -56,8 +56,8 @@ key_material_cases i = record {
 pub key_material_case : {A : Type 0} {eq : KeyMaterial A → KeyMaterial A → Boole} (i : KeyMaterialItems A eq) (x : KeyMaterial A)
     → TypedCase 0x420043 (key_material_typ x) (enum (codes "material") (key_material_variants i)) (key_material_by (key_material_cases i) x)
 unfolding tag_of number rule sides equal at_least member in_brackets trim_end chars trim_start encode key_material_by
-key_material_case i (key_material.Bytes x) = typed_case i.bytes x first_variant (λ k. refl)
-key_material_case i (key_material.Structure x) = typed_case i.structure x (later_variant first_variant) (λ k. refl)
+key_material_case i (key_material.Bytes x) = typed_case i.bytes x (is_there _ 0 refl) (λ k. refl)
+key_material_case i (key_material.Structure x) = typed_case i.structure x (is_there _ 1 refl) (λ k. refl)
 
 pub key_material_same : {A : Type 0} {eq : KeyMaterial A → KeyMaterial A → Boole} (i : KeyMaterialItems A eq) (x y : KeyMaterial A)
     → (key_material_by (key_material_cases i) x).value ≡ (key_material_by (key_material_cases i) y).value
@@ -106,8 +106,8 @@ key_value_cases i = record {
 pub key_value_case : {A : Type 0} {eq : KeyValue A → KeyValue A → Boole} (i : KeyValueItems A eq) (x : KeyValue A)
     → TypedCase 0x420045 (key_value_typ x) (enum (codes "value") (key_value_variants i)) (key_value_by (key_value_cases i) x)
 unfolding tag_of number rule sides equal at_least member in_brackets trim_end chars trim_start encode key_value_by
-key_value_case i (key_value.Plain x) = typed_case i.plain x first_variant (λ k. refl)
-key_value_case i (key_value.Wrapped x) = typed_case i.wrapped x (later_variant first_variant) (λ k. refl)
+key_value_case i (key_value.Plain x) = typed_case i.plain x (is_there _ 0 refl) (λ k. refl)
+key_value_case i (key_value.Wrapped x) = typed_case i.wrapped x (is_there _ 1 refl) (λ k. refl)
 
 pub key_value_same : {A : Type 0} {eq : KeyValue A → KeyValue A → Boole} (i : KeyValueItems A eq) (x y : KeyValue A)
     → (key_value_by (key_value_cases i) x).value ≡ (key_value_by (key_value_cases i) y).value

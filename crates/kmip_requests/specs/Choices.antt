@@ -1,29 +1,33 @@
 -- Written by codegen from types.table: change that, and run codegen/codegen.
 -- Which rules choose what, and what is there of what may be.
-use Rattle.std.proofs.Common.{ap, refl, true, ◌∙◌}
+use Rattle.std.proofs.Common.{refl, true}
 use Rattle.std.specs.Option.{IsSomeAnd}
 use Rattle.std.specs.Prelude.{List, None, Option, Some, codes, ℕ, ◌+◌, ◌≡◌, [], ◌∷◌}
 use Rattle.std.specs.Str.{chars, trim_end, trim_start}
 use lib.Utf8.{encode}
-use Rattle.kmip_ttlv_kinds.specs.Choices.{Case, ChoiceOf, Held, Meaning, as_item, case_of, choice_by}
+use Rattle.kmip_ttlv_kinds.specs.Choices.{Case, ChoiceOf, Held, Meaning, TypedCase, as_item, case_of, choice_by, choice_by_type, typed_case}
 use Rattle.kmip_ttlv_parts.proofs.Equal.{apart, in_variant}
-use Rattle.kmip_ttlv_parts.proofs.MessageRules.{not_first}
-use Rattle.kmip_ttlv_parts.specs.Agreements.{first_variant, later_variant}
+use Rattle.kmip_ttlv_parts.proofs.ChoiceTexts.{BeginsBy, chosen_by_others, chosen_by_text, is_there}
+use Rattle.kmip_ttlv_parts.specs.RuleParts.{parts_of}
 use Rattle.kmip_ttlv_parts.specs.Forms.{Variants, enum, no_variants, variant, wrapped}
 use Rattle.kmip_ttlv_parts.specs.MessageParts.{there}
 use Rattle.kmip_ttlv_parts.specs.Names.{number, tag_of}
 use Rattle.kmip_ttlv_parts.specs.Returns.{IsNoneOf}
-use Rattle.kmip_ttlv_parts.specs.Rules.{at_least, chosen, choice, equal, in_brackets, member, past, rule, sides}
-use Rattle.kmip_ttlv_parts.specs.TagValues.{TagValue, last}
+use Rattle.kmip_ttlv_parts.specs.Rules.{at_least, equal, in_brackets, member, rule, sides}
 use Rattle.std.proofs.Common.{Bool as Boole}
 use Rattle.kmip_ttlv_parts.specs.declared.types.TtlvType.{TtlvType}
 use Rattle.kmip_ttlv_parts.specs.declared.types.TtlvType.TheVariants as types
+use Rattle.kmip_ttlv_parts.specs.declared.enumeration.Enumeration.{Enumeration}
 use Rattle.kmip_ttlv_parts.specs.declared.boxed.Boxed.{Boxed}
 use Rattle.kmip_requests.specs.declared.request_payload.RegisterRequest.{RegisterRequest}
+use Rattle.kmip_requests.specs.declared.request_payload.AttributeReference.{AttributeReference}
+use Rattle.kmip_requests.specs.declared.request_payload.AttributeReference.TheVariants as attribute_reference
+use Rattle.kmip_requests.specs.declared.request_payload.ImportRequest.{ImportRequest}
 use Rattle.kmip_requests.specs.declared.request_payload.RequestPayload.{RequestPayload}
 use Rattle.kmip_requests.specs.declared.request_payload.RequestPayload.TheVariants as request_payload
 use Rattle.kmip_objects.specs.declared.object.ManagedObject.{ManagedObject}
 use Rattle.kmip_objects.specs.declared.object.ManagedObject.TheVariants as managed_object
+use Rattle.kmip_ttlv_parts.specs.declared.kept.Kept.{Kept}
 use Rattle.kmip_requests.specs.declared.request_payload.CreateRequest.{CreateRequest}
 use Rattle.kmip_requests.specs.declared.request_payload.CreateKeyPairRequest.{CreateKeyPairRequest}
 use Rattle.kmip_requests.specs.declared.request_payload.ReKeyRequest.{ReKeyRequest}
@@ -42,7 +46,9 @@ use Rattle.kmip_requests.specs.declared.request_payload.AsynchronousRequest.{Asy
 use Rattle.kmip_requests.specs.declared.request_payload.ReKeyKeyPairRequest.{ReKeyKeyPairRequest}
 use Rattle.kmip_requests.specs.declared.request_payload.DiscoverVersionsRequest.{DiscoverVersionsRequest}
 use Rattle.kmip_requests.specs.declared.request_payload.CryptographicRequest.{CryptographicRequest}
-use Rattle.kmip_ttlv_parts.specs.declared.kept.Kept.{Kept}
+use Rattle.kmip_requests.specs.declared.request_payload.ExportRequest.{ExportRequest}
+use Rattle.kmip_requests.specs.declared.request_payload.LoginRequest.{LoginRequest}
+use Rattle.kmip_requests.specs.declared.request_payload.TicketRequest.{TicketRequest}
 
 -- which `object` of a `RegisterRequest` is there, if it is exactly one
 abbrev pub IsRegisterRequestObject : {A : Type 0} → RegisterRequest A → Option (ManagedObject A) → Type 0
@@ -55,6 +61,68 @@ IsRegisterRequestObject x (Some (managed_object.SplitKey inner)) = (x.certificat
 IsRegisterRequestObject x (Some (managed_object.Template inner)) = (x.certificate ≡ None) × (x.symmetric_key ≡ None) × (x.public_key ≡ None) × (x.private_key ≡ None) × (x.split_key ≡ None) × (x.template ≡ Some inner.now) × (x.secret_data ≡ None) × (x.opaque_object ≡ None)
 IsRegisterRequestObject x (Some (managed_object.SecretData inner)) = (x.certificate ≡ None) × (x.symmetric_key ≡ None) × (x.public_key ≡ None) × (x.private_key ≡ None) × (x.split_key ≡ None) × (x.template ≡ None) × (IsSomeAnd x.secret_data (λ y. y.inner.value ≡ inner.now)) × (x.opaque_object ≡ None)
 IsRegisterRequestObject x (Some (managed_object.OpaqueObject inner)) = (x.certificate ≡ None) × (x.symmetric_key ≡ None) × (x.public_key ≡ None) × (x.private_key ≡ None) × (x.split_key ≡ None) × (x.template ≡ None) × (x.secret_data ≡ None) × (x.opaque_object ≡ Some inner.now)
+
+-- the type of the item of a `AttributeReference`
+abbrev pub attribute_reference_typ : {A : Type 0} → AttributeReference A → TtlvType
+attribute_reference_typ (attribute_reference.Tag x) = types.Enumeration
+attribute_reference_typ (attribute_reference.Named x) = types.Structure
+
+-- what each thing means that a `AttributeReference` may hold
+pub record AttributeReferenceCases (A : Type 0) : Type 1 where
+  pub tag : ℕ → Meaning
+  pub named : Kept A → Meaning
+
+-- what it means
+unfoldable pub attribute_reference_by : {A : Type 0} → AttributeReferenceCases A → AttributeReference A → Meaning
+attribute_reference_by f (attribute_reference.Tag x) = f.tag x
+attribute_reference_by f (attribute_reference.Named x) = f.named x
+
+-- what a `AttributeReference` may hold
+pub record AttributeReferenceItems (A : Type 0) (eq : AttributeReference A → AttributeReference A → Boole) : Type 1 where
+  pub tag : Held 0x42013B types.Enumeration attribute_reference.Tag eq
+  pub named : Held 0x42013B types.Structure attribute_reference.Named eq
+
+-- its variants, by their rules
+abbrev pub attribute_reference_variants : {A : Type 0} {eq : AttributeReference A → AttributeReference A → Boole} → AttributeReferenceItems A eq → Variants
+attribute_reference_variants i =
+    variant (codes "if type==Enumeration") (wrapped i.tag.form) (
+    variant (codes "if type==Structure") (wrapped i.named.form) no_variants)
+
+abbrev pub attribute_reference_cases : {A : Type 0} {eq : AttributeReference A → AttributeReference A → Boole} → AttributeReferenceItems A eq → AttributeReferenceCases A
+attribute_reference_cases i = record {
+  tag = as_item (codes "reference") (codes "if type==Enumeration") i.tag;
+  named = as_item (codes "reference") (codes "if type==Structure") i.named;
+}
+
+pub attribute_reference_case : {A : Type 0} {eq : AttributeReference A → AttributeReference A → Boole} (i : AttributeReferenceItems A eq) (x : AttributeReference A)
+    → TypedCase 0x42013B (attribute_reference_typ x) (enum (codes "reference") (attribute_reference_variants i)) (attribute_reference_by (attribute_reference_cases i) x)
+unfolding tag_of number rule sides equal at_least member in_brackets trim_end chars trim_start encode attribute_reference_by
+attribute_reference_case i (attribute_reference.Tag x) = typed_case i.tag x (is_there _ 0 refl) (λ k. refl)
+attribute_reference_case i (attribute_reference.Named x) = typed_case i.named x (is_there _ 1 refl) (λ k. refl)
+
+pub attribute_reference_same : {A : Type 0} {eq : AttributeReference A → AttributeReference A → Boole} (i : AttributeReferenceItems A eq) (x y : AttributeReference A)
+    → (attribute_reference_by (attribute_reference_cases i) x).value ≡ (attribute_reference_by (attribute_reference_cases i) y).value
+    → eq x y ≡ true
+unfolding attribute_reference_by
+attribute_reference_same i (attribute_reference.Tag x) (attribute_reference.Tag y) e = i.tag.same x y (i.tag.rules.same x y (in_variant e))
+attribute_reference_same i (attribute_reference.Named x) (attribute_reference.Named y) e = i.named.same x y (i.named.rules.same x y (in_variant e))
+attribute_reference_same i x y e = absurd (apart e refl)
+
+-- the choice
+abbrev pub attribute_reference_choice : {A : Type 0} (eq : AttributeReference A → AttributeReference A → Boole) → AttributeReferenceItems A eq → ChoiceOf (AttributeReference A)
+attribute_reference_choice eq i = choice_by_type {typ = attribute_reference_typ} {m = attribute_reference_by (attribute_reference_cases i)} 0x42013B (attribute_reference_case i) eq (attribute_reference_same i)
+
+-- which `object` of a `ImportRequest` is there, if it is exactly one
+abbrev pub IsImportRequestObject : {A : Type 0} → ImportRequest A → Option (ManagedObject A) → Type 0
+IsImportRequestObject x None = (there x.certificate + (there x.symmetric_key + (there x.public_key + (there x.private_key + (there x.split_key + (there x.template + (there x.secret_data + there x.opaque_object)))))) ≡ 1) → ⊥
+IsImportRequestObject x (Some (managed_object.Certificate inner)) = (x.certificate ≡ Some inner.now) × (x.symmetric_key ≡ None) × (x.public_key ≡ None) × (x.private_key ≡ None) × (x.split_key ≡ None) × (x.template ≡ None) × (x.secret_data ≡ None) × (x.opaque_object ≡ None)
+IsImportRequestObject x (Some (managed_object.SymmetricKey inner)) = (x.certificate ≡ None) × (IsSomeAnd x.symmetric_key (λ y. y.inner.value ≡ inner.now)) × (x.public_key ≡ None) × (x.private_key ≡ None) × (x.split_key ≡ None) × (x.template ≡ None) × (x.secret_data ≡ None) × (x.opaque_object ≡ None)
+IsImportRequestObject x (Some (managed_object.PublicKey inner)) = (x.certificate ≡ None) × (x.symmetric_key ≡ None) × (IsSomeAnd x.public_key (λ y. y.inner.value ≡ inner.now)) × (x.private_key ≡ None) × (x.split_key ≡ None) × (x.template ≡ None) × (x.secret_data ≡ None) × (x.opaque_object ≡ None)
+IsImportRequestObject x (Some (managed_object.PrivateKey inner)) = (x.certificate ≡ None) × (x.symmetric_key ≡ None) × (x.public_key ≡ None) × (IsSomeAnd x.private_key (λ y. y.inner.value ≡ inner.now)) × (x.split_key ≡ None) × (x.template ≡ None) × (x.secret_data ≡ None) × (x.opaque_object ≡ None)
+IsImportRequestObject x (Some (managed_object.SplitKey inner)) = (x.certificate ≡ None) × (x.symmetric_key ≡ None) × (x.public_key ≡ None) × (x.private_key ≡ None) × (IsSomeAnd x.split_key (λ y. y.inner.value ≡ inner.now)) × (x.template ≡ None) × (x.secret_data ≡ None) × (x.opaque_object ≡ None)
+IsImportRequestObject x (Some (managed_object.Template inner)) = (x.certificate ≡ None) × (x.symmetric_key ≡ None) × (x.public_key ≡ None) × (x.private_key ≡ None) × (x.split_key ≡ None) × (x.template ≡ Some inner.now) × (x.secret_data ≡ None) × (x.opaque_object ≡ None)
+IsImportRequestObject x (Some (managed_object.SecretData inner)) = (x.certificate ≡ None) × (x.symmetric_key ≡ None) × (x.public_key ≡ None) × (x.private_key ≡ None) × (x.split_key ≡ None) × (x.template ≡ None) × (IsSomeAnd x.secret_data (λ y. y.inner.value ≡ inner.now)) × (x.opaque_object ≡ None)
+IsImportRequestObject x (Some (managed_object.OpaqueObject inner)) = (x.certificate ≡ None) × (x.symmetric_key ≡ None) × (x.public_key ≡ None) × (x.private_key ≡ None) × (x.split_key ≡ None) × (x.template ≡ None) × (x.secret_data ≡ None) × (x.opaque_object ≡ Some inner.now)
 
 -- the texts of 42005C that choose a variant of a `RequestPayload` whatever the type of its item is
 abbrev pub request_payload_names : List (List ℕ)
@@ -91,6 +159,10 @@ request_payload_names =
     codes "0x00000023" ∷
     codes "0x00000024" ∷
     codes "0x00000027" ∷
+    codes "0x0000002A" ∷
+    codes "0x0000002B" ∷
+    codes "0x0000002D" ∷
+    codes "0x0000002E" ∷
     []
 
 -- what is said, if it is the text of 42005C, chooses what is in a `RequestPayload`
@@ -127,14 +199,18 @@ ChoosesRequestPayload said (request_payload.SignatureVerify x) = (said ≡ codes
 ChoosesRequestPayload said (request_payload.Mac x) = (said ≡ codes "0x00000023")
 ChoosesRequestPayload said (request_payload.MacVerify x) = (said ≡ codes "0x00000024")
 ChoosesRequestPayload said (request_payload.Hash x) = (said ≡ codes "0x00000027")
+ChoosesRequestPayload said (request_payload.Import x) = (said ≡ codes "0x0000002A")
+ChoosesRequestPayload said (request_payload.Export x) = (said ≡ codes "0x0000002B")
+ChoosesRequestPayload said (request_payload.Login x) = (said ≡ codes "0x0000002D")
+ChoosesRequestPayload said (request_payload.Logout x) = (said ≡ codes "0x0000002E")
 ChoosesRequestPayload said (request_payload.Other x) = IsNoneOf said request_payload_names
 
 -- what each thing means that a `RequestPayload` may hold
 pub record RequestPayloadCases (A : Type 0) : Type 1 where
   pub create : CreateRequest A → Meaning
   pub create_key_pair : Boxed (CreateKeyPairRequest A) A → Meaning
-  pub register : RegisterRequest A → Meaning
-  pub re_key : ReKeyRequest A → Meaning
+  pub register : Boxed (RegisterRequest A) A → Meaning
+  pub re_key : Boxed (ReKeyRequest A) A → Meaning
   pub derive_key : Boxed (DeriveKeyRequest A) A → Meaning
   pub locate : LocateRequest A → Meaning
   pub check : CheckRequest A → Meaning
@@ -143,7 +219,7 @@ pub record RequestPayloadCases (A : Type 0) : Type 1 where
   pub get_attribute_list : ObjectRequest A → Meaning
   pub add_attribute : Boxed (AttributeRequest A) A → Meaning
   pub modify_attribute : Boxed (AttributeRequest A) A → Meaning
-  pub delete_attribute : DeleteAttributeRequest A → Meaning
+  pub delete_attribute : Boxed (DeleteAttributeRequest A) A → Meaning
   pub obtain_lease : ObjectRequest A → Meaning
   pub get_usage_allocation : UsageAllocationRequest A → Meaning
   pub activate : ObjectRequest A → Meaning
@@ -163,6 +239,10 @@ pub record RequestPayloadCases (A : Type 0) : Type 1 where
   pub mac : Boxed (CryptographicRequest A) A → Meaning
   pub mac_verify : Boxed (CryptographicRequest A) A → Meaning
   pub hash : Boxed (CryptographicRequest A) A → Meaning
+  pub import : Boxed (ImportRequest A) A → Meaning
+  pub export : Boxed (ExportRequest A) A → Meaning
+  pub login : LoginRequest A → Meaning
+  pub logout : TicketRequest A → Meaning
   pub other : Kept A → Meaning
 
 -- what it means
@@ -199,6 +279,10 @@ request_payload_by f (request_payload.SignatureVerify x) = f.signature_verify x
 request_payload_by f (request_payload.Mac x) = f.mac x
 request_payload_by f (request_payload.MacVerify x) = f.mac_verify x
 request_payload_by f (request_payload.Hash x) = f.hash x
+request_payload_by f (request_payload.Import x) = f.import x
+request_payload_by f (request_payload.Export x) = f.export x
+request_payload_by f (request_payload.Login x) = f.login x
+request_payload_by f (request_payload.Logout x) = f.logout x
 request_payload_by f (request_payload.Other x) = f.other x
 
 -- what a `RequestPayload` may hold
@@ -235,6 +319,10 @@ pub record RequestPayloadItems (A : Type 0) (eq : RequestPayload A → RequestPa
   pub mac : Held 0x420079 types.Structure request_payload.Mac eq
   pub mac_verify : Held 0x420079 types.Structure request_payload.MacVerify eq
   pub hash : Held 0x420079 types.Structure request_payload.Hash eq
+  pub import : Held 0x420079 types.Structure request_payload.Import eq
+  pub export : Held 0x420079 types.Structure request_payload.Export eq
+  pub login : Held 0x420079 types.Structure request_payload.Login eq
+  pub logout : Held 0x420079 types.Structure request_payload.Logout eq
   pub other : Held 0x420079 types.Structure request_payload.Other eq
 
 -- its variants, by their rules
@@ -272,7 +360,11 @@ request_payload_variants i =
     variant (codes "if 0x42005C==0x00000023") (wrapped i.mac.form) (
     variant (codes "if 0x42005C==0x00000024") (wrapped i.mac_verify.form) (
     variant (codes "if 0x42005C==0x00000027") (wrapped i.hash.form) (
-    variant (codes "if type==Structure") (wrapped i.other.form) no_variants))))))))))))))))))))))))))))))))
+    variant (codes "if 0x42005C==0x0000002A") (wrapped i.import.form) (
+    variant (codes "if 0x42005C==0x0000002B") (wrapped i.export.form) (
+    variant (codes "if 0x42005C==0x0000002D") (wrapped i.login.form) (
+    variant (codes "if 0x42005C==0x0000002E") (wrapped i.logout.form) (
+    variant (codes "if type==Structure") (wrapped i.other.form) no_variants))))))))))))))))))))))))))))))))))))
 
 abbrev pub request_payload_cases : {A : Type 0} {eq : RequestPayload A → RequestPayload A → Boole} → RequestPayloadItems A eq → RequestPayloadCases A
 request_payload_cases i = record {
@@ -308,87 +400,98 @@ request_payload_cases i = record {
   mac = as_item (codes "payload") (codes "if 0x42005C==0x00000023") i.mac;
   mac_verify = as_item (codes "payload") (codes "if 0x42005C==0x00000024") i.mac_verify;
   hash = as_item (codes "payload") (codes "if 0x42005C==0x00000027") i.hash;
+  import = as_item (codes "payload") (codes "if 0x42005C==0x0000002A") i.import;
+  export = as_item (codes "payload") (codes "if 0x42005C==0x0000002B") i.export;
+  login = as_item (codes "payload") (codes "if 0x42005C==0x0000002D") i.login;
+  logout = as_item (codes "payload") (codes "if 0x42005C==0x0000002E") i.logout;
   other = as_item (codes "payload") (codes "if type==Structure") i.other;
 }
 
--- where what is said is none of the names, the type of the item chooses
-request_payload_unnamed : {A : Type 0} {eq : RequestPayload A → RequestPayload A → Boole} (i : RequestPayloadItems A eq) (said : List ℕ) (k : List TagValue) (typ : TtlvType) (n : ℕ)
-    → IsNoneOf said request_payload_names → last k 0x42005C ≡ Some said
-    → choice (variant (codes "if type==Structure") (wrapped i.other.form) no_variants) k typ ≡ chosen n
-    → choice (request_payload_variants i) k typ ≡ past 1 (past 1 (past 1 (past 1 (past 1 (past 1 (past 1 (past 1 (past 1 (past 1 (past 1 (past 1 (past 1 (past 1 (past 1 (past 1 (past 1 (past 1 (past 1 (past 1 (past 1 (past 1 (past 1 (past 1 (past 1 (past 1 (past 1 (past 1 (past 1 (past 1 (past 1 (past 1 (chosen n))))))))))))))))))))))))))))))))
-unfolding tag_of number rule sides equal at_least member in_brackets trim_end chars trim_start encode
-request_payload_unnamed i said k typ n none found e =
-    let n0 = not_first said (codes "0x00000001") (codes "0x00000002" ∷ codes "0x00000003" ∷ codes "0x00000004" ∷ codes "0x00000005" ∷ codes "0x00000008" ∷ codes "0x00000009" ∷ codes "0x0000000A" ∷ codes "0x0000000B" ∷ codes "0x0000000C" ∷ codes "0x0000000D" ∷ codes "0x0000000E" ∷ codes "0x0000000F" ∷ codes "0x00000010" ∷ codes "0x00000011" ∷ codes "0x00000012" ∷ codes "0x00000013" ∷ codes "0x00000014" ∷ codes "0x00000015" ∷ codes "0x00000016" ∷ codes "0x00000018" ∷ codes "0x00000019" ∷ codes "0x0000001A" ∷ codes "0x0000001D" ∷ codes "0x0000001E" ∷ codes "0x0000001F" ∷ codes "0x00000020" ∷ codes "0x00000021" ∷ codes "0x00000022" ∷ codes "0x00000023" ∷ codes "0x00000024" ∷ codes "0x00000027" ∷ []) none in
-    let n1 = not_first said (codes "0x00000002") (codes "0x00000003" ∷ codes "0x00000004" ∷ codes "0x00000005" ∷ codes "0x00000008" ∷ codes "0x00000009" ∷ codes "0x0000000A" ∷ codes "0x0000000B" ∷ codes "0x0000000C" ∷ codes "0x0000000D" ∷ codes "0x0000000E" ∷ codes "0x0000000F" ∷ codes "0x00000010" ∷ codes "0x00000011" ∷ codes "0x00000012" ∷ codes "0x00000013" ∷ codes "0x00000014" ∷ codes "0x00000015" ∷ codes "0x00000016" ∷ codes "0x00000018" ∷ codes "0x00000019" ∷ codes "0x0000001A" ∷ codes "0x0000001D" ∷ codes "0x0000001E" ∷ codes "0x0000001F" ∷ codes "0x00000020" ∷ codes "0x00000021" ∷ codes "0x00000022" ∷ codes "0x00000023" ∷ codes "0x00000024" ∷ codes "0x00000027" ∷ []) n0.1 in
-    let n2 = not_first said (codes "0x00000003") (codes "0x00000004" ∷ codes "0x00000005" ∷ codes "0x00000008" ∷ codes "0x00000009" ∷ codes "0x0000000A" ∷ codes "0x0000000B" ∷ codes "0x0000000C" ∷ codes "0x0000000D" ∷ codes "0x0000000E" ∷ codes "0x0000000F" ∷ codes "0x00000010" ∷ codes "0x00000011" ∷ codes "0x00000012" ∷ codes "0x00000013" ∷ codes "0x00000014" ∷ codes "0x00000015" ∷ codes "0x00000016" ∷ codes "0x00000018" ∷ codes "0x00000019" ∷ codes "0x0000001A" ∷ codes "0x0000001D" ∷ codes "0x0000001E" ∷ codes "0x0000001F" ∷ codes "0x00000020" ∷ codes "0x00000021" ∷ codes "0x00000022" ∷ codes "0x00000023" ∷ codes "0x00000024" ∷ codes "0x00000027" ∷ []) n1.1 in
-    let n3 = not_first said (codes "0x00000004") (codes "0x00000005" ∷ codes "0x00000008" ∷ codes "0x00000009" ∷ codes "0x0000000A" ∷ codes "0x0000000B" ∷ codes "0x0000000C" ∷ codes "0x0000000D" ∷ codes "0x0000000E" ∷ codes "0x0000000F" ∷ codes "0x00000010" ∷ codes "0x00000011" ∷ codes "0x00000012" ∷ codes "0x00000013" ∷ codes "0x00000014" ∷ codes "0x00000015" ∷ codes "0x00000016" ∷ codes "0x00000018" ∷ codes "0x00000019" ∷ codes "0x0000001A" ∷ codes "0x0000001D" ∷ codes "0x0000001E" ∷ codes "0x0000001F" ∷ codes "0x00000020" ∷ codes "0x00000021" ∷ codes "0x00000022" ∷ codes "0x00000023" ∷ codes "0x00000024" ∷ codes "0x00000027" ∷ []) n2.1 in
-    let n4 = not_first said (codes "0x00000005") (codes "0x00000008" ∷ codes "0x00000009" ∷ codes "0x0000000A" ∷ codes "0x0000000B" ∷ codes "0x0000000C" ∷ codes "0x0000000D" ∷ codes "0x0000000E" ∷ codes "0x0000000F" ∷ codes "0x00000010" ∷ codes "0x00000011" ∷ codes "0x00000012" ∷ codes "0x00000013" ∷ codes "0x00000014" ∷ codes "0x00000015" ∷ codes "0x00000016" ∷ codes "0x00000018" ∷ codes "0x00000019" ∷ codes "0x0000001A" ∷ codes "0x0000001D" ∷ codes "0x0000001E" ∷ codes "0x0000001F" ∷ codes "0x00000020" ∷ codes "0x00000021" ∷ codes "0x00000022" ∷ codes "0x00000023" ∷ codes "0x00000024" ∷ codes "0x00000027" ∷ []) n3.1 in
-    let n5 = not_first said (codes "0x00000008") (codes "0x00000009" ∷ codes "0x0000000A" ∷ codes "0x0000000B" ∷ codes "0x0000000C" ∷ codes "0x0000000D" ∷ codes "0x0000000E" ∷ codes "0x0000000F" ∷ codes "0x00000010" ∷ codes "0x00000011" ∷ codes "0x00000012" ∷ codes "0x00000013" ∷ codes "0x00000014" ∷ codes "0x00000015" ∷ codes "0x00000016" ∷ codes "0x00000018" ∷ codes "0x00000019" ∷ codes "0x0000001A" ∷ codes "0x0000001D" ∷ codes "0x0000001E" ∷ codes "0x0000001F" ∷ codes "0x00000020" ∷ codes "0x00000021" ∷ codes "0x00000022" ∷ codes "0x00000023" ∷ codes "0x00000024" ∷ codes "0x00000027" ∷ []) n4.1 in
-    let n6 = not_first said (codes "0x00000009") (codes "0x0000000A" ∷ codes "0x0000000B" ∷ codes "0x0000000C" ∷ codes "0x0000000D" ∷ codes "0x0000000E" ∷ codes "0x0000000F" ∷ codes "0x00000010" ∷ codes "0x00000011" ∷ codes "0x00000012" ∷ codes "0x00000013" ∷ codes "0x00000014" ∷ codes "0x00000015" ∷ codes "0x00000016" ∷ codes "0x00000018" ∷ codes "0x00000019" ∷ codes "0x0000001A" ∷ codes "0x0000001D" ∷ codes "0x0000001E" ∷ codes "0x0000001F" ∷ codes "0x00000020" ∷ codes "0x00000021" ∷ codes "0x00000022" ∷ codes "0x00000023" ∷ codes "0x00000024" ∷ codes "0x00000027" ∷ []) n5.1 in
-    let n7 = not_first said (codes "0x0000000A") (codes "0x0000000B" ∷ codes "0x0000000C" ∷ codes "0x0000000D" ∷ codes "0x0000000E" ∷ codes "0x0000000F" ∷ codes "0x00000010" ∷ codes "0x00000011" ∷ codes "0x00000012" ∷ codes "0x00000013" ∷ codes "0x00000014" ∷ codes "0x00000015" ∷ codes "0x00000016" ∷ codes "0x00000018" ∷ codes "0x00000019" ∷ codes "0x0000001A" ∷ codes "0x0000001D" ∷ codes "0x0000001E" ∷ codes "0x0000001F" ∷ codes "0x00000020" ∷ codes "0x00000021" ∷ codes "0x00000022" ∷ codes "0x00000023" ∷ codes "0x00000024" ∷ codes "0x00000027" ∷ []) n6.1 in
-    let n8 = not_first said (codes "0x0000000B") (codes "0x0000000C" ∷ codes "0x0000000D" ∷ codes "0x0000000E" ∷ codes "0x0000000F" ∷ codes "0x00000010" ∷ codes "0x00000011" ∷ codes "0x00000012" ∷ codes "0x00000013" ∷ codes "0x00000014" ∷ codes "0x00000015" ∷ codes "0x00000016" ∷ codes "0x00000018" ∷ codes "0x00000019" ∷ codes "0x0000001A" ∷ codes "0x0000001D" ∷ codes "0x0000001E" ∷ codes "0x0000001F" ∷ codes "0x00000020" ∷ codes "0x00000021" ∷ codes "0x00000022" ∷ codes "0x00000023" ∷ codes "0x00000024" ∷ codes "0x00000027" ∷ []) n7.1 in
-    let n9 = not_first said (codes "0x0000000C") (codes "0x0000000D" ∷ codes "0x0000000E" ∷ codes "0x0000000F" ∷ codes "0x00000010" ∷ codes "0x00000011" ∷ codes "0x00000012" ∷ codes "0x00000013" ∷ codes "0x00000014" ∷ codes "0x00000015" ∷ codes "0x00000016" ∷ codes "0x00000018" ∷ codes "0x00000019" ∷ codes "0x0000001A" ∷ codes "0x0000001D" ∷ codes "0x0000001E" ∷ codes "0x0000001F" ∷ codes "0x00000020" ∷ codes "0x00000021" ∷ codes "0x00000022" ∷ codes "0x00000023" ∷ codes "0x00000024" ∷ codes "0x00000027" ∷ []) n8.1 in
-    let n10 = not_first said (codes "0x0000000D") (codes "0x0000000E" ∷ codes "0x0000000F" ∷ codes "0x00000010" ∷ codes "0x00000011" ∷ codes "0x00000012" ∷ codes "0x00000013" ∷ codes "0x00000014" ∷ codes "0x00000015" ∷ codes "0x00000016" ∷ codes "0x00000018" ∷ codes "0x00000019" ∷ codes "0x0000001A" ∷ codes "0x0000001D" ∷ codes "0x0000001E" ∷ codes "0x0000001F" ∷ codes "0x00000020" ∷ codes "0x00000021" ∷ codes "0x00000022" ∷ codes "0x00000023" ∷ codes "0x00000024" ∷ codes "0x00000027" ∷ []) n9.1 in
-    let n11 = not_first said (codes "0x0000000E") (codes "0x0000000F" ∷ codes "0x00000010" ∷ codes "0x00000011" ∷ codes "0x00000012" ∷ codes "0x00000013" ∷ codes "0x00000014" ∷ codes "0x00000015" ∷ codes "0x00000016" ∷ codes "0x00000018" ∷ codes "0x00000019" ∷ codes "0x0000001A" ∷ codes "0x0000001D" ∷ codes "0x0000001E" ∷ codes "0x0000001F" ∷ codes "0x00000020" ∷ codes "0x00000021" ∷ codes "0x00000022" ∷ codes "0x00000023" ∷ codes "0x00000024" ∷ codes "0x00000027" ∷ []) n10.1 in
-    let n12 = not_first said (codes "0x0000000F") (codes "0x00000010" ∷ codes "0x00000011" ∷ codes "0x00000012" ∷ codes "0x00000013" ∷ codes "0x00000014" ∷ codes "0x00000015" ∷ codes "0x00000016" ∷ codes "0x00000018" ∷ codes "0x00000019" ∷ codes "0x0000001A" ∷ codes "0x0000001D" ∷ codes "0x0000001E" ∷ codes "0x0000001F" ∷ codes "0x00000020" ∷ codes "0x00000021" ∷ codes "0x00000022" ∷ codes "0x00000023" ∷ codes "0x00000024" ∷ codes "0x00000027" ∷ []) n11.1 in
-    let n13 = not_first said (codes "0x00000010") (codes "0x00000011" ∷ codes "0x00000012" ∷ codes "0x00000013" ∷ codes "0x00000014" ∷ codes "0x00000015" ∷ codes "0x00000016" ∷ codes "0x00000018" ∷ codes "0x00000019" ∷ codes "0x0000001A" ∷ codes "0x0000001D" ∷ codes "0x0000001E" ∷ codes "0x0000001F" ∷ codes "0x00000020" ∷ codes "0x00000021" ∷ codes "0x00000022" ∷ codes "0x00000023" ∷ codes "0x00000024" ∷ codes "0x00000027" ∷ []) n12.1 in
-    let n14 = not_first said (codes "0x00000011") (codes "0x00000012" ∷ codes "0x00000013" ∷ codes "0x00000014" ∷ codes "0x00000015" ∷ codes "0x00000016" ∷ codes "0x00000018" ∷ codes "0x00000019" ∷ codes "0x0000001A" ∷ codes "0x0000001D" ∷ codes "0x0000001E" ∷ codes "0x0000001F" ∷ codes "0x00000020" ∷ codes "0x00000021" ∷ codes "0x00000022" ∷ codes "0x00000023" ∷ codes "0x00000024" ∷ codes "0x00000027" ∷ []) n13.1 in
-    let n15 = not_first said (codes "0x00000012") (codes "0x00000013" ∷ codes "0x00000014" ∷ codes "0x00000015" ∷ codes "0x00000016" ∷ codes "0x00000018" ∷ codes "0x00000019" ∷ codes "0x0000001A" ∷ codes "0x0000001D" ∷ codes "0x0000001E" ∷ codes "0x0000001F" ∷ codes "0x00000020" ∷ codes "0x00000021" ∷ codes "0x00000022" ∷ codes "0x00000023" ∷ codes "0x00000024" ∷ codes "0x00000027" ∷ []) n14.1 in
-    let n16 = not_first said (codes "0x00000013") (codes "0x00000014" ∷ codes "0x00000015" ∷ codes "0x00000016" ∷ codes "0x00000018" ∷ codes "0x00000019" ∷ codes "0x0000001A" ∷ codes "0x0000001D" ∷ codes "0x0000001E" ∷ codes "0x0000001F" ∷ codes "0x00000020" ∷ codes "0x00000021" ∷ codes "0x00000022" ∷ codes "0x00000023" ∷ codes "0x00000024" ∷ codes "0x00000027" ∷ []) n15.1 in
-    let n17 = not_first said (codes "0x00000014") (codes "0x00000015" ∷ codes "0x00000016" ∷ codes "0x00000018" ∷ codes "0x00000019" ∷ codes "0x0000001A" ∷ codes "0x0000001D" ∷ codes "0x0000001E" ∷ codes "0x0000001F" ∷ codes "0x00000020" ∷ codes "0x00000021" ∷ codes "0x00000022" ∷ codes "0x00000023" ∷ codes "0x00000024" ∷ codes "0x00000027" ∷ []) n16.1 in
-    let n18 = not_first said (codes "0x00000015") (codes "0x00000016" ∷ codes "0x00000018" ∷ codes "0x00000019" ∷ codes "0x0000001A" ∷ codes "0x0000001D" ∷ codes "0x0000001E" ∷ codes "0x0000001F" ∷ codes "0x00000020" ∷ codes "0x00000021" ∷ codes "0x00000022" ∷ codes "0x00000023" ∷ codes "0x00000024" ∷ codes "0x00000027" ∷ []) n17.1 in
-    let n19 = not_first said (codes "0x00000016") (codes "0x00000018" ∷ codes "0x00000019" ∷ codes "0x0000001A" ∷ codes "0x0000001D" ∷ codes "0x0000001E" ∷ codes "0x0000001F" ∷ codes "0x00000020" ∷ codes "0x00000021" ∷ codes "0x00000022" ∷ codes "0x00000023" ∷ codes "0x00000024" ∷ codes "0x00000027" ∷ []) n18.1 in
-    let n20 = not_first said (codes "0x00000018") (codes "0x00000019" ∷ codes "0x0000001A" ∷ codes "0x0000001D" ∷ codes "0x0000001E" ∷ codes "0x0000001F" ∷ codes "0x00000020" ∷ codes "0x00000021" ∷ codes "0x00000022" ∷ codes "0x00000023" ∷ codes "0x00000024" ∷ codes "0x00000027" ∷ []) n19.1 in
-    let n21 = not_first said (codes "0x00000019") (codes "0x0000001A" ∷ codes "0x0000001D" ∷ codes "0x0000001E" ∷ codes "0x0000001F" ∷ codes "0x00000020" ∷ codes "0x00000021" ∷ codes "0x00000022" ∷ codes "0x00000023" ∷ codes "0x00000024" ∷ codes "0x00000027" ∷ []) n20.1 in
-    let n22 = not_first said (codes "0x0000001A") (codes "0x0000001D" ∷ codes "0x0000001E" ∷ codes "0x0000001F" ∷ codes "0x00000020" ∷ codes "0x00000021" ∷ codes "0x00000022" ∷ codes "0x00000023" ∷ codes "0x00000024" ∷ codes "0x00000027" ∷ []) n21.1 in
-    let n23 = not_first said (codes "0x0000001D") (codes "0x0000001E" ∷ codes "0x0000001F" ∷ codes "0x00000020" ∷ codes "0x00000021" ∷ codes "0x00000022" ∷ codes "0x00000023" ∷ codes "0x00000024" ∷ codes "0x00000027" ∷ []) n22.1 in
-    let n24 = not_first said (codes "0x0000001E") (codes "0x0000001F" ∷ codes "0x00000020" ∷ codes "0x00000021" ∷ codes "0x00000022" ∷ codes "0x00000023" ∷ codes "0x00000024" ∷ codes "0x00000027" ∷ []) n23.1 in
-    let n25 = not_first said (codes "0x0000001F") (codes "0x00000020" ∷ codes "0x00000021" ∷ codes "0x00000022" ∷ codes "0x00000023" ∷ codes "0x00000024" ∷ codes "0x00000027" ∷ []) n24.1 in
-    let n26 = not_first said (codes "0x00000020") (codes "0x00000021" ∷ codes "0x00000022" ∷ codes "0x00000023" ∷ codes "0x00000024" ∷ codes "0x00000027" ∷ []) n25.1 in
-    let n27 = not_first said (codes "0x00000021") (codes "0x00000022" ∷ codes "0x00000023" ∷ codes "0x00000024" ∷ codes "0x00000027" ∷ []) n26.1 in
-    let n28 = not_first said (codes "0x00000022") (codes "0x00000023" ∷ codes "0x00000024" ∷ codes "0x00000027" ∷ []) n27.1 in
-    let n29 = not_first said (codes "0x00000023") (codes "0x00000024" ∷ codes "0x00000027" ∷ []) n28.1 in
-    let n30 = not_first said (codes "0x00000024") (codes "0x00000027" ∷ []) n29.1 in
-    let n31 = not_first said (codes "0x00000027") ([]) n30.1 in
-    rw (found, n0.0, n1.0, n2.0, n3.0, n4.0, n5.0, n6.0, n7.0, n8.0, n9.0, n10.0, n11.0, n12.0, n13.0, n14.0, n15.0, n16.0, n17.0, n18.0, n19.0, n20.0, n21.0, n22.0, n23.0, n24.0, n25.0, n26.0, n27.0, n28.0, n29.0, n30.0, n31.0)
-    (ap (λ c. past 1 (past 1 (past 1 (past 1 (past 1 (past 1 (past 1 (past 1 (past 1 (past 1 (past 1 (past 1 (past 1 (past 1 (past 1 (past 1 (past 1 (past 1 (past 1 (past 1 (past 1 (past 1 (past 1 (past 1 (past 1 (past 1 (past 1 (past 1 (past 1 (past 1 (past 1 (past 1 (c))))))))))))))))))))))))))))))))) e)
+-- the texts of 42005C that its rules ask for
+abbrev pub request_payload_texts : List (List (List ℕ))
+request_payload_texts =
+    (codes "0x00000001" ∷ []) ∷
+    (codes "0x00000002" ∷ []) ∷
+    (codes "0x00000003" ∷ []) ∷
+    (codes "0x00000004" ∷ []) ∷
+    (codes "0x00000005" ∷ []) ∷
+    (codes "0x00000008" ∷ []) ∷
+    (codes "0x00000009" ∷ []) ∷
+    (codes "0x0000000A" ∷ []) ∷
+    (codes "0x0000000B" ∷ []) ∷
+    (codes "0x0000000C" ∷ []) ∷
+    (codes "0x0000000D" ∷ []) ∷
+    (codes "0x0000000E" ∷ []) ∷
+    (codes "0x0000000F" ∷ []) ∷
+    (codes "0x00000010" ∷ []) ∷
+    (codes "0x00000011" ∷ []) ∷
+    (codes "0x00000012" ∷ []) ∷
+    (codes "0x00000013" ∷ []) ∷
+    (codes "0x00000014" ∷ []) ∷
+    (codes "0x00000015" ∷ []) ∷
+    (codes "0x00000016" ∷ []) ∷
+    (codes "0x00000018" ∷ []) ∷
+    (codes "0x00000019" ∷ []) ∷
+    (codes "0x0000001A" ∷ []) ∷
+    (codes "0x0000001D" ∷ []) ∷
+    (codes "0x0000001E" ∷ []) ∷
+    (codes "0x0000001F" ∷ []) ∷
+    (codes "0x00000020" ∷ []) ∷
+    (codes "0x00000021" ∷ []) ∷
+    (codes "0x00000022" ∷ []) ∷
+    (codes "0x00000023" ∷ []) ∷
+    (codes "0x00000024" ∷ []) ∷
+    (codes "0x00000027" ∷ []) ∷
+    (codes "0x0000002A" ∷ []) ∷
+    (codes "0x0000002B" ∷ []) ∷
+    (codes "0x0000002D" ∷ []) ∷
+    (codes "0x0000002E" ∷ []) ∷
+    []
+
+request_payload_begins : {A : Type 0} {eq : RequestPayload A → RequestPayload A → Boole} (i : RequestPayloadItems A eq) → BeginsBy 0x42005C request_payload_texts (request_payload_variants i) (variant (codes "if type==Structure") (wrapped i.other.form) no_variants)
+unfolding parts_of
+request_payload_begins i = record { all = (refl, (refl, (refl, (refl, (refl, (refl, (refl, (refl, (refl, (refl, (refl, (refl, (refl, (refl, (refl, (refl, (refl, (refl, (refl, (refl, (refl, (refl, (refl, (refl, (refl, (refl, (refl, (refl, (refl, (refl, (refl, (refl, (refl, (refl, (refl, (refl, refl)))))))))))))))))))))))))))))))))))) }
 
 pub request_payload_case : {A : Type 0} {eq : RequestPayload A → RequestPayload A → Boole} (i : RequestPayloadItems A eq) (x : RequestPayload A)
     → Case 0x420079 0x42005C types.Structure (enum (codes "payload") (request_payload_variants i)) (λ said. ChoosesRequestPayload said x) (request_payload_by (request_payload_cases i) x)
 unfolding tag_of number rule sides equal at_least member in_brackets trim_end chars trim_start encode request_payload_by
-request_payload_case i (request_payload.Create x) = case_of i.create x first_variant (λ said chooses k found. rw (found ∙ ap Some chooses) refl)
-request_payload_case i (request_payload.CreateKeyPair x) = case_of i.create_key_pair x (later_variant first_variant) (λ said chooses k found. rw (found ∙ ap Some chooses) refl)
-request_payload_case i (request_payload.Register x) = case_of i.register x (later_variant (later_variant first_variant)) (λ said chooses k found. rw (found ∙ ap Some chooses) refl)
-request_payload_case i (request_payload.ReKey x) = case_of i.re_key x (later_variant (later_variant (later_variant first_variant))) (λ said chooses k found. rw (found ∙ ap Some chooses) refl)
-request_payload_case i (request_payload.DeriveKey x) = case_of i.derive_key x (later_variant (later_variant (later_variant (later_variant first_variant)))) (λ said chooses k found. rw (found ∙ ap Some chooses) refl)
-request_payload_case i (request_payload.Locate x) = case_of i.locate x (later_variant (later_variant (later_variant (later_variant (later_variant first_variant))))) (λ said chooses k found. rw (found ∙ ap Some chooses) refl)
-request_payload_case i (request_payload.Check x) = case_of i.check x (later_variant (later_variant (later_variant (later_variant (later_variant (later_variant first_variant)))))) (λ said chooses k found. rw (found ∙ ap Some chooses) refl)
-request_payload_case i (request_payload.Get x) = case_of i.get x (later_variant (later_variant (later_variant (later_variant (later_variant (later_variant (later_variant first_variant))))))) (λ said chooses k found. rw (found ∙ ap Some chooses) refl)
-request_payload_case i (request_payload.GetAttributes x) = case_of i.get_attributes x (later_variant (later_variant (later_variant (later_variant (later_variant (later_variant (later_variant (later_variant first_variant)))))))) (λ said chooses k found. rw (found ∙ ap Some chooses) refl)
-request_payload_case i (request_payload.GetAttributeList x) = case_of i.get_attribute_list x (later_variant (later_variant (later_variant (later_variant (later_variant (later_variant (later_variant (later_variant (later_variant first_variant))))))))) (λ said chooses k found. rw (found ∙ ap Some chooses) refl)
-request_payload_case i (request_payload.AddAttribute x) = case_of i.add_attribute x (later_variant (later_variant (later_variant (later_variant (later_variant (later_variant (later_variant (later_variant (later_variant (later_variant first_variant)))))))))) (λ said chooses k found. rw (found ∙ ap Some chooses) refl)
-request_payload_case i (request_payload.ModifyAttribute x) = case_of i.modify_attribute x (later_variant (later_variant (later_variant (later_variant (later_variant (later_variant (later_variant (later_variant (later_variant (later_variant (later_variant first_variant))))))))))) (λ said chooses k found. rw (found ∙ ap Some chooses) refl)
-request_payload_case i (request_payload.DeleteAttribute x) = case_of i.delete_attribute x (later_variant (later_variant (later_variant (later_variant (later_variant (later_variant (later_variant (later_variant (later_variant (later_variant (later_variant (later_variant first_variant)))))))))))) (λ said chooses k found. rw (found ∙ ap Some chooses) refl)
-request_payload_case i (request_payload.ObtainLease x) = case_of i.obtain_lease x (later_variant (later_variant (later_variant (later_variant (later_variant (later_variant (later_variant (later_variant (later_variant (later_variant (later_variant (later_variant (later_variant first_variant))))))))))))) (λ said chooses k found. rw (found ∙ ap Some chooses) refl)
-request_payload_case i (request_payload.GetUsageAllocation x) = case_of i.get_usage_allocation x (later_variant (later_variant (later_variant (later_variant (later_variant (later_variant (later_variant (later_variant (later_variant (later_variant (later_variant (later_variant (later_variant (later_variant first_variant)))))))))))))) (λ said chooses k found. rw (found ∙ ap Some chooses) refl)
-request_payload_case i (request_payload.Activate x) = case_of i.activate x (later_variant (later_variant (later_variant (later_variant (later_variant (later_variant (later_variant (later_variant (later_variant (later_variant (later_variant (later_variant (later_variant (later_variant (later_variant first_variant))))))))))))))) (λ said chooses k found. rw (found ∙ ap Some chooses) refl)
-request_payload_case i (request_payload.Revoke x) = case_of i.revoke x (later_variant (later_variant (later_variant (later_variant (later_variant (later_variant (later_variant (later_variant (later_variant (later_variant (later_variant (later_variant (later_variant (later_variant (later_variant (later_variant first_variant)))))))))))))))) (λ said chooses k found. rw (found ∙ ap Some chooses) refl)
-request_payload_case i (request_payload.Destroy x) = case_of i.destroy x (later_variant (later_variant (later_variant (later_variant (later_variant (later_variant (later_variant (later_variant (later_variant (later_variant (later_variant (later_variant (later_variant (later_variant (later_variant (later_variant (later_variant first_variant))))))))))))))))) (λ said chooses k found. rw (found ∙ ap Some chooses) refl)
-request_payload_case i (request_payload.Archive x) = case_of i.archive x (later_variant (later_variant (later_variant (later_variant (later_variant (later_variant (later_variant (later_variant (later_variant (later_variant (later_variant (later_variant (later_variant (later_variant (later_variant (later_variant (later_variant (later_variant first_variant)))))))))))))))))) (λ said chooses k found. rw (found ∙ ap Some chooses) refl)
-request_payload_case i (request_payload.Recover x) = case_of i.recover x (later_variant (later_variant (later_variant (later_variant (later_variant (later_variant (later_variant (later_variant (later_variant (later_variant (later_variant (later_variant (later_variant (later_variant (later_variant (later_variant (later_variant (later_variant (later_variant first_variant))))))))))))))))))) (λ said chooses k found. rw (found ∙ ap Some chooses) refl)
-request_payload_case i (request_payload.Query x) = case_of i.query x (later_variant (later_variant (later_variant (later_variant (later_variant (later_variant (later_variant (later_variant (later_variant (later_variant (later_variant (later_variant (later_variant (later_variant (later_variant (later_variant (later_variant (later_variant (later_variant (later_variant first_variant)))))))))))))))))))) (λ said chooses k found. rw (found ∙ ap Some chooses) refl)
-request_payload_case i (request_payload.Cancel x) = case_of i.cancel x (later_variant (later_variant (later_variant (later_variant (later_variant (later_variant (later_variant (later_variant (later_variant (later_variant (later_variant (later_variant (later_variant (later_variant (later_variant (later_variant (later_variant (later_variant (later_variant (later_variant (later_variant first_variant))))))))))))))))))))) (λ said chooses k found. rw (found ∙ ap Some chooses) refl)
-request_payload_case i (request_payload.Poll x) = case_of i.poll x (later_variant (later_variant (later_variant (later_variant (later_variant (later_variant (later_variant (later_variant (later_variant (later_variant (later_variant (later_variant (later_variant (later_variant (later_variant (later_variant (later_variant (later_variant (later_variant (later_variant (later_variant (later_variant first_variant)))))))))))))))))))))) (λ said chooses k found. rw (found ∙ ap Some chooses) refl)
-request_payload_case i (request_payload.ReKeyKeyPair x) = case_of i.re_key_key_pair x (later_variant (later_variant (later_variant (later_variant (later_variant (later_variant (later_variant (later_variant (later_variant (later_variant (later_variant (later_variant (later_variant (later_variant (later_variant (later_variant (later_variant (later_variant (later_variant (later_variant (later_variant (later_variant (later_variant first_variant))))))))))))))))))))))) (λ said chooses k found. rw (found ∙ ap Some chooses) refl)
-request_payload_case i (request_payload.DiscoverVersions x) = case_of i.discover_versions x (later_variant (later_variant (later_variant (later_variant (later_variant (later_variant (later_variant (later_variant (later_variant (later_variant (later_variant (later_variant (later_variant (later_variant (later_variant (later_variant (later_variant (later_variant (later_variant (later_variant (later_variant (later_variant (later_variant (later_variant first_variant)))))))))))))))))))))))) (λ said chooses k found. rw (found ∙ ap Some chooses) refl)
-request_payload_case i (request_payload.Encrypt x) = case_of i.encrypt x (later_variant (later_variant (later_variant (later_variant (later_variant (later_variant (later_variant (later_variant (later_variant (later_variant (later_variant (later_variant (later_variant (later_variant (later_variant (later_variant (later_variant (later_variant (later_variant (later_variant (later_variant (later_variant (later_variant (later_variant (later_variant first_variant))))))))))))))))))))))))) (λ said chooses k found. rw (found ∙ ap Some chooses) refl)
-request_payload_case i (request_payload.Decrypt x) = case_of i.decrypt x (later_variant (later_variant (later_variant (later_variant (later_variant (later_variant (later_variant (later_variant (later_variant (later_variant (later_variant (later_variant (later_variant (later_variant (later_variant (later_variant (later_variant (later_variant (later_variant (later_variant (later_variant (later_variant (later_variant (later_variant (later_variant (later_variant first_variant)))))))))))))))))))))))))) (λ said chooses k found. rw (found ∙ ap Some chooses) refl)
-request_payload_case i (request_payload.Sign x) = case_of i.sign x (later_variant (later_variant (later_variant (later_variant (later_variant (later_variant (later_variant (later_variant (later_variant (later_variant (later_variant (later_variant (later_variant (later_variant (later_variant (later_variant (later_variant (later_variant (later_variant (later_variant (later_variant (later_variant (later_variant (later_variant (later_variant (later_variant (later_variant first_variant))))))))))))))))))))))))))) (λ said chooses k found. rw (found ∙ ap Some chooses) refl)
-request_payload_case i (request_payload.SignatureVerify x) = case_of i.signature_verify x (later_variant (later_variant (later_variant (later_variant (later_variant (later_variant (later_variant (later_variant (later_variant (later_variant (later_variant (later_variant (later_variant (later_variant (later_variant (later_variant (later_variant (later_variant (later_variant (later_variant (later_variant (later_variant (later_variant (later_variant (later_variant (later_variant (later_variant (later_variant first_variant)))))))))))))))))))))))))))) (λ said chooses k found. rw (found ∙ ap Some chooses) refl)
-request_payload_case i (request_payload.Mac x) = case_of i.mac x (later_variant (later_variant (later_variant (later_variant (later_variant (later_variant (later_variant (later_variant (later_variant (later_variant (later_variant (later_variant (later_variant (later_variant (later_variant (later_variant (later_variant (later_variant (later_variant (later_variant (later_variant (later_variant (later_variant (later_variant (later_variant (later_variant (later_variant (later_variant (later_variant first_variant))))))))))))))))))))))))))))) (λ said chooses k found. rw (found ∙ ap Some chooses) refl)
-request_payload_case i (request_payload.MacVerify x) = case_of i.mac_verify x (later_variant (later_variant (later_variant (later_variant (later_variant (later_variant (later_variant (later_variant (later_variant (later_variant (later_variant (later_variant (later_variant (later_variant (later_variant (later_variant (later_variant (later_variant (later_variant (later_variant (later_variant (later_variant (later_variant (later_variant (later_variant (later_variant (later_variant (later_variant (later_variant (later_variant first_variant)))))))))))))))))))))))))))))) (λ said chooses k found. rw (found ∙ ap Some chooses) refl)
-request_payload_case i (request_payload.Hash x) = case_of i.hash x (later_variant (later_variant (later_variant (later_variant (later_variant (later_variant (later_variant (later_variant (later_variant (later_variant (later_variant (later_variant (later_variant (later_variant (later_variant (later_variant (later_variant (later_variant (later_variant (later_variant (later_variant (later_variant (later_variant (later_variant (later_variant (later_variant (later_variant (later_variant (later_variant (later_variant (later_variant first_variant))))))))))))))))))))))))))))))) (λ said chooses k found. rw (found ∙ ap Some chooses) refl)
-request_payload_case i (request_payload.Other x) = case_of i.other x (later_variant (later_variant (later_variant (later_variant (later_variant (later_variant (later_variant (later_variant (later_variant (later_variant (later_variant (later_variant (later_variant (later_variant (later_variant (later_variant (later_variant (later_variant (later_variant (later_variant (later_variant (later_variant (later_variant (later_variant (later_variant (later_variant (later_variant (later_variant (later_variant (later_variant (later_variant (later_variant first_variant)))))))))))))))))))))))))))))))) (λ said none k found. request_payload_unnamed i said k types.Structure 0 none found refl)
+request_payload_case i (request_payload.Create x) = case_of i.create x (is_there _ 0 refl) (λ said chooses. chosen_by_text types.Structure (request_payload_begins i) chooses refl)
+request_payload_case i (request_payload.CreateKeyPair x) = case_of i.create_key_pair x (is_there _ 1 refl) (λ said chooses. chosen_by_text types.Structure (request_payload_begins i) chooses refl)
+request_payload_case i (request_payload.Register x) = case_of i.register x (is_there _ 2 refl) (λ said chooses. chosen_by_text types.Structure (request_payload_begins i) chooses refl)
+request_payload_case i (request_payload.ReKey x) = case_of i.re_key x (is_there _ 3 refl) (λ said chooses. chosen_by_text types.Structure (request_payload_begins i) chooses refl)
+request_payload_case i (request_payload.DeriveKey x) = case_of i.derive_key x (is_there _ 4 refl) (λ said chooses. chosen_by_text types.Structure (request_payload_begins i) chooses refl)
+request_payload_case i (request_payload.Locate x) = case_of i.locate x (is_there _ 5 refl) (λ said chooses. chosen_by_text types.Structure (request_payload_begins i) chooses refl)
+request_payload_case i (request_payload.Check x) = case_of i.check x (is_there _ 6 refl) (λ said chooses. chosen_by_text types.Structure (request_payload_begins i) chooses refl)
+request_payload_case i (request_payload.Get x) = case_of i.get x (is_there _ 7 refl) (λ said chooses. chosen_by_text types.Structure (request_payload_begins i) chooses refl)
+request_payload_case i (request_payload.GetAttributes x) = case_of i.get_attributes x (is_there _ 8 refl) (λ said chooses. chosen_by_text types.Structure (request_payload_begins i) chooses refl)
+request_payload_case i (request_payload.GetAttributeList x) = case_of i.get_attribute_list x (is_there _ 9 refl) (λ said chooses. chosen_by_text types.Structure (request_payload_begins i) chooses refl)
+request_payload_case i (request_payload.AddAttribute x) = case_of i.add_attribute x (is_there _ 10 refl) (λ said chooses. chosen_by_text types.Structure (request_payload_begins i) chooses refl)
+request_payload_case i (request_payload.ModifyAttribute x) = case_of i.modify_attribute x (is_there _ 11 refl) (λ said chooses. chosen_by_text types.Structure (request_payload_begins i) chooses refl)
+request_payload_case i (request_payload.DeleteAttribute x) = case_of i.delete_attribute x (is_there _ 12 refl) (λ said chooses. chosen_by_text types.Structure (request_payload_begins i) chooses refl)
+request_payload_case i (request_payload.ObtainLease x) = case_of i.obtain_lease x (is_there _ 13 refl) (λ said chooses. chosen_by_text types.Structure (request_payload_begins i) chooses refl)
+request_payload_case i (request_payload.GetUsageAllocation x) = case_of i.get_usage_allocation x (is_there _ 14 refl) (λ said chooses. chosen_by_text types.Structure (request_payload_begins i) chooses refl)
+request_payload_case i (request_payload.Activate x) = case_of i.activate x (is_there _ 15 refl) (λ said chooses. chosen_by_text types.Structure (request_payload_begins i) chooses refl)
+request_payload_case i (request_payload.Revoke x) = case_of i.revoke x (is_there _ 16 refl) (λ said chooses. chosen_by_text types.Structure (request_payload_begins i) chooses refl)
+request_payload_case i (request_payload.Destroy x) = case_of i.destroy x (is_there _ 17 refl) (λ said chooses. chosen_by_text types.Structure (request_payload_begins i) chooses refl)
+request_payload_case i (request_payload.Archive x) = case_of i.archive x (is_there _ 18 refl) (λ said chooses. chosen_by_text types.Structure (request_payload_begins i) chooses refl)
+request_payload_case i (request_payload.Recover x) = case_of i.recover x (is_there _ 19 refl) (λ said chooses. chosen_by_text types.Structure (request_payload_begins i) chooses refl)
+request_payload_case i (request_payload.Query x) = case_of i.query x (is_there _ 20 refl) (λ said chooses. chosen_by_text types.Structure (request_payload_begins i) chooses refl)
+request_payload_case i (request_payload.Cancel x) = case_of i.cancel x (is_there _ 21 refl) (λ said chooses. chosen_by_text types.Structure (request_payload_begins i) chooses refl)
+request_payload_case i (request_payload.Poll x) = case_of i.poll x (is_there _ 22 refl) (λ said chooses. chosen_by_text types.Structure (request_payload_begins i) chooses refl)
+request_payload_case i (request_payload.ReKeyKeyPair x) = case_of i.re_key_key_pair x (is_there _ 23 refl) (λ said chooses. chosen_by_text types.Structure (request_payload_begins i) chooses refl)
+request_payload_case i (request_payload.DiscoverVersions x) = case_of i.discover_versions x (is_there _ 24 refl) (λ said chooses. chosen_by_text types.Structure (request_payload_begins i) chooses refl)
+request_payload_case i (request_payload.Encrypt x) = case_of i.encrypt x (is_there _ 25 refl) (λ said chooses. chosen_by_text types.Structure (request_payload_begins i) chooses refl)
+request_payload_case i (request_payload.Decrypt x) = case_of i.decrypt x (is_there _ 26 refl) (λ said chooses. chosen_by_text types.Structure (request_payload_begins i) chooses refl)
+request_payload_case i (request_payload.Sign x) = case_of i.sign x (is_there _ 27 refl) (λ said chooses. chosen_by_text types.Structure (request_payload_begins i) chooses refl)
+request_payload_case i (request_payload.SignatureVerify x) = case_of i.signature_verify x (is_there _ 28 refl) (λ said chooses. chosen_by_text types.Structure (request_payload_begins i) chooses refl)
+request_payload_case i (request_payload.Mac x) = case_of i.mac x (is_there _ 29 refl) (λ said chooses. chosen_by_text types.Structure (request_payload_begins i) chooses refl)
+request_payload_case i (request_payload.MacVerify x) = case_of i.mac_verify x (is_there _ 30 refl) (λ said chooses. chosen_by_text types.Structure (request_payload_begins i) chooses refl)
+request_payload_case i (request_payload.Hash x) = case_of i.hash x (is_there _ 31 refl) (λ said chooses. chosen_by_text types.Structure (request_payload_begins i) chooses refl)
+request_payload_case i (request_payload.Import x) = case_of i.import x (is_there _ 32 refl) (λ said chooses. chosen_by_text types.Structure (request_payload_begins i) chooses refl)
+request_payload_case i (request_payload.Export x) = case_of i.export x (is_there _ 33 refl) (λ said chooses. chosen_by_text types.Structure (request_payload_begins i) chooses refl)
+request_payload_case i (request_payload.Login x) = case_of i.login x (is_there _ 34 refl) (λ said chooses. chosen_by_text types.Structure (request_payload_begins i) chooses refl)
+request_payload_case i (request_payload.Logout x) = case_of i.logout x (is_there _ 35 refl) (λ said chooses. chosen_by_text types.Structure (request_payload_begins i) chooses refl)
+request_payload_case i (request_payload.Other x) = case_of i.other x (is_there _ 36 refl) (λ said none. chosen_by_others types.Structure (request_payload_begins i) none)
 
 pub request_payload_same : {A : Type 0} {eq : RequestPayload A → RequestPayload A → Boole} (i : RequestPayloadItems A eq) (x y : RequestPayload A)
     → (request_payload_by (request_payload_cases i) x).value ≡ (request_payload_by (request_payload_cases i) y).value
@@ -426,6 +529,10 @@ request_payload_same i (request_payload.SignatureVerify x) (request_payload.Sign
 request_payload_same i (request_payload.Mac x) (request_payload.Mac y) e = i.mac.same x y (i.mac.rules.same x y (in_variant e))
 request_payload_same i (request_payload.MacVerify x) (request_payload.MacVerify y) e = i.mac_verify.same x y (i.mac_verify.rules.same x y (in_variant e))
 request_payload_same i (request_payload.Hash x) (request_payload.Hash y) e = i.hash.same x y (i.hash.rules.same x y (in_variant e))
+request_payload_same i (request_payload.Import x) (request_payload.Import y) e = i.import.same x y (i.import.rules.same x y (in_variant e))
+request_payload_same i (request_payload.Export x) (request_payload.Export y) e = i.export.same x y (i.export.rules.same x y (in_variant e))
+request_payload_same i (request_payload.Login x) (request_payload.Login y) e = i.login.same x y (i.login.rules.same x y (in_variant e))
+request_payload_same i (request_payload.Logout x) (request_payload.Logout y) e = i.logout.same x y (i.logout.rules.same x y (in_variant e))
 request_payload_same i (request_payload.Other x) (request_payload.Other y) e = i.other.same x y (i.other.rules.same x y (in_variant e))
 request_payload_same i x y e = absurd (apart e refl)
 

@@ -6,12 +6,12 @@ ghost use Rattle.kmip_ttlv_parts.specs.Returns.{IsNoneOf};
 ghost use Rattle.kmip_ttlv_kinds.specs.Parts.{IsApart, keeping_structure, structure, structure_where};
 ghost use Rattle.kmip_ttlv_kinds.specs.Choices.{held};
 ghost use Rattle.kmip_ttlv_parts.specs.MessageParts.{there};
-ghost use Rattle.kmip_requests.specs.Choices.{IsRegisterRequestObject, request_payload_choice, ChoosesRequestPayload, request_payload_names};
+ghost use Rattle.kmip_requests.specs.Choices.{IsRegisterRequestObject, attribute_reference_choice, IsImportRequestObject, request_payload_choice, ChoosesRequestPayload, request_payload_names};
 
 use kmip_attributes::attribute::Attribute;
 use kmip_attributes::structures::CryptographicParameters;
 use kmip_attributes::values::{KeyFormatType, ObjectType, RevocationReasonCode, State};
-use kmip_headers::header::ProtocolVersion;
+use kmip_headers::header::{ProtocolVersion, Ticket};
 use kmip_objects::key::{
     EncodingOption, EncryptionKeyInformation, KeyCompressionType, MacSignatureKeyInformation,
     WrappingMethod,
@@ -26,7 +26,8 @@ use kmip_objects::template::{
 };
 use kmip_ttlv_kinds::{
     Alone, Any, Before, Choice, Decided, Element, Four, FromParts, Holds, InBox, Leaf, LeafItem,
-    Maybe, MaybeLeaf, Of, One, PartList, Rest, Several, Structure, Walk, is_apart, read_structure,
+    Maybe, MaybeLeaf, MaybeOneOf, Of, One, PartList, Rest, Several, Structure, Walk, is_apart,
+    read_structure,
 };
 use kmip_ttlv_parts::laws::is_none_of;
 use kmip_ttlv_parts::reader::{Cursor, DateTime, Interval, RuleParts, Scope, Step};
@@ -40,19 +41,35 @@ use std::alloc::{AllocError, Allocator, Global};
 pub struct CreateRequest<A: Allocator = Global> {
     /// What it is.
     pub object_type: ObjectType,
-    /// What it is made with.
-    pub template_attribute: TemplateAttribute<A>,
+    /// What it is made with, up to KMIP 1.4.
+    pub template_attribute: Option<TemplateAttribute<A>>,
+    /// What it is made with, by tags (KMIP 2.0).
+    pub attributes_by_tag: Option<Kept<A>>,
+    /// Where it may be stored (KMIP 2.0).
+    pub protection_storage_masks: Option<Kept<A>>,
 }
 
-type CreateRequestParts<A> = (One<ObjectType>, One<Of<TemplateAttribute<A>, 0x420091>>);
+type CreateRequestParts<A> = (
+    One<ObjectType>,
+    Maybe<Of<TemplateAttribute<A>, 0x420091>, 0x420091>,
+    Maybe<Of<Kept<A>, 0x420125>, 0x420125>,
+    Maybe<Of<Kept<A>, 0x42015F>, 0x42015F>,
+);
 
 impl<A: Allocator + Copy> FromParts<A, CreateRequestParts<A>> for CreateRequest<A> {
-    ghost parts = { λ x. (x.object_type, x.template_attribute) };
+    ghost parts = { λ x. (x.object_type, x.template_attribute, x.attributes_by_tag, x.protection_storage_masks) };
 
-    fn from_parts((object_type, template_attribute): Holds<CreateRequestParts<A>, A>) -> Self {
+    fn from_parts(
+        (object_type, template_attribute, attributes_by_tag, protection_storage_masks): Holds<
+            CreateRequestParts<A>,
+            A,
+        >,
+    ) -> Self {
         CreateRequest {
             object_type,
             template_attribute,
+            attributes_by_tag,
+            protection_storage_masks,
         }
     }
 }
@@ -65,10 +82,17 @@ impl<A: Allocator + Copy> Structure<A> for CreateRequest<A> {
     }
 
     fn tell_parts<W: Walk<A>>(&self, state: &mut W::State) -> Result<(), AllocError> {
-        W::two::<One<ObjectType>, One<Of<TemplateAttribute<A>, 0x420091>>>(
+        W::four::<
+            One<ObjectType>,
+            Maybe<Of<TemplateAttribute<A>, 0x420091>, 0x420091>,
+            Maybe<Of<Kept<A>, 0x420125>, 0x420125>,
+            Maybe<Of<Kept<A>, 0x42015F>, 0x42015F>,
+        >(
             state,
             &self.object_type,
             &self.template_attribute,
+            &self.attributes_by_tag,
+            &self.protection_storage_masks,
         )
     }
 }
@@ -83,24 +107,69 @@ pub struct CreateKeyPairRequest<A: Allocator = Global> {
     pub private_key: Option<PrivateKeyTemplateAttribute<A>>,
     /// What the public key is made with.
     pub public_key: Option<PublicKeyTemplateAttribute<A>>,
+    /// What both are made with, by tags (KMIP 2.0).
+    pub common_attributes: Option<Kept<A>>,
+    /// What the private key is made with, by tags (KMIP 2.0).
+    pub private_key_attributes: Option<Kept<A>>,
+    /// What the public key is made with, by tags (KMIP 2.0).
+    pub public_key_attributes: Option<Kept<A>>,
+    /// Where both may be stored (KMIP 2.0).
+    pub common_protection_storage_masks: Option<Kept<A>>,
+    /// Where the private key may be (KMIP 2.0).
+    pub private_protection_storage_masks: Option<Kept<A>>,
+    /// Where the public key may be (KMIP 2.0).
+    pub public_protection_storage_masks: Option<Kept<A>>,
 }
 
-type CreateKeyPairRequestParts<A> = (
+type CreateKeyPairRequestFirst<A> = (
     Maybe<Of<CommonTemplateAttribute<A>, 0x42001F>, 0x42001F>,
     Maybe<Of<PrivateKeyTemplateAttribute<A>, 0x420065>, 0x420065>,
     Maybe<Of<PublicKeyTemplateAttribute<A>, 0x42006E>, 0x42006E>,
+    Maybe<Of<Kept<A>, 0x420126>, 0x420126>,
 );
 
+type CreateKeyPairRequestSecond<A> = (
+    Maybe<Of<Kept<A>, 0x420127>, 0x420127>,
+    Maybe<Of<Kept<A>, 0x420128>, 0x420128>,
+    Maybe<Of<Kept<A>, 0x420163>, 0x420163>,
+    Maybe<Of<Kept<A>, 0x420164>, 0x420164>,
+);
+
+type CreateKeyPairRequestThird<A> = Alone<Maybe<Of<Kept<A>, 0x420165>, 0x420165>>;
+
+type CreateKeyPairRequestParts<A> = Four<
+    CreateKeyPairRequestFirst<A>,
+    Four<CreateKeyPairRequestSecond<A>, CreateKeyPairRequestThird<A>>,
+>;
+
 impl<A: Allocator + Copy> FromParts<A, CreateKeyPairRequestParts<A>> for CreateKeyPairRequest<A> {
-    ghost parts = { λ x. (x.common, x.private_key, x.public_key) };
+    ghost parts = { λ x. (x.common, x.private_key, x.public_key, x.common_attributes, (x.private_key_attributes, x.public_key_attributes, x.common_protection_storage_masks, x.private_protection_storage_masks, x.public_protection_storage_masks)) };
 
     fn from_parts(
-        (common, private_key, public_key): Holds<CreateKeyPairRequestParts<A>, A>,
+        (
+            common,
+            private_key,
+            public_key,
+            common_attributes,
+            (
+                private_key_attributes,
+                public_key_attributes,
+                common_protection_storage_masks,
+                private_protection_storage_masks,
+                public_protection_storage_masks,
+            ),
+        ): Holds<CreateKeyPairRequestParts<A>, A>,
     ) -> Self {
         CreateKeyPairRequest {
             common,
             private_key,
             public_key,
+            common_attributes,
+            private_key_attributes,
+            public_key_attributes,
+            common_protection_storage_masks,
+            private_protection_storage_masks,
+            public_protection_storage_masks,
         }
     }
 }
@@ -113,11 +182,35 @@ impl<A: Allocator + Copy> Structure<A> for CreateKeyPairRequest<A> {
     }
 
     fn tell_parts<W: Walk<A>>(&self, state: &mut W::State) -> Result<(), AllocError> {
-        W::three::<
+        W::four::<
             Maybe<Of<CommonTemplateAttribute<A>, 0x42001F>, 0x42001F>,
             Maybe<Of<PrivateKeyTemplateAttribute<A>, 0x420065>, 0x420065>,
             Maybe<Of<PublicKeyTemplateAttribute<A>, 0x42006E>, 0x42006E>,
-        >(state, &self.common, &self.private_key, &self.public_key)
+            Maybe<Of<Kept<A>, 0x420126>, 0x420126>,
+        >(
+            state,
+            &self.common,
+            &self.private_key,
+            &self.public_key,
+            &self.common_attributes,
+        )?;
+        W::four::<
+            Maybe<Of<Kept<A>, 0x420127>, 0x420127>,
+            Maybe<Of<Kept<A>, 0x420128>, 0x420128>,
+            Maybe<Of<Kept<A>, 0x420163>, 0x420163>,
+            Maybe<Of<Kept<A>, 0x420164>, 0x420164>,
+        >(
+            state,
+            &self.private_key_attributes,
+            &self.public_key_attributes,
+            &self.common_protection_storage_masks,
+            &self.private_protection_storage_masks,
+        )?;
+        W::one::<Maybe<Of<Kept<A>, 0x420165>, 0x420165>>(
+            state,
+            &self.public_protection_storage_masks,
+        )?;
+        Ok(())
     }
 }
 
@@ -127,8 +220,10 @@ impl<A: Allocator + Copy> Structure<A> for CreateKeyPairRequest<A> {
 pub struct RegisterRequest<A: Allocator = Global> {
     /// What it is.
     pub object_type: ObjectType,
-    /// What is to be known of it.
-    pub template_attribute: TemplateAttribute<A>,
+    /// What is to be known of it, up to KMIP 1.4.
+    pub template_attribute: Option<TemplateAttribute<A>>,
+    /// What is to be known of it, by tags (KMIP 2.0).
+    pub attributes_by_tag: Option<Kept<A>>,
     /// A certificate.
     pub certificate: Option<Certificate<A>>,
     /// A symmetric key.
@@ -145,6 +240,8 @@ pub struct RegisterRequest<A: Allocator = Global> {
     pub secret_data: Option<Boxed<SecretData<A>, A>>,
     /// Bytes that the server doesn't interpret.
     pub opaque_object: Option<OpaqueObject<A>>,
+    /// Where it may be stored (KMIP 2.0).
+    pub protection_storage_masks: Option<Kept<A>>,
 }
 
 impl<A: Allocator> RegisterRequest<A> {
@@ -201,21 +298,23 @@ impl<A: Allocator> Decided for RegisterRequest<A> {
 
 type RegisterRequestFirst<A> = (
     One<ObjectType>,
-    One<Of<TemplateAttribute<A>, 0x420091>>,
+    Maybe<Of<TemplateAttribute<A>, 0x420091>, 0x420091>,
+    Maybe<Of<Kept<A>, 0x420125>, 0x420125>,
     Maybe<Of<Certificate<A>, 0x420013>, 0x420013>,
-    Maybe<InBox<Of<SymmetricKey<A>, 0x42008F>>, 0x42008F>,
 );
 
 type RegisterRequestSecond<A> = (
+    Maybe<InBox<Of<SymmetricKey<A>, 0x42008F>>, 0x42008F>,
     Maybe<InBox<Of<PublicKey<A>, 0x42006D>>, 0x42006D>,
     Maybe<InBox<Of<PrivateKey<A>, 0x420064>>, 0x420064>,
     Maybe<InBox<Of<SplitKey<A>, 0x420089>>, 0x420089>,
-    Maybe<Of<Template<A>, 0x420090>, 0x420090>,
 );
 
 type RegisterRequestThird<A> = (
+    Maybe<Of<Template<A>, 0x420090>, 0x420090>,
     Maybe<InBox<Of<SecretData<A>, 0x420085>>, 0x420085>,
     Maybe<Of<OpaqueObject<A>, 0x42005B>, 0x42005B>,
+    Maybe<Of<Kept<A>, 0x42015F>, 0x42015F>,
 );
 
 type RegisterRequestParts<A> = Four<
@@ -224,20 +323,27 @@ type RegisterRequestParts<A> = Four<
 >;
 
 impl<A: Allocator + Copy> FromParts<A, RegisterRequestParts<A>> for RegisterRequest<A> {
-    ghost parts = { λ x. (x.object_type, x.template_attribute, x.certificate, x.symmetric_key, (x.public_key, x.private_key, x.split_key, x.template, (x.secret_data, x.opaque_object))) };
+    ghost parts = { λ x. (x.object_type, x.template_attribute, x.attributes_by_tag, x.certificate, (x.symmetric_key, x.public_key, x.private_key, x.split_key, (x.template, x.secret_data, x.opaque_object, x.protection_storage_masks))) };
 
     fn from_parts(
         (
             object_type,
             template_attribute,
+            attributes_by_tag,
             certificate,
-            symmetric_key,
-            (public_key, private_key, split_key, template, (secret_data, opaque_object)),
+            (
+                symmetric_key,
+                public_key,
+                private_key,
+                split_key,
+                (template, secret_data, opaque_object, protection_storage_masks),
+            ),
         ): Holds<RegisterRequestParts<A>, A>,
     ) -> Self {
         RegisterRequest {
             object_type,
             template_attribute,
+            attributes_by_tag,
             certificate,
             symmetric_key,
             public_key,
@@ -246,13 +352,14 @@ impl<A: Allocator + Copy> FromParts<A, RegisterRequestParts<A>> for RegisterRequ
             template,
             secret_data,
             opaque_object,
+            protection_storage_masks,
         }
     }
 }
 
 impl<A: Allocator + Copy> Structure<A> for RegisterRequest<A> {
     ghost rules = { structure_where true ⟦<RegisterRequestParts<A> as PartList<A>>⟧.rules ⟦<RegisterRequest<A> as FromParts<A, RegisterRequestParts<A>>>⟧.parts refl
-        (λ x. (there x.certificate + (there x.symmetric_key + (there x.public_key + (there x.private_key + (there x.split_key + (there x.template + (there x.secret_data + there x.opaque_object)))))) ≡ 1)) (λ x d. (tt, (tt, (tt, (tt, (tt, (tt, (tt, (tt, (tt, (tt))))))))))) ⟦<RegisterRequest<A> as PartialEq>⟧.eq (λ x y e. e) };
+        (λ x. (there x.certificate + (there x.symmetric_key + (there x.public_key + (there x.private_key + (there x.split_key + (there x.template + (there x.secret_data + there x.opaque_object)))))) ≡ 1)) (λ x d. (tt, (tt, (tt, (tt, (tt, (tt, (tt, (tt, (tt, (tt, (tt, (tt))))))))))))) ⟦<RegisterRequest<A> as PartialEq>⟧.eq (λ x y e. e) };
 
     fn read<'b>(scope: &Scope<'b, A>, tag: u32, cursor: &mut Cursor<'b, A>) -> Step<Self, A> {
         read_structure::<RegisterRequestParts<A>, Self, A>(scope, tag, true, cursor)
@@ -261,32 +368,40 @@ impl<A: Allocator + Copy> Structure<A> for RegisterRequest<A> {
     fn tell_parts<W: Walk<A>>(&self, state: &mut W::State) -> Result<(), AllocError> {
         W::four::<
             One<ObjectType>,
-            One<Of<TemplateAttribute<A>, 0x420091>>,
+            Maybe<Of<TemplateAttribute<A>, 0x420091>, 0x420091>,
+            Maybe<Of<Kept<A>, 0x420125>, 0x420125>,
             Maybe<Of<Certificate<A>, 0x420013>, 0x420013>,
-            Maybe<InBox<Of<SymmetricKey<A>, 0x42008F>>, 0x42008F>,
         >(
             state,
             &self.object_type,
             &self.template_attribute,
+            &self.attributes_by_tag,
             &self.certificate,
-            &self.symmetric_key,
         )?;
         W::four::<
+            Maybe<InBox<Of<SymmetricKey<A>, 0x42008F>>, 0x42008F>,
             Maybe<InBox<Of<PublicKey<A>, 0x42006D>>, 0x42006D>,
             Maybe<InBox<Of<PrivateKey<A>, 0x420064>>, 0x420064>,
             Maybe<InBox<Of<SplitKey<A>, 0x420089>>, 0x420089>,
-            Maybe<Of<Template<A>, 0x420090>, 0x420090>,
         >(
             state,
+            &self.symmetric_key,
             &self.public_key,
             &self.private_key,
             &self.split_key,
-            &self.template,
         )?;
-        W::two::<
+        W::four::<
+            Maybe<Of<Template<A>, 0x420090>, 0x420090>,
             Maybe<InBox<Of<SecretData<A>, 0x420085>>, 0x420085>,
             Maybe<Of<OpaqueObject<A>, 0x42005B>, 0x42005B>,
-        >(state, &self.secret_data, &self.opaque_object)?;
+            Maybe<Of<Kept<A>, 0x42015F>, 0x42015F>,
+        >(
+            state,
+            &self.template,
+            &self.secret_data,
+            &self.opaque_object,
+            &self.protection_storage_masks,
+        )?;
         W::check(state, self);
         Ok(())
     }
@@ -300,8 +415,10 @@ pub struct ReKeyRequest<A: Allocator = Global> {
     pub unique_identifier: Option<String<A>>,
     /// How long after its making the new one is to be in use, in seconds.
     pub offset: Option<Interval>,
-    /// What is to be other than of the first.
+    /// What is to be other than of the first, up to KMIP 1.4.
     pub template_attribute: Option<TemplateAttribute<A>>,
+    /// What is to be other than of the first, by tags (KMIP 2.0).
+    pub attributes_by_tag: Option<Kept<A>>,
     /// What stands behind these, whatever it is.
     pub other_items: Kept<A>,
 }
@@ -314,19 +431,20 @@ impl<A: Allocator + Copy> Decided for ReKeyRequest<A> {
     }
 }
 
-type ReKeyRequestParts<A> = Before<
+type ReKeyRequestFirst<A> = (
     MaybeLeaf<String<A>, 0x420094>,
-    Before<
-        MaybeLeaf<Interval, 0x420058>,
-        Before<Maybe<Of<TemplateAttribute<A>, 0x420091>, 0x420091>, Rest>,
-    >,
->;
+    MaybeLeaf<Interval, 0x420058>,
+    Maybe<Of<TemplateAttribute<A>, 0x420091>, 0x420091>,
+    Maybe<Of<Kept<A>, 0x420125>, 0x420125>,
+);
+
+type ReKeyRequestParts<A> = Four<ReKeyRequestFirst<A>, Rest>;
 
 impl<A: Allocator + Copy> FromParts<A, ReKeyRequestParts<A>> for ReKeyRequest<A> {
-    ghost parts = { λ x. (x.unique_identifier, (x.offset, (x.template_attribute, x.other_items))) };
+    ghost parts = { λ x. (x.unique_identifier, x.offset, x.template_attribute, x.attributes_by_tag, x.other_items) };
 
     fn from_parts(
-        (unique_identifier, (offset, (template_attribute, other_items))): Holds<
+        (unique_identifier, offset, template_attribute, attributes_by_tag, other_items): Holds<
             ReKeyRequestParts<A>,
             A,
         >,
@@ -335,6 +453,7 @@ impl<A: Allocator + Copy> FromParts<A, ReKeyRequestParts<A>> for ReKeyRequest<A>
             unique_identifier,
             offset,
             template_attribute,
+            attributes_by_tag,
             other_items,
         }
     }
@@ -348,11 +467,17 @@ impl<A: Allocator + Copy> Structure<A> for ReKeyRequest<A> {
     }
 
     fn tell_parts<W: Walk<A>>(&self, state: &mut W::State) -> Result<(), AllocError> {
-        W::one::<MaybeLeaf<String<A>, 0x420094>>(state, &self.unique_identifier)?;
-        W::one::<MaybeLeaf<Interval, 0x420058>>(state, &self.offset)?;
-        W::one::<Maybe<Of<TemplateAttribute<A>, 0x420091>, 0x420091>>(
+        W::four::<
+            MaybeLeaf<String<A>, 0x420094>,
+            MaybeLeaf<Interval, 0x420058>,
+            Maybe<Of<TemplateAttribute<A>, 0x420091>, 0x420091>,
+            Maybe<Of<Kept<A>, 0x420125>, 0x420125>,
+        >(
             state,
+            &self.unique_identifier,
+            &self.offset,
             &self.template_attribute,
+            &self.attributes_by_tag,
         )?;
         W::kept(state, &self.other_items)?;
         W::check(state, self);
@@ -577,8 +702,10 @@ pub struct DeriveKeyRequest<A: Allocator = Global> {
     pub derivation_method: DerivationMethod,
     /// By what.
     pub derivation_parameters: DerivationParameters<A>,
-    /// What it is made with.
-    pub template_attribute: TemplateAttribute<A>,
+    /// What it is made with, up to KMIP 1.4.
+    pub template_attribute: Option<TemplateAttribute<A>>,
+    /// What it is made with, by tags (KMIP 2.0).
+    pub attributes_by_tag: Option<Kept<A>>,
     /// What stands behind these, whatever it is.
     pub other_items: Kept<A>,
 }
@@ -598,12 +725,15 @@ type DeriveKeyRequestFirst<A> = (
     One<Of<DerivationParameters<A>, 0x420032>>,
 );
 
-type DeriveKeyRequestSecond<A> = Before<One<Of<TemplateAttribute<A>, 0x420091>>, Rest>;
+type DeriveKeyRequestSecond<A> = Before<
+    Maybe<Of<TemplateAttribute<A>, 0x420091>, 0x420091>,
+    Before<Maybe<Of<Kept<A>, 0x420125>, 0x420125>, Rest>,
+>;
 
 type DeriveKeyRequestParts<A> = Four<DeriveKeyRequestFirst<A>, DeriveKeyRequestSecond<A>>;
 
 impl<A: Allocator + Copy> FromParts<A, DeriveKeyRequestParts<A>> for DeriveKeyRequest<A> {
-    ghost parts = { λ x. (x.object_type, x.unique_identifiers, x.derivation_method, x.derivation_parameters, (x.template_attribute, x.other_items)) };
+    ghost parts = { λ x. (x.object_type, x.unique_identifiers, x.derivation_method, x.derivation_parameters, (x.template_attribute, (x.attributes_by_tag, x.other_items))) };
 
     fn from_parts(
         (
@@ -611,7 +741,7 @@ impl<A: Allocator + Copy> FromParts<A, DeriveKeyRequestParts<A>> for DeriveKeyRe
             unique_identifiers,
             derivation_method,
             derivation_parameters,
-            (template_attribute, other_items),
+            (template_attribute, (attributes_by_tag, other_items)),
         ): Holds<DeriveKeyRequestParts<A>, A>,
     ) -> Self {
         DeriveKeyRequest {
@@ -620,6 +750,7 @@ impl<A: Allocator + Copy> FromParts<A, DeriveKeyRequestParts<A>> for DeriveKeyRe
             derivation_method,
             derivation_parameters,
             template_attribute,
+            attributes_by_tag,
             other_items,
         }
     }
@@ -645,7 +776,11 @@ impl<A: Allocator + Copy> Structure<A> for DeriveKeyRequest<A> {
             &self.derivation_method,
             &self.derivation_parameters,
         )?;
-        W::one::<One<Of<TemplateAttribute<A>, 0x420091>>>(state, &self.template_attribute)?;
+        W::one::<Maybe<Of<TemplateAttribute<A>, 0x420091>, 0x420091>>(
+            state,
+            &self.template_attribute,
+        )?;
+        W::one::<Maybe<Of<Kept<A>, 0x420125>, 0x420125>>(state, &self.attributes_by_tag)?;
         W::kept(state, &self.other_items)?;
         W::check(state, self);
         Ok(())
@@ -664,8 +799,10 @@ pub struct LocateRequest<A: Allocator = Global> {
     pub storage_status_mask: Option<i32>,
     /// Which of a group (KMIP 1.1).
     pub object_group_member: Option<u32>,
-    /// What each of them has; without any, all objects are sought.
+    /// What each of them has, up to KMIP 1.4; without any, all objects are sought.
     pub attributes: Vec<Attribute<A>, A>,
+    /// What each of them has, by tags (KMIP 2.0).
+    pub attributes_by_tag: Option<Kept<A>>,
     /// What stands behind these, whatever it is.
     pub other_items: Kept<A>,
 }
@@ -685,12 +822,15 @@ type LocateRequestFirst = (
     MaybeLeaf<u32, 0x4200AC>,
 );
 
-type LocateRequestSecond<A> = Before<Any<Of<Attribute<A>, 0x420008>, 0x420008>, Rest>;
+type LocateRequestSecond<A> = Before<
+    Any<Of<Attribute<A>, 0x420008>, 0x420008>,
+    Before<Maybe<Of<Kept<A>, 0x420125>, 0x420125>, Rest>,
+>;
 
 type LocateRequestParts<A> = Four<LocateRequestFirst, LocateRequestSecond<A>>;
 
 impl<A: Allocator + Copy> FromParts<A, LocateRequestParts<A>> for LocateRequest<A> {
-    ghost parts = { λ x. (x.maximum_items, x.offset_items, x.storage_status_mask, x.object_group_member, (x.attributes, x.other_items)) };
+    ghost parts = { λ x. (x.maximum_items, x.offset_items, x.storage_status_mask, x.object_group_member, (x.attributes, (x.attributes_by_tag, x.other_items))) };
 
     fn from_parts(
         (
@@ -698,7 +838,7 @@ impl<A: Allocator + Copy> FromParts<A, LocateRequestParts<A>> for LocateRequest<
             offset_items,
             storage_status_mask,
             object_group_member,
-            (attributes, other_items),
+            (attributes, (attributes_by_tag, other_items)),
         ): Holds<LocateRequestParts<A>, A>,
     ) -> Self {
         LocateRequest {
@@ -707,6 +847,7 @@ impl<A: Allocator + Copy> FromParts<A, LocateRequestParts<A>> for LocateRequest<
             storage_status_mask,
             object_group_member,
             attributes,
+            attributes_by_tag,
             other_items,
         }
     }
@@ -733,6 +874,7 @@ impl<A: Allocator + Copy> Structure<A> for LocateRequest<A> {
             &self.object_group_member,
         )?;
         W::one::<Any<Of<Attribute<A>, 0x420008>, 0x420008>>(state, &self.attributes)?;
+        W::one::<Maybe<Of<Kept<A>, 0x420125>, 0x420125>>(state, &self.attributes_by_tag)?;
         W::kept(state, &self.other_items)?;
         W::check(state, self);
         Ok(())
@@ -906,26 +1048,33 @@ pub struct GetRequest<A: Allocator = Global> {
     pub unique_identifier: Option<String<A>>,
     /// How a key's bytes are to be written.
     pub key_format_type: Option<KeyFormatType>,
+    /// Whether a key that is kept wrapped is to come so (KMIP 1.4).
+    pub key_wrap_type: Option<u32>,
     /// How the point of an elliptic curve is to be written.
     pub key_compression_type: Option<KeyCompressionType>,
     /// How a key is to be wrapped.
     pub key_wrapping_specification: Option<Boxed<KeyWrappingSpecification<A>, A>>,
 }
 
-type GetRequestParts<A> = (
+type GetRequestFirst<A> = (
     MaybeLeaf<String<A>, 0x420094>,
     Maybe<KeyFormatType, 0x420042>,
+    MaybeLeaf<u32, 0x4200F8>,
     Maybe<KeyCompressionType, 0x420041>,
-    Maybe<InBox<Of<KeyWrappingSpecification<A>, 0x420047>>, 0x420047>,
 );
 
+type GetRequestSecond<A> = Alone<Maybe<InBox<Of<KeyWrappingSpecification<A>, 0x420047>>, 0x420047>>;
+
+type GetRequestParts<A> = Four<GetRequestFirst<A>, GetRequestSecond<A>>;
+
 impl<A: Allocator + Copy> FromParts<A, GetRequestParts<A>> for GetRequest<A> {
-    ghost parts = { λ x. (x.unique_identifier, x.key_format_type, x.key_compression_type, x.key_wrapping_specification) };
+    ghost parts = { λ x. (x.unique_identifier, x.key_format_type, x.key_wrap_type, x.key_compression_type, x.key_wrapping_specification) };
 
     fn from_parts(
         (
             unique_identifier,
             key_format_type,
+            key_wrap_type,
             key_compression_type,
             key_wrapping_specification,
         ): Holds<GetRequestParts<A>, A>,
@@ -933,6 +1082,7 @@ impl<A: Allocator + Copy> FromParts<A, GetRequestParts<A>> for GetRequest<A> {
         GetRequest {
             unique_identifier,
             key_format_type,
+            key_wrap_type,
             key_compression_type,
             key_wrapping_specification,
         }
@@ -950,59 +1100,75 @@ impl<A: Allocator + Copy> Structure<A> for GetRequest<A> {
         W::four::<
             MaybeLeaf<String<A>, 0x420094>,
             Maybe<KeyFormatType, 0x420042>,
+            MaybeLeaf<u32, 0x4200F8>,
             Maybe<KeyCompressionType, 0x420041>,
-            Maybe<InBox<Of<KeyWrappingSpecification<A>, 0x420047>>, 0x420047>,
         >(
             state,
             &self.unique_identifier,
             &self.key_format_type,
+            &self.key_wrap_type,
             &self.key_compression_type,
+        )?;
+        W::one::<Maybe<InBox<Of<KeyWrappingSpecification<A>, 0x420047>>, 0x420047>>(
+            state,
             &self.key_wrapping_specification,
-        )
+        )?;
+        Ok(())
     }
 }
 
-/// Which attributes are asked for (section 4.11).
+/// Which attributes are asked for (section 4.11). Of KMIP 2.0 the Attribute References are among the other items.
 #[derive(Drop)]
 #[derive_where(PartialEq)]
 pub struct GetAttributesRequest<A: Allocator = Global> {
     /// Of which object: the last one, if it is absent.
     pub unique_identifier: Option<String<A>>,
-    /// Which; all of them, if none is named.
+    /// Which, up to KMIP 1.4; all of them, if none is named.
     pub attribute_names: Vec<String<A>, A>,
+    /// What stands behind these, whatever it is.
+    pub other_items: Kept<A>,
 }
 
-type GetAttributesRequestParts<A> = (
+impl<A: Allocator + Copy> Decided for GetAttributesRequest<A> {
+    ghost IsDecided = { λ x. IsApart ⟦<GetAttributesRequestParts<A> as PartList<A>>⟧.rules ⟦<GetAttributesRequest<A> as FromParts<A, GetAttributesRequestParts<A>>>⟧.parts x };
+
+    fn is_decided(&self) -> bool {
+        is_apart::<GetAttributesRequestParts<A>, A>(&self.other_items)
+    }
+}
+
+type GetAttributesRequestParts<A> = Before<
     MaybeLeaf<String<A>, 0x420094>,
-    Any<LeafItem<String<A>, 0x42000A>, 0x42000A>,
-);
+    Before<Any<LeafItem<String<A>, 0x42000A>, 0x42000A>, Rest>,
+>;
 
 impl<A: Allocator + Copy> FromParts<A, GetAttributesRequestParts<A>> for GetAttributesRequest<A> {
-    ghost parts = { λ x. (x.unique_identifier, x.attribute_names) };
+    ghost parts = { λ x. (x.unique_identifier, (x.attribute_names, x.other_items)) };
 
     fn from_parts(
-        (unique_identifier, attribute_names): Holds<GetAttributesRequestParts<A>, A>,
+        (unique_identifier, (attribute_names, other_items)): Holds<GetAttributesRequestParts<A>, A>,
     ) -> Self {
         GetAttributesRequest {
             unique_identifier,
             attribute_names,
+            other_items,
         }
     }
 }
 
 impl<A: Allocator + Copy> Structure<A> for GetAttributesRequest<A> {
-    ghost rules = { structure true ⟦<GetAttributesRequestParts<A> as PartList<A>>⟧.rules ⟦<GetAttributesRequest<A> as FromParts<A, GetAttributesRequestParts<A>>>⟧.parts refl ⟦<GetAttributesRequest<A> as PartialEq>⟧.eq (λ x y e. e) };
+    ghost rules = { keeping_structure ⟦<GetAttributesRequestParts<A> as PartList<A>>⟧.rules ⟦<GetAttributesRequest<A> as FromParts<A, GetAttributesRequestParts<A>>>⟧.parts refl ⟦<GetAttributesRequest<A> as PartialEq>⟧.eq (λ x y e. e) };
 
     fn read<'b>(scope: &Scope<'b, A>, tag: u32, cursor: &mut Cursor<'b, A>) -> Step<Self, A> {
         read_structure::<GetAttributesRequestParts<A>, Self, A>(scope, tag, true, cursor)
     }
 
     fn tell_parts<W: Walk<A>>(&self, state: &mut W::State) -> Result<(), AllocError> {
-        W::two::<MaybeLeaf<String<A>, 0x420094>, Any<LeafItem<String<A>, 0x42000A>, 0x42000A>>(
-            state,
-            &self.unique_identifier,
-            &self.attribute_names,
-        )
+        W::one::<MaybeLeaf<String<A>, 0x420094>>(state, &self.unique_identifier)?;
+        W::one::<Any<LeafItem<String<A>, 0x42000A>, 0x42000A>>(state, &self.attribute_names)?;
+        W::kept(state, &self.other_items)?;
+        W::check(state, self);
+        Ok(())
     }
 }
 
@@ -1012,22 +1178,28 @@ impl<A: Allocator + Copy> Structure<A> for GetAttributesRequest<A> {
 pub struct AttributeRequest<A: Allocator = Global> {
     /// Of which object: the last one, if it is absent.
     pub unique_identifier: Option<String<A>>,
-    /// The attribute.
-    pub attribute: Attribute<A>,
+    /// The attribute, up to KMIP 1.4.
+    pub attribute: Option<Attribute<A>>,
+    /// The attribute, by its tag (KMIP 2.0).
+    pub new_attribute: Option<Kept<A>>,
 }
 
 type AttributeRequestParts<A> = (
     MaybeLeaf<String<A>, 0x420094>,
-    One<Of<Attribute<A>, 0x420008>>,
+    Maybe<Of<Attribute<A>, 0x420008>, 0x420008>,
+    Maybe<Of<Kept<A>, 0x42013D>, 0x42013D>,
 );
 
 impl<A: Allocator + Copy> FromParts<A, AttributeRequestParts<A>> for AttributeRequest<A> {
-    ghost parts = { λ x. (x.unique_identifier, x.attribute) };
+    ghost parts = { λ x. (x.unique_identifier, x.attribute, x.new_attribute) };
 
-    fn from_parts((unique_identifier, attribute): Holds<AttributeRequestParts<A>, A>) -> Self {
+    fn from_parts(
+        (unique_identifier, attribute, new_attribute): Holds<AttributeRequestParts<A>, A>,
+    ) -> Self {
         AttributeRequest {
             unique_identifier,
             attribute,
+            new_attribute,
         }
     }
 }
@@ -1040,11 +1212,67 @@ impl<A: Allocator + Copy> Structure<A> for AttributeRequest<A> {
     }
 
     fn tell_parts<W: Walk<A>>(&self, state: &mut W::State) -> Result<(), AllocError> {
-        W::two::<MaybeLeaf<String<A>, 0x420094>, One<Of<Attribute<A>, 0x420008>>>(
+        W::three::<
+            MaybeLeaf<String<A>, 0x420094>,
+            Maybe<Of<Attribute<A>, 0x420008>, 0x420008>,
+            Maybe<Of<Kept<A>, 0x42013D>, 0x42013D>,
+        >(
             state,
             &self.unique_identifier,
             &self.attribute,
+            &self.new_attribute,
         )
+    }
+}
+
+/// Which attribute is meant (KMIP 2.0).
+#[derive(Drop)]
+#[derive_where(PartialEq)]
+pub enum AttributeReference<A: Allocator = Global> {
+    /// The one of this tag.
+    Tag(u32),
+    /// A vendor's: the vendor's identification, and the attribute's name.
+    Named(Kept<A>),
+}
+
+// The rules of the variants, in their order.
+const ATTRIBUTE_REFERENCE_RULES: [RuleParts; 2] = [
+    RuleParts::Type(TtlvType::Enumeration),
+    RuleParts::Type(TtlvType::Structure),
+];
+
+impl<A: Allocator + Copy> Choice<A> for AttributeReference<A> {
+    ghost chosen = { attribute_reference_choice ⟦<AttributeReference<A> as PartialEq>⟧.eq record {
+      tag = held ⟦<LeafItem<u32, 0x42013B> as Element<A>>⟧.rules refl refl (λ x y e. e);
+      named = held ⟦<Of<Kept<A>, 0x42013B> as Element<A>>⟧.rules refl refl (λ x y e. e);
+    } };
+
+    #[tactic(auto, unfolding(kmip_ttlv_reader::specs::RuleParts::parts_of, kmip_ttlv_reader::specs::RuleParts::equal_sides))]
+    fn variant_rules() -> &'static [RuleParts] {
+        &ATTRIBUTE_REFERENCE_RULES
+    }
+
+    fn read_held<'b>(
+        scope: &Scope<'b, A>,
+        cursor: &mut Cursor<'b, A>,
+        place: usize,
+    ) -> Step<Self, A> {
+        match place {
+            0 => Ok(AttributeReference::Tag(<LeafItem<u32, 0x42013B> as Element<A>>::read_one(
+                scope, cursor,
+            )?)),
+            1 => Ok(AttributeReference::Named(<Of<Kept<A>, 0x42013B> as Element<A>>::read_one(
+                scope, cursor,
+            )?)),
+            _ => unreachable!(),
+        }
+    }
+
+    fn tell_held<W: Walk<A>>(&self, state: &mut W::State) -> Result<(), AllocError> {
+        match self {
+            AttributeReference::Tag(inner) => W::item::<LeafItem<u32, 0x42013B>>(state, inner),
+            AttributeReference::Named(inner) => W::item::<Of<Kept<A>, 0x42013B>>(state, inner),
+        }
     }
 }
 
@@ -1054,32 +1282,49 @@ impl<A: Allocator + Copy> Structure<A> for AttributeRequest<A> {
 pub struct DeleteAttributeRequest<A: Allocator = Global> {
     /// Of which object: the last one, if it is absent.
     pub unique_identifier: Option<String<A>>,
-    /// The attribute's name.
-    pub attribute_name: String<A>,
+    /// The attribute's name, up to KMIP 1.4.
+    pub attribute_name: Option<String<A>>,
     /// Which of this name; the first, if it is absent.
     pub attribute_index: Option<i32>,
+    /// The attribute, by its tag and value (KMIP 2.0).
+    pub current_attribute: Option<Kept<A>>,
+    /// The attribute, by its tag (KMIP 2.0).
+    pub attribute_reference: Option<AttributeReference<A>>,
 }
 
-type DeleteAttributeRequestParts<A> = (
+type DeleteAttributeRequestFirst<A> = (
     MaybeLeaf<String<A>, 0x420094>,
-    Leaf<String<A>, 0x42000A>,
+    MaybeLeaf<String<A>, 0x42000A>,
     MaybeLeaf<i32, 0x420009>,
+    Maybe<Of<Kept<A>, 0x42013C>, 0x42013C>,
 );
+
+type DeleteAttributeRequestSecond<A> = Alone<MaybeOneOf<AttributeReference<A>, 0x42013B>>;
+
+type DeleteAttributeRequestParts<A> = Four<
+    DeleteAttributeRequestFirst<A>,
+    DeleteAttributeRequestSecond<A>,
+>;
 
 impl<A: Allocator + Copy> FromParts<A, DeleteAttributeRequestParts<A>>
     for DeleteAttributeRequest<A> {
-    ghost parts = { λ x. (x.unique_identifier, x.attribute_name, x.attribute_index) };
+    ghost parts = { λ x. (x.unique_identifier, x.attribute_name, x.attribute_index, x.current_attribute, x.attribute_reference) };
 
     fn from_parts(
-        (unique_identifier, attribute_name, attribute_index): Holds<
-            DeleteAttributeRequestParts<A>,
-            A,
-        >,
+        (
+            unique_identifier,
+            attribute_name,
+            attribute_index,
+            current_attribute,
+            attribute_reference,
+        ): Holds<DeleteAttributeRequestParts<A>, A>,
     ) -> Self {
         DeleteAttributeRequest {
             unique_identifier,
             attribute_name,
             attribute_index,
+            current_attribute,
+            attribute_reference,
         }
     }
 }
@@ -1092,16 +1337,20 @@ impl<A: Allocator + Copy> Structure<A> for DeleteAttributeRequest<A> {
     }
 
     fn tell_parts<W: Walk<A>>(&self, state: &mut W::State) -> Result<(), AllocError> {
-        W::three::<
+        W::four::<
             MaybeLeaf<String<A>, 0x420094>,
-            Leaf<String<A>, 0x42000A>,
+            MaybeLeaf<String<A>, 0x42000A>,
             MaybeLeaf<i32, 0x420009>,
+            Maybe<Of<Kept<A>, 0x42013C>, 0x42013C>,
         >(
             state,
             &self.unique_identifier,
             &self.attribute_name,
             &self.attribute_index,
-        )
+            &self.current_attribute,
+        )?;
+        W::one::<MaybeOneOf<AttributeReference<A>, 0x42013B>>(state, &self.attribute_reference)?;
+        Ok(())
     }
 }
 
@@ -1570,6 +1819,399 @@ impl<A: Allocator + Copy> Structure<A> for CryptographicRequest<A> {
     }
 }
 
+/// An object is to be kept as another server had it (KMIP 1.4).
+#[derive(Drop)]
+#[derive_where(PartialEq)]
+pub struct ImportRequest<A: Allocator = Global> {
+    /// Its identifier.
+    pub unique_identifier: String<A>,
+    /// What it is.
+    pub object_type: ObjectType,
+    /// Whether an object of this identifier is to be replaced.
+    pub replace_existing: Option<bool>,
+    /// Whether a wrapped key is to be kept so.
+    pub key_wrap_type: Option<u32>,
+    /// What is known of it, in KMIP 1.4.
+    pub attributes: Vec<Attribute<A>, A>,
+    /// What is known of it, by tags (KMIP 2.0).
+    pub attributes_by_tag: Option<Kept<A>>,
+    /// A certificate.
+    pub certificate: Option<Certificate<A>>,
+    /// A symmetric key.
+    pub symmetric_key: Option<Boxed<SymmetricKey<A>, A>>,
+    /// A public key.
+    pub public_key: Option<Boxed<PublicKey<A>, A>>,
+    /// A private key.
+    pub private_key: Option<Boxed<PrivateKey<A>, A>>,
+    /// One of the parts that a key was split into.
+    pub split_key: Option<Boxed<SplitKey<A>, A>>,
+    /// Attributes that other objects are made with.
+    pub template: Option<Template<A>>,
+    /// A secret that is no key.
+    pub secret_data: Option<Boxed<SecretData<A>, A>>,
+    /// Bytes that the server doesn't interpret.
+    pub opaque_object: Option<OpaqueObject<A>>,
+}
+
+impl<A: Allocator> ImportRequest<A> {
+    /// The object. None if none is there, or more than one.
+    pub fn object(&self) -> Option<ManagedObject<'_, A>>
+        ensures { IsImportRequestObject self.now result }
+    {
+        match (
+            &self.certificate,
+            &self.symmetric_key,
+            &self.public_key,
+            &self.private_key,
+            &self.split_key,
+            &self.template,
+            &self.secret_data,
+            &self.opaque_object,
+        ) {
+            (Some(inner), None, None, None, None, None, None, None) => Some(
+                ManagedObject::Certificate(inner),
+            ),
+            (None, Some(inner), None, None, None, None, None, None) => Some(
+                ManagedObject::SymmetricKey(inner.inner.as_ref()),
+            ),
+            (None, None, Some(inner), None, None, None, None, None) => Some(
+                ManagedObject::PublicKey(inner.inner.as_ref()),
+            ),
+            (None, None, None, Some(inner), None, None, None, None) => Some(
+                ManagedObject::PrivateKey(inner.inner.as_ref()),
+            ),
+            (None, None, None, None, Some(inner), None, None, None) => Some(ManagedObject::SplitKey(
+                inner.inner.as_ref(),
+            )),
+            (None, None, None, None, None, Some(inner), None, None) => Some(ManagedObject::Template(
+                inner,
+            )),
+            (None, None, None, None, None, None, Some(inner), None) => Some(
+                ManagedObject::SecretData(inner.inner.as_ref()),
+            ),
+            (None, None, None, None, None, None, None, Some(inner)) => Some(
+                ManagedObject::OpaqueObject(inner),
+            ),
+            _ => None,
+        }
+    }
+}
+
+impl<A: Allocator> Decided for ImportRequest<A> {
+    ghost IsDecided = { λ x. (there x.certificate + (there x.symmetric_key + (there x.public_key + (there x.private_key + (there x.split_key + (there x.template + (there x.secret_data + there x.opaque_object)))))) ≡ 1) };
+
+    fn is_decided(&self) -> bool {
+        self.object().is_some()
+    }
+}
+
+type ImportRequestFirst<A> = (
+    Leaf<String<A>, 0x420094>,
+    One<ObjectType>,
+    MaybeLeaf<bool, 0x420124>,
+    MaybeLeaf<u32, 0x4200F8>,
+);
+
+type ImportRequestSecond<A> = (
+    Any<Of<Attribute<A>, 0x420008>, 0x420008>,
+    Maybe<Of<Kept<A>, 0x420125>, 0x420125>,
+    Maybe<Of<Certificate<A>, 0x420013>, 0x420013>,
+    Maybe<InBox<Of<SymmetricKey<A>, 0x42008F>>, 0x42008F>,
+);
+
+type ImportRequestThird<A> = (
+    Maybe<InBox<Of<PublicKey<A>, 0x42006D>>, 0x42006D>,
+    Maybe<InBox<Of<PrivateKey<A>, 0x420064>>, 0x420064>,
+    Maybe<InBox<Of<SplitKey<A>, 0x420089>>, 0x420089>,
+    Maybe<Of<Template<A>, 0x420090>, 0x420090>,
+);
+
+type ImportRequestFourth<A> = (
+    Maybe<InBox<Of<SecretData<A>, 0x420085>>, 0x420085>,
+    Maybe<Of<OpaqueObject<A>, 0x42005B>, 0x42005B>,
+);
+
+type ImportRequestParts<A> = Four<
+    ImportRequestFirst<A>,
+    Four<ImportRequestSecond<A>, Four<ImportRequestThird<A>, ImportRequestFourth<A>>>,
+>;
+
+impl<A: Allocator + Copy> FromParts<A, ImportRequestParts<A>> for ImportRequest<A> {
+    ghost parts = { λ x. (x.unique_identifier, x.object_type, x.replace_existing, x.key_wrap_type, (x.attributes, x.attributes_by_tag, x.certificate, x.symmetric_key, (x.public_key, x.private_key, x.split_key, x.template, (x.secret_data, x.opaque_object)))) };
+
+    fn from_parts(
+        (
+            unique_identifier,
+            object_type,
+            replace_existing,
+            key_wrap_type,
+            (
+                attributes,
+                attributes_by_tag,
+                certificate,
+                symmetric_key,
+                (public_key, private_key, split_key, template, (secret_data, opaque_object)),
+            ),
+        ): Holds<ImportRequestParts<A>, A>,
+    ) -> Self {
+        ImportRequest {
+            unique_identifier,
+            object_type,
+            replace_existing,
+            key_wrap_type,
+            attributes,
+            attributes_by_tag,
+            certificate,
+            symmetric_key,
+            public_key,
+            private_key,
+            split_key,
+            template,
+            secret_data,
+            opaque_object,
+        }
+    }
+}
+
+impl<A: Allocator + Copy> Structure<A> for ImportRequest<A> {
+    ghost rules = { structure_where true ⟦<ImportRequestParts<A> as PartList<A>>⟧.rules ⟦<ImportRequest<A> as FromParts<A, ImportRequestParts<A>>>⟧.parts refl
+        (λ x. (there x.certificate + (there x.symmetric_key + (there x.public_key + (there x.private_key + (there x.split_key + (there x.template + (there x.secret_data + there x.opaque_object)))))) ≡ 1)) (λ x d. (tt, (tt, (tt, (tt, (tt, (tt, (tt, (tt, (tt, (tt, (tt, (tt, (tt, (tt))))))))))))))) ⟦<ImportRequest<A> as PartialEq>⟧.eq (λ x y e. e) };
+
+    fn read<'b>(scope: &Scope<'b, A>, tag: u32, cursor: &mut Cursor<'b, A>) -> Step<Self, A> {
+        read_structure::<ImportRequestParts<A>, Self, A>(scope, tag, true, cursor)
+    }
+
+    fn tell_parts<W: Walk<A>>(&self, state: &mut W::State) -> Result<(), AllocError> {
+        W::four::<
+            Leaf<String<A>, 0x420094>,
+            One<ObjectType>,
+            MaybeLeaf<bool, 0x420124>,
+            MaybeLeaf<u32, 0x4200F8>,
+        >(
+            state,
+            &self.unique_identifier,
+            &self.object_type,
+            &self.replace_existing,
+            &self.key_wrap_type,
+        )?;
+        W::four::<
+            Any<Of<Attribute<A>, 0x420008>, 0x420008>,
+            Maybe<Of<Kept<A>, 0x420125>, 0x420125>,
+            Maybe<Of<Certificate<A>, 0x420013>, 0x420013>,
+            Maybe<InBox<Of<SymmetricKey<A>, 0x42008F>>, 0x42008F>,
+        >(
+            state,
+            &self.attributes,
+            &self.attributes_by_tag,
+            &self.certificate,
+            &self.symmetric_key,
+        )?;
+        W::four::<
+            Maybe<InBox<Of<PublicKey<A>, 0x42006D>>, 0x42006D>,
+            Maybe<InBox<Of<PrivateKey<A>, 0x420064>>, 0x420064>,
+            Maybe<InBox<Of<SplitKey<A>, 0x420089>>, 0x420089>,
+            Maybe<Of<Template<A>, 0x420090>, 0x420090>,
+        >(
+            state,
+            &self.public_key,
+            &self.private_key,
+            &self.split_key,
+            &self.template,
+        )?;
+        W::two::<
+            Maybe<InBox<Of<SecretData<A>, 0x420085>>, 0x420085>,
+            Maybe<Of<OpaqueObject<A>, 0x42005B>, 0x42005B>,
+        >(state, &self.secret_data, &self.opaque_object)?;
+        W::check(state, self);
+        Ok(())
+    }
+}
+
+/// An object is to be got as another server is to have it (KMIP 1.4).
+#[derive(Drop)]
+#[derive_where(PartialEq)]
+pub struct ExportRequest<A: Allocator = Global> {
+    /// Its identifier; that of the last object, if it is absent.
+    pub unique_identifier: Option<String<A>>,
+    /// How a key's bytes are to be written.
+    pub key_format_type: Option<KeyFormatType>,
+    /// Whether a key that is kept wrapped is to come so.
+    pub key_wrap_type: Option<u32>,
+    /// How the point of an elliptic curve is to be written.
+    pub key_compression_type: Option<KeyCompressionType>,
+    /// How a key is to be wrapped.
+    pub key_wrapping_specification: Option<Boxed<KeyWrappingSpecification<A>, A>>,
+    /// What stands behind these, whatever it is.
+    pub other_items: Kept<A>,
+}
+
+impl<A: Allocator + Copy> Decided for ExportRequest<A> {
+    ghost IsDecided = { λ x. IsApart ⟦<ExportRequestParts<A> as PartList<A>>⟧.rules ⟦<ExportRequest<A> as FromParts<A, ExportRequestParts<A>>>⟧.parts x };
+
+    fn is_decided(&self) -> bool {
+        is_apart::<ExportRequestParts<A>, A>(&self.other_items)
+    }
+}
+
+type ExportRequestFirst<A> = (
+    MaybeLeaf<String<A>, 0x420094>,
+    Maybe<KeyFormatType, 0x420042>,
+    MaybeLeaf<u32, 0x4200F8>,
+    Maybe<KeyCompressionType, 0x420041>,
+);
+
+type ExportRequestSecond<A> = Before<
+    Maybe<InBox<Of<KeyWrappingSpecification<A>, 0x420047>>, 0x420047>,
+    Rest,
+>;
+
+type ExportRequestParts<A> = Four<ExportRequestFirst<A>, ExportRequestSecond<A>>;
+
+impl<A: Allocator + Copy> FromParts<A, ExportRequestParts<A>> for ExportRequest<A> {
+    ghost parts = { λ x. (x.unique_identifier, x.key_format_type, x.key_wrap_type, x.key_compression_type, (x.key_wrapping_specification, x.other_items)) };
+
+    fn from_parts(
+        (
+            unique_identifier,
+            key_format_type,
+            key_wrap_type,
+            key_compression_type,
+            (key_wrapping_specification, other_items),
+        ): Holds<ExportRequestParts<A>, A>,
+    ) -> Self {
+        ExportRequest {
+            unique_identifier,
+            key_format_type,
+            key_wrap_type,
+            key_compression_type,
+            key_wrapping_specification,
+            other_items,
+        }
+    }
+}
+
+impl<A: Allocator + Copy> Structure<A> for ExportRequest<A> {
+    ghost rules = { keeping_structure ⟦<ExportRequestParts<A> as PartList<A>>⟧.rules ⟦<ExportRequest<A> as FromParts<A, ExportRequestParts<A>>>⟧.parts refl ⟦<ExportRequest<A> as PartialEq>⟧.eq (λ x y e. e) };
+
+    fn read<'b>(scope: &Scope<'b, A>, tag: u32, cursor: &mut Cursor<'b, A>) -> Step<Self, A> {
+        read_structure::<ExportRequestParts<A>, Self, A>(scope, tag, true, cursor)
+    }
+
+    fn tell_parts<W: Walk<A>>(&self, state: &mut W::State) -> Result<(), AllocError> {
+        W::four::<
+            MaybeLeaf<String<A>, 0x420094>,
+            Maybe<KeyFormatType, 0x420042>,
+            MaybeLeaf<u32, 0x4200F8>,
+            Maybe<KeyCompressionType, 0x420041>,
+        >(
+            state,
+            &self.unique_identifier,
+            &self.key_format_type,
+            &self.key_wrap_type,
+            &self.key_compression_type,
+        )?;
+        W::one::<Maybe<InBox<Of<KeyWrappingSpecification<A>, 0x420047>>, 0x420047>>(
+            state,
+            &self.key_wrapping_specification,
+        )?;
+        W::kept(state, &self.other_items)?;
+        W::check(state, self);
+        Ok(())
+    }
+}
+
+/// A client asks for a ticket, by which its later requests go (KMIP 2.0).
+#[derive(Drop)]
+#[derive_where(PartialEq)]
+pub struct LoginRequest<A: Allocator = Global> {
+    /// For how long, in seconds.
+    pub lease_time: Option<Interval>,
+    /// What stands behind these, whatever it is.
+    pub other_items: Kept<A>,
+}
+
+impl<A: Allocator + Copy> Decided for LoginRequest<A> {
+    ghost IsDecided = { λ x. IsApart ⟦<LoginRequestParts as PartList<A>>⟧.rules ⟦<LoginRequest<A> as FromParts<A, LoginRequestParts>>⟧.parts x };
+
+    fn is_decided(&self) -> bool {
+        is_apart::<LoginRequestParts, A>(&self.other_items)
+    }
+}
+
+type LoginRequestParts = Before<MaybeLeaf<Interval, 0x420049>, Rest>;
+
+impl<A: Allocator + Copy> FromParts<A, LoginRequestParts> for LoginRequest<A> {
+    ghost parts = { λ x. (x.lease_time, x.other_items) };
+
+    fn from_parts((lease_time, other_items): Holds<LoginRequestParts, A>) -> Self {
+        LoginRequest {
+            lease_time,
+            other_items,
+        }
+    }
+}
+
+impl<A: Allocator + Copy> Structure<A> for LoginRequest<A> {
+    ghost rules = { keeping_structure ⟦<LoginRequestParts as PartList<A>>⟧.rules ⟦<LoginRequest<A> as FromParts<A, LoginRequestParts>>⟧.parts refl ⟦<LoginRequest<A> as PartialEq>⟧.eq (λ x y e. e) };
+
+    fn read<'b>(scope: &Scope<'b, A>, tag: u32, cursor: &mut Cursor<'b, A>) -> Step<Self, A> {
+        read_structure::<LoginRequestParts, Self, A>(scope, tag, true, cursor)
+    }
+
+    fn tell_parts<W: Walk<A>>(&self, state: &mut W::State) -> Result<(), AllocError> {
+        W::one::<MaybeLeaf<Interval, 0x420049>>(state, &self.lease_time)?;
+        W::kept(state, &self.other_items)?;
+        W::check(state, self);
+        Ok(())
+    }
+}
+
+/// A ticket is to be no longer good (KMIP 2.0).
+#[derive(Drop)]
+#[derive_where(PartialEq)]
+pub struct TicketRequest<A: Allocator = Global> {
+    /// The ticket.
+    pub ticket: Ticket<A>,
+    /// What stands behind these, whatever it is.
+    pub other_items: Kept<A>,
+}
+
+impl<A: Allocator + Copy> Decided for TicketRequest<A> {
+    ghost IsDecided = { λ x. IsApart ⟦<TicketRequestParts<A> as PartList<A>>⟧.rules ⟦<TicketRequest<A> as FromParts<A, TicketRequestParts<A>>>⟧.parts x };
+
+    fn is_decided(&self) -> bool {
+        is_apart::<TicketRequestParts<A>, A>(&self.other_items)
+    }
+}
+
+type TicketRequestParts<A> = Before<One<Of<Ticket<A>, 0x420149>>, Rest>;
+
+impl<A: Allocator + Copy> FromParts<A, TicketRequestParts<A>> for TicketRequest<A> {
+    ghost parts = { λ x. (x.ticket, x.other_items) };
+
+    fn from_parts((ticket, other_items): Holds<TicketRequestParts<A>, A>) -> Self {
+        TicketRequest {
+            ticket,
+            other_items,
+        }
+    }
+}
+
+impl<A: Allocator + Copy> Structure<A> for TicketRequest<A> {
+    ghost rules = { keeping_structure ⟦<TicketRequestParts<A> as PartList<A>>⟧.rules ⟦<TicketRequest<A> as FromParts<A, TicketRequestParts<A>>>⟧.parts refl ⟦<TicketRequest<A> as PartialEq>⟧.eq (λ x y e. e) };
+
+    fn read<'b>(scope: &Scope<'b, A>, tag: u32, cursor: &mut Cursor<'b, A>) -> Step<Self, A> {
+        read_structure::<TicketRequestParts<A>, Self, A>(scope, tag, true, cursor)
+    }
+
+    fn tell_parts<W: Walk<A>>(&self, state: &mut W::State) -> Result<(), AllocError> {
+        W::one::<One<Of<Ticket<A>, 0x420149>>>(state, &self.ticket)?;
+        W::kept(state, &self.other_items)?;
+        W::check(state, self);
+        Ok(())
+    }
+}
+
 /// What an operation needs.
 #[derive(Drop)]
 #[derive_where(PartialEq)]
@@ -1579,9 +2221,9 @@ pub enum RequestPayload<A: Allocator = Global> {
     /// A public and a private key are to be made.
     CreateKeyPair(Boxed<CreateKeyPairRequest<A>, A>),
     /// An object is to be kept.
-    Register(RegisterRequest<A>),
+    Register(Boxed<RegisterRequest<A>, A>),
     /// A key is to be made in place of another.
-    ReKey(ReKeyRequest<A>),
+    ReKey(Boxed<ReKeyRequest<A>, A>),
     /// A key is to be made of others.
     DeriveKey(Boxed<DeriveKeyRequest<A>, A>),
     /// Objects are sought.
@@ -1599,7 +2241,7 @@ pub enum RequestPayload<A: Allocator = Global> {
     /// An attribute is to be changed.
     ModifyAttribute(Boxed<AttributeRequest<A>, A>),
     /// An attribute is to be deleted.
-    DeleteAttribute(DeleteAttributeRequest<A>),
+    DeleteAttribute(Boxed<DeleteAttributeRequest<A>, A>),
     /// An object is to be used for a time.
     ObtainLease(ObjectRequest<A>),
     /// It is to be used so much.
@@ -1638,12 +2280,20 @@ pub enum RequestPayload<A: Allocator = Global> {
     MacVerify(Boxed<CryptographicRequest<A>, A>),
     /// A hash is to be made of data.
     Hash(Boxed<CryptographicRequest<A>, A>),
+    /// An object is to be kept as another server had it.
+    Import(Boxed<ImportRequest<A>, A>),
+    /// An object is to be got as another server is to have it.
+    Export(Boxed<ExportRequest<A>, A>),
+    /// A ticket is asked for.
+    Login(LoginRequest<A>),
+    /// A ticket is to be no longer good.
+    Logout(TicketRequest<A>),
     /// What any other operation needs.
     Other(Kept<A>),
 }
 
 // The texts that choose a variant, whatever the type of its item is.
-const REQUEST_PAYLOAD_NAMES: [&str; 32] = [
+const REQUEST_PAYLOAD_NAMES: [&str; 36] = [
     "0x00000001",
     "0x00000002",
     "0x00000003",
@@ -1676,6 +2326,10 @@ const REQUEST_PAYLOAD_NAMES: [&str; 32] = [
     "0x00000023",
     "0x00000024",
     "0x00000027",
+    "0x0000002A",
+    "0x0000002B",
+    "0x0000002D",
+    "0x0000002E",
 ];
 
 // Whether a text is none of these.
@@ -1723,13 +2377,17 @@ impl<A: Allocator> RequestPayload<A> {
             RequestPayload::Mac(_) => text == "0x00000023",
             RequestPayload::MacVerify(_) => text == "0x00000024",
             RequestPayload::Hash(_) => text == "0x00000027",
+            RequestPayload::Import(_) => text == "0x0000002A",
+            RequestPayload::Export(_) => text == "0x0000002B",
+            RequestPayload::Login(_) => text == "0x0000002D",
+            RequestPayload::Logout(_) => text == "0x0000002E",
             RequestPayload::Other(_) => is_no_request_payload(text),
         }
     }
 }
 
 // The rules of the variants, in their order.
-const REQUEST_PAYLOAD_RULES: [RuleParts; 33] = [
+const REQUEST_PAYLOAD_RULES: [RuleParts; 37] = [
     RuleParts::Texts {
         tag: 0x42005C,
         texts: &["0x00000001"],
@@ -1858,6 +2516,22 @@ const REQUEST_PAYLOAD_RULES: [RuleParts; 33] = [
         tag: 0x42005C,
         texts: &["0x00000027"],
     },
+    RuleParts::Texts {
+        tag: 0x42005C,
+        texts: &["0x0000002A"],
+    },
+    RuleParts::Texts {
+        tag: 0x42005C,
+        texts: &["0x0000002B"],
+    },
+    RuleParts::Texts {
+        tag: 0x42005C,
+        texts: &["0x0000002D"],
+    },
+    RuleParts::Texts {
+        tag: 0x42005C,
+        texts: &["0x0000002E"],
+    },
     RuleParts::Type(TtlvType::Structure),
 ];
 
@@ -1865,8 +2539,8 @@ impl<A: Allocator + Copy> Choice<A> for RequestPayload<A> {
     ghost chosen = { request_payload_choice ⟦<RequestPayload<A> as PartialEq>⟧.eq record {
       create = held ⟦<Of<CreateRequest<A>, 0x420079> as Element<A>>⟧.rules refl refl (λ x y e. e);
       create_key_pair = held ⟦<InBox<Of<CreateKeyPairRequest<A>, 0x420079>> as Element<A>>⟧.rules refl refl (λ x y e. e);
-      register = held ⟦<Of<RegisterRequest<A>, 0x420079> as Element<A>>⟧.rules refl refl (λ x y e. e);
-      re_key = held ⟦<Of<ReKeyRequest<A>, 0x420079> as Element<A>>⟧.rules refl refl (λ x y e. e);
+      register = held ⟦<InBox<Of<RegisterRequest<A>, 0x420079>> as Element<A>>⟧.rules refl refl (λ x y e. e);
+      re_key = held ⟦<InBox<Of<ReKeyRequest<A>, 0x420079>> as Element<A>>⟧.rules refl refl (λ x y e. e);
       derive_key = held ⟦<InBox<Of<DeriveKeyRequest<A>, 0x420079>> as Element<A>>⟧.rules refl refl (λ x y e. e);
       locate = held ⟦<Of<LocateRequest<A>, 0x420079> as Element<A>>⟧.rules refl refl (λ x y e. e);
       check = held ⟦<Of<CheckRequest<A>, 0x420079> as Element<A>>⟧.rules refl refl (λ x y e. e);
@@ -1875,7 +2549,7 @@ impl<A: Allocator + Copy> Choice<A> for RequestPayload<A> {
       get_attribute_list = held ⟦<Of<ObjectRequest<A>, 0x420079> as Element<A>>⟧.rules refl refl (λ x y e. e);
       add_attribute = held ⟦<InBox<Of<AttributeRequest<A>, 0x420079>> as Element<A>>⟧.rules refl refl (λ x y e. e);
       modify_attribute = held ⟦<InBox<Of<AttributeRequest<A>, 0x420079>> as Element<A>>⟧.rules refl refl (λ x y e. e);
-      delete_attribute = held ⟦<Of<DeleteAttributeRequest<A>, 0x420079> as Element<A>>⟧.rules refl refl (λ x y e. e);
+      delete_attribute = held ⟦<InBox<Of<DeleteAttributeRequest<A>, 0x420079>> as Element<A>>⟧.rules refl refl (λ x y e. e);
       obtain_lease = held ⟦<Of<ObjectRequest<A>, 0x420079> as Element<A>>⟧.rules refl refl (λ x y e. e);
       get_usage_allocation = held ⟦<Of<UsageAllocationRequest<A>, 0x420079> as Element<A>>⟧.rules refl refl (λ x y e. e);
       activate = held ⟦<Of<ObjectRequest<A>, 0x420079> as Element<A>>⟧.rules refl refl (λ x y e. e);
@@ -1895,6 +2569,10 @@ impl<A: Allocator + Copy> Choice<A> for RequestPayload<A> {
       mac = held ⟦<InBox<Of<CryptographicRequest<A>, 0x420079>> as Element<A>>⟧.rules refl refl (λ x y e. e);
       mac_verify = held ⟦<InBox<Of<CryptographicRequest<A>, 0x420079>> as Element<A>>⟧.rules refl refl (λ x y e. e);
       hash = held ⟦<InBox<Of<CryptographicRequest<A>, 0x420079>> as Element<A>>⟧.rules refl refl (λ x y e. e);
+      import = held ⟦<InBox<Of<ImportRequest<A>, 0x420079>> as Element<A>>⟧.rules refl refl (λ x y e. e);
+      export = held ⟦<InBox<Of<ExportRequest<A>, 0x420079>> as Element<A>>⟧.rules refl refl (λ x y e. e);
+      login = held ⟦<Of<LoginRequest<A>, 0x420079> as Element<A>>⟧.rules refl refl (λ x y e. e);
+      logout = held ⟦<Of<TicketRequest<A>, 0x420079> as Element<A>>⟧.rules refl refl (λ x y e. e);
       other = held ⟦<Of<Kept<A>, 0x420079> as Element<A>>⟧.rules refl refl (λ x y e. e);
     } };
 
@@ -1915,12 +2593,12 @@ impl<A: Allocator + Copy> Choice<A> for RequestPayload<A> {
             1 => Ok(RequestPayload::CreateKeyPair(<InBox<
                 Of<CreateKeyPairRequest<A>, 0x420079>,
             > as Element<A>>::read_one(scope, cursor)?)),
-            2 => Ok(RequestPayload::Register(<Of<RegisterRequest<A>, 0x420079> as Element<
+            2 => Ok(RequestPayload::Register(<InBox<Of<RegisterRequest<A>, 0x420079>> as Element<
                 A,
             >>::read_one(scope, cursor)?)),
-            3 => Ok(RequestPayload::ReKey(<Of<ReKeyRequest<A>, 0x420079> as Element<A>>::read_one(
-                scope, cursor,
-            )?)),
+            3 => Ok(RequestPayload::ReKey(<InBox<Of<ReKeyRequest<A>, 0x420079>> as Element<
+                A,
+            >>::read_one(scope, cursor)?)),
             4 => Ok(RequestPayload::DeriveKey(<InBox<Of<DeriveKeyRequest<A>, 0x420079>> as Element<
                 A,
             >>::read_one(scope, cursor)?)),
@@ -1945,9 +2623,8 @@ impl<A: Allocator + Copy> Choice<A> for RequestPayload<A> {
             11 => Ok(RequestPayload::ModifyAttribute(<InBox<
                 Of<AttributeRequest<A>, 0x420079>,
             > as Element<A>>::read_one(scope, cursor)?)),
-            12 => Ok(RequestPayload::DeleteAttribute(<Of<
-                DeleteAttributeRequest<A>,
-                0x420079,
+            12 => Ok(RequestPayload::DeleteAttribute(<InBox<
+                Of<DeleteAttributeRequest<A>, 0x420079>,
             > as Element<A>>::read_one(scope, cursor)?)),
             13 => Ok(RequestPayload::ObtainLease(<Of<ObjectRequest<A>, 0x420079> as Element<
                 A,
@@ -2008,7 +2685,19 @@ impl<A: Allocator + Copy> Choice<A> for RequestPayload<A> {
             31 => Ok(RequestPayload::Hash(<InBox<Of<CryptographicRequest<A>, 0x420079>> as Element<
                 A,
             >>::read_one(scope, cursor)?)),
-            32 => Ok(RequestPayload::Other(<Of<Kept<A>, 0x420079> as Element<A>>::read_one(
+            32 => Ok(RequestPayload::Import(<InBox<Of<ImportRequest<A>, 0x420079>> as Element<
+                A,
+            >>::read_one(scope, cursor)?)),
+            33 => Ok(RequestPayload::Export(<InBox<Of<ExportRequest<A>, 0x420079>> as Element<
+                A,
+            >>::read_one(scope, cursor)?)),
+            34 => Ok(RequestPayload::Login(<Of<LoginRequest<A>, 0x420079> as Element<A>>::read_one(
+                scope, cursor,
+            )?)),
+            35 => Ok(RequestPayload::Logout(<Of<TicketRequest<A>, 0x420079> as Element<
+                A,
+            >>::read_one(scope, cursor)?)),
+            36 => Ok(RequestPayload::Other(<Of<Kept<A>, 0x420079> as Element<A>>::read_one(
                 scope, cursor,
             )?)),
             _ => unreachable!(),
@@ -2023,10 +2712,12 @@ impl<A: Allocator + Copy> Choice<A> for RequestPayload<A> {
             RequestPayload::CreateKeyPair(inner) => W::item::<
                 InBox<Of<CreateKeyPairRequest<A>, 0x420079>>,
             >(state, inner),
-            RequestPayload::Register(inner) => W::item::<Of<RegisterRequest<A>, 0x420079>>(
+            RequestPayload::Register(inner) => W::item::<InBox<Of<RegisterRequest<A>, 0x420079>>>(
                 state, inner,
             ),
-            RequestPayload::ReKey(inner) => W::item::<Of<ReKeyRequest<A>, 0x420079>>(state, inner),
+            RequestPayload::ReKey(inner) => W::item::<InBox<Of<ReKeyRequest<A>, 0x420079>>>(
+                state, inner,
+            ),
             RequestPayload::DeriveKey(inner) => W::item::<InBox<Of<DeriveKeyRequest<A>, 0x420079>>>(
                 state, inner,
             ),
@@ -2048,7 +2739,7 @@ impl<A: Allocator + Copy> Choice<A> for RequestPayload<A> {
                 InBox<Of<AttributeRequest<A>, 0x420079>>,
             >(state, inner),
             RequestPayload::DeleteAttribute(inner) => W::item::<
-                Of<DeleteAttributeRequest<A>, 0x420079>,
+                InBox<Of<DeleteAttributeRequest<A>, 0x420079>>,
             >(state, inner),
             RequestPayload::ObtainLease(inner) => W::item::<Of<ObjectRequest<A>, 0x420079>>(
                 state, inner,
@@ -2103,6 +2794,16 @@ impl<A: Allocator + Copy> Choice<A> for RequestPayload<A> {
                 InBox<Of<CryptographicRequest<A>, 0x420079>>,
             >(state, inner),
             RequestPayload::Hash(inner) => W::item::<InBox<Of<CryptographicRequest<A>, 0x420079>>>(
+                state, inner,
+            ),
+            RequestPayload::Import(inner) => W::item::<InBox<Of<ImportRequest<A>, 0x420079>>>(
+                state, inner,
+            ),
+            RequestPayload::Export(inner) => W::item::<InBox<Of<ExportRequest<A>, 0x420079>>>(
+                state, inner,
+            ),
+            RequestPayload::Login(inner) => W::item::<Of<LoginRequest<A>, 0x420079>>(state, inner),
+            RequestPayload::Logout(inner) => W::item::<Of<TicketRequest<A>, 0x420079>>(
                 state, inner,
             ),
             RequestPayload::Other(inner) => W::item::<Of<Kept<A>, 0x420079>>(state, inner),

@@ -1,25 +1,25 @@
 -- Written by codegen from types.table: change that, and run codegen/codegen.
 -- Which rules choose what, and what is there of what may be.
-use Rattle.std.proofs.Common.{ap, refl, true, ◌∙◌}
+use Rattle.std.proofs.Common.{refl, true}
 use Rattle.std.specs.Option.{IsSomeAnd}
 use Rattle.std.specs.Prelude.{List, None, Option, Some, codes, ℕ, ◌+◌, ◌≡◌, [], ◌∷◌}
 use Rattle.std.specs.Str.{chars, trim_end, trim_start}
 use lib.Utf8.{encode}
 use Rattle.kmip_ttlv_kinds.specs.Choices.{Case, ChoiceOf, Held, Meaning, as_item, case_of, choice_by}
 use Rattle.kmip_ttlv_parts.proofs.Equal.{apart, in_variant}
-use Rattle.kmip_ttlv_parts.proofs.MessageRules.{not_first}
-use Rattle.kmip_ttlv_parts.specs.Agreements.{first_variant, later_variant}
+use Rattle.kmip_ttlv_parts.proofs.ChoiceTexts.{BeginsBy, chosen_by_others, chosen_by_text, is_there}
+use Rattle.kmip_ttlv_parts.specs.RuleParts.{parts_of}
 use Rattle.kmip_ttlv_parts.specs.Forms.{Variants, enum, no_variants, variant, wrapped}
 use Rattle.kmip_ttlv_parts.specs.MessageParts.{there}
 use Rattle.kmip_ttlv_parts.specs.Names.{number, tag_of}
 use Rattle.kmip_ttlv_parts.specs.Returns.{IsNoneOf}
-use Rattle.kmip_ttlv_parts.specs.Rules.{at_least, chosen, choice, equal, in_brackets, member, past, rule, sides}
-use Rattle.kmip_ttlv_parts.specs.TagValues.{TagValue, last}
+use Rattle.kmip_ttlv_parts.specs.Rules.{at_least, equal, in_brackets, member, rule, sides}
 use Rattle.std.proofs.Common.{Bool as Boole}
 use Rattle.kmip_ttlv_parts.specs.declared.types.TtlvType.{TtlvType}
 use Rattle.kmip_ttlv_parts.specs.declared.types.TtlvType.TheVariants as types
 use Rattle.kmip_ttlv_parts.specs.declared.boxed.Boxed.{Boxed}
 use Rattle.kmip_responses.specs.declared.response_payload.GetResponse.{GetResponse}
+use Rattle.kmip_responses.specs.declared.response_payload.ExportResponse.{ExportResponse}
 use Rattle.kmip_responses.specs.declared.response_payload.ResponsePayload.{ResponsePayload}
 use Rattle.kmip_responses.specs.declared.response_payload.ResponsePayload.TheVariants as response_payload
 use Rattle.kmip_objects.specs.declared.object.ManagedObject.{ManagedObject}
@@ -38,6 +38,7 @@ use Rattle.kmip_responses.specs.declared.response_payload.QueryResponse.{QueryRe
 use Rattle.kmip_responses.specs.declared.response_payload.CancelResponse.{CancelResponse}
 use Rattle.kmip_responses.specs.declared.response_payload.DiscoverVersionsResponse.{DiscoverVersionsResponse}
 use Rattle.kmip_responses.specs.declared.response_payload.CryptographicResponse.{CryptographicResponse}
+use Rattle.kmip_responses.specs.declared.response_payload.LoginResponse.{LoginResponse}
 use Rattle.kmip_ttlv_parts.specs.declared.kept.Kept.{Kept}
 
 -- which `object` of a `GetResponse` is there, if it is exactly one
@@ -51,6 +52,18 @@ IsGetResponseObject x (Some (managed_object.SplitKey inner)) = (x.certificate �
 IsGetResponseObject x (Some (managed_object.Template inner)) = (x.certificate ≡ None) × (x.symmetric_key ≡ None) × (x.public_key ≡ None) × (x.private_key ≡ None) × (x.split_key ≡ None) × (x.template ≡ Some inner.now) × (x.secret_data ≡ None) × (x.opaque_object ≡ None)
 IsGetResponseObject x (Some (managed_object.SecretData inner)) = (x.certificate ≡ None) × (x.symmetric_key ≡ None) × (x.public_key ≡ None) × (x.private_key ≡ None) × (x.split_key ≡ None) × (x.template ≡ None) × (IsSomeAnd x.secret_data (λ y. y.inner.value ≡ inner.now)) × (x.opaque_object ≡ None)
 IsGetResponseObject x (Some (managed_object.OpaqueObject inner)) = (x.certificate ≡ None) × (x.symmetric_key ≡ None) × (x.public_key ≡ None) × (x.private_key ≡ None) × (x.split_key ≡ None) × (x.template ≡ None) × (x.secret_data ≡ None) × (x.opaque_object ≡ Some inner.now)
+
+-- which `object` of a `ExportResponse` is there, if it is exactly one
+abbrev pub IsExportResponseObject : {A : Type 0} → ExportResponse A → Option (ManagedObject A) → Type 0
+IsExportResponseObject x None = (there x.certificate + (there x.symmetric_key + (there x.public_key + (there x.private_key + (there x.split_key + (there x.template + (there x.secret_data + there x.opaque_object)))))) ≡ 1) → ⊥
+IsExportResponseObject x (Some (managed_object.Certificate inner)) = (x.certificate ≡ Some inner.now) × (x.symmetric_key ≡ None) × (x.public_key ≡ None) × (x.private_key ≡ None) × (x.split_key ≡ None) × (x.template ≡ None) × (x.secret_data ≡ None) × (x.opaque_object ≡ None)
+IsExportResponseObject x (Some (managed_object.SymmetricKey inner)) = (x.certificate ≡ None) × (IsSomeAnd x.symmetric_key (λ y. y.inner.value ≡ inner.now)) × (x.public_key ≡ None) × (x.private_key ≡ None) × (x.split_key ≡ None) × (x.template ≡ None) × (x.secret_data ≡ None) × (x.opaque_object ≡ None)
+IsExportResponseObject x (Some (managed_object.PublicKey inner)) = (x.certificate ≡ None) × (x.symmetric_key ≡ None) × (IsSomeAnd x.public_key (λ y. y.inner.value ≡ inner.now)) × (x.private_key ≡ None) × (x.split_key ≡ None) × (x.template ≡ None) × (x.secret_data ≡ None) × (x.opaque_object ≡ None)
+IsExportResponseObject x (Some (managed_object.PrivateKey inner)) = (x.certificate ≡ None) × (x.symmetric_key ≡ None) × (x.public_key ≡ None) × (IsSomeAnd x.private_key (λ y. y.inner.value ≡ inner.now)) × (x.split_key ≡ None) × (x.template ≡ None) × (x.secret_data ≡ None) × (x.opaque_object ≡ None)
+IsExportResponseObject x (Some (managed_object.SplitKey inner)) = (x.certificate ≡ None) × (x.symmetric_key ≡ None) × (x.public_key ≡ None) × (x.private_key ≡ None) × (IsSomeAnd x.split_key (λ y. y.inner.value ≡ inner.now)) × (x.template ≡ None) × (x.secret_data ≡ None) × (x.opaque_object ≡ None)
+IsExportResponseObject x (Some (managed_object.Template inner)) = (x.certificate ≡ None) × (x.symmetric_key ≡ None) × (x.public_key ≡ None) × (x.private_key ≡ None) × (x.split_key ≡ None) × (x.template ≡ Some inner.now) × (x.secret_data ≡ None) × (x.opaque_object ≡ None)
+IsExportResponseObject x (Some (managed_object.SecretData inner)) = (x.certificate ≡ None) × (x.symmetric_key ≡ None) × (x.public_key ≡ None) × (x.private_key ≡ None) × (x.split_key ≡ None) × (x.template ≡ None) × (IsSomeAnd x.secret_data (λ y. y.inner.value ≡ inner.now)) × (x.opaque_object ≡ None)
+IsExportResponseObject x (Some (managed_object.OpaqueObject inner)) = (x.certificate ≡ None) × (x.symmetric_key ≡ None) × (x.public_key ≡ None) × (x.private_key ≡ None) × (x.split_key ≡ None) × (x.template ≡ None) × (x.secret_data ≡ None) × (x.opaque_object ≡ Some inner.now)
 
 -- the texts of 42005C that choose a variant of a `ResponsePayload` whatever the type of its item is
 abbrev pub response_payload_names : List (List ℕ)
@@ -86,6 +99,9 @@ response_payload_names =
     codes "0x00000023" ∷
     codes "0x00000024" ∷
     codes "0x00000027" ∷
+    codes "0x0000002A" ∷
+    codes "0x0000002B" ∷
+    codes "0x0000002D" ∷
     []
 
 -- what is said, if it is the text of 42005C, chooses what is in a `ResponsePayload`
@@ -121,6 +137,9 @@ ChoosesResponsePayload said (response_payload.SignatureVerify x) = (said ≡ cod
 ChoosesResponsePayload said (response_payload.Mac x) = (said ≡ codes "0x00000023")
 ChoosesResponsePayload said (response_payload.MacVerify x) = (said ≡ codes "0x00000024")
 ChoosesResponsePayload said (response_payload.Hash x) = (said ≡ codes "0x00000027")
+ChoosesResponsePayload said (response_payload.Import x) = (said ≡ codes "0x0000002A")
+ChoosesResponsePayload said (response_payload.Export x) = (said ≡ codes "0x0000002B")
+ChoosesResponsePayload said (response_payload.Login x) = (said ≡ codes "0x0000002D")
 ChoosesResponsePayload said (response_payload.Other x) = IsNoneOf said response_payload_names
 
 -- what each thing means that a `ResponsePayload` may hold
@@ -132,7 +151,7 @@ pub record ResponsePayloadCases (A : Type 0) : Type 1 where
   pub derive_key : RegisterResponse A → Meaning
   pub locate : LocateResponse A → Meaning
   pub check : CheckResponse A → Meaning
-  pub get : GetResponse A → Meaning
+  pub get : Boxed (GetResponse A) A → Meaning
   pub get_attributes : GetAttributesResponse A → Meaning
   pub get_attribute_list : GetAttributeListResponse A → Meaning
   pub add_attribute : Boxed (AttributeResponse A) A → Meaning
@@ -156,6 +175,9 @@ pub record ResponsePayloadCases (A : Type 0) : Type 1 where
   pub mac : Boxed (CryptographicResponse A) A → Meaning
   pub mac_verify : Boxed (CryptographicResponse A) A → Meaning
   pub hash : Boxed (CryptographicResponse A) A → Meaning
+  pub import : ObjectResponse A → Meaning
+  pub export : Boxed (ExportResponse A) A → Meaning
+  pub login : LoginResponse A → Meaning
   pub other : Kept A → Meaning
 
 -- what it means
@@ -191,6 +213,9 @@ response_payload_by f (response_payload.SignatureVerify x) = f.signature_verify 
 response_payload_by f (response_payload.Mac x) = f.mac x
 response_payload_by f (response_payload.MacVerify x) = f.mac_verify x
 response_payload_by f (response_payload.Hash x) = f.hash x
+response_payload_by f (response_payload.Import x) = f.import x
+response_payload_by f (response_payload.Export x) = f.export x
+response_payload_by f (response_payload.Login x) = f.login x
 response_payload_by f (response_payload.Other x) = f.other x
 
 -- what a `ResponsePayload` may hold
@@ -226,6 +251,9 @@ pub record ResponsePayloadItems (A : Type 0) (eq : ResponsePayload A → Respons
   pub mac : Held 0x42007C types.Structure response_payload.Mac eq
   pub mac_verify : Held 0x42007C types.Structure response_payload.MacVerify eq
   pub hash : Held 0x42007C types.Structure response_payload.Hash eq
+  pub import : Held 0x42007C types.Structure response_payload.Import eq
+  pub export : Held 0x42007C types.Structure response_payload.Export eq
+  pub login : Held 0x42007C types.Structure response_payload.Login eq
   pub other : Held 0x42007C types.Structure response_payload.Other eq
 
 -- its variants, by their rules
@@ -262,7 +290,10 @@ response_payload_variants i =
     variant (codes "if 0x42005C==0x00000023") (wrapped i.mac.form) (
     variant (codes "if 0x42005C==0x00000024") (wrapped i.mac_verify.form) (
     variant (codes "if 0x42005C==0x00000027") (wrapped i.hash.form) (
-    variant (codes "if type==Structure") (wrapped i.other.form) no_variants)))))))))))))))))))))))))))))))
+    variant (codes "if 0x42005C==0x0000002A") (wrapped i.import.form) (
+    variant (codes "if 0x42005C==0x0000002B") (wrapped i.export.form) (
+    variant (codes "if 0x42005C==0x0000002D") (wrapped i.login.form) (
+    variant (codes "if type==Structure") (wrapped i.other.form) no_variants))))))))))))))))))))))))))))))))))
 
 abbrev pub response_payload_cases : {A : Type 0} {eq : ResponsePayload A → ResponsePayload A → Boole} → ResponsePayloadItems A eq → ResponsePayloadCases A
 response_payload_cases i = record {
@@ -297,85 +328,93 @@ response_payload_cases i = record {
   mac = as_item (codes "payload") (codes "if 0x42005C==0x00000023") i.mac;
   mac_verify = as_item (codes "payload") (codes "if 0x42005C==0x00000024") i.mac_verify;
   hash = as_item (codes "payload") (codes "if 0x42005C==0x00000027") i.hash;
+  import = as_item (codes "payload") (codes "if 0x42005C==0x0000002A") i.import;
+  export = as_item (codes "payload") (codes "if 0x42005C==0x0000002B") i.export;
+  login = as_item (codes "payload") (codes "if 0x42005C==0x0000002D") i.login;
   other = as_item (codes "payload") (codes "if type==Structure") i.other;
 }
 
--- where what is said is none of the names, the type of the item chooses
-response_payload_unnamed : {A : Type 0} {eq : ResponsePayload A → ResponsePayload A → Boole} (i : ResponsePayloadItems A eq) (said : List ℕ) (k : List TagValue) (typ : TtlvType) (n : ℕ)
-    → IsNoneOf said response_payload_names → last k 0x42005C ≡ Some said
-    → choice (variant (codes "if type==Structure") (wrapped i.other.form) no_variants) k typ ≡ chosen n
-    → choice (response_payload_variants i) k typ ≡ past 1 (past 1 (past 1 (past 1 (past 1 (past 1 (past 1 (past 1 (past 1 (past 1 (past 1 (past 1 (past 1 (past 1 (past 1 (past 1 (past 1 (past 1 (past 1 (past 1 (past 1 (past 1 (past 1 (past 1 (past 1 (past 1 (past 1 (past 1 (past 1 (past 1 (past 1 (chosen n)))))))))))))))))))))))))))))))
-unfolding tag_of number rule sides equal at_least member in_brackets trim_end chars trim_start encode
-response_payload_unnamed i said k typ n none found e =
-    let n0 = not_first said (codes "0x00000001") (codes "0x00000002" ∷ codes "0x00000003" ∷ codes "0x00000004" ∷ codes "0x00000005" ∷ codes "0x00000008" ∷ codes "0x00000009" ∷ codes "0x0000000A" ∷ codes "0x0000000B" ∷ codes "0x0000000C" ∷ codes "0x0000000D" ∷ codes "0x0000000E" ∷ codes "0x0000000F" ∷ codes "0x00000010" ∷ codes "0x00000011" ∷ codes "0x00000012" ∷ codes "0x00000013" ∷ codes "0x00000014" ∷ codes "0x00000015" ∷ codes "0x00000016" ∷ codes "0x00000018" ∷ codes "0x00000019" ∷ codes "0x0000001D" ∷ codes "0x0000001E" ∷ codes "0x0000001F" ∷ codes "0x00000020" ∷ codes "0x00000021" ∷ codes "0x00000022" ∷ codes "0x00000023" ∷ codes "0x00000024" ∷ codes "0x00000027" ∷ []) none in
-    let n1 = not_first said (codes "0x00000002") (codes "0x00000003" ∷ codes "0x00000004" ∷ codes "0x00000005" ∷ codes "0x00000008" ∷ codes "0x00000009" ∷ codes "0x0000000A" ∷ codes "0x0000000B" ∷ codes "0x0000000C" ∷ codes "0x0000000D" ∷ codes "0x0000000E" ∷ codes "0x0000000F" ∷ codes "0x00000010" ∷ codes "0x00000011" ∷ codes "0x00000012" ∷ codes "0x00000013" ∷ codes "0x00000014" ∷ codes "0x00000015" ∷ codes "0x00000016" ∷ codes "0x00000018" ∷ codes "0x00000019" ∷ codes "0x0000001D" ∷ codes "0x0000001E" ∷ codes "0x0000001F" ∷ codes "0x00000020" ∷ codes "0x00000021" ∷ codes "0x00000022" ∷ codes "0x00000023" ∷ codes "0x00000024" ∷ codes "0x00000027" ∷ []) n0.1 in
-    let n2 = not_first said (codes "0x00000003") (codes "0x00000004" ∷ codes "0x00000005" ∷ codes "0x00000008" ∷ codes "0x00000009" ∷ codes "0x0000000A" ∷ codes "0x0000000B" ∷ codes "0x0000000C" ∷ codes "0x0000000D" ∷ codes "0x0000000E" ∷ codes "0x0000000F" ∷ codes "0x00000010" ∷ codes "0x00000011" ∷ codes "0x00000012" ∷ codes "0x00000013" ∷ codes "0x00000014" ∷ codes "0x00000015" ∷ codes "0x00000016" ∷ codes "0x00000018" ∷ codes "0x00000019" ∷ codes "0x0000001D" ∷ codes "0x0000001E" ∷ codes "0x0000001F" ∷ codes "0x00000020" ∷ codes "0x00000021" ∷ codes "0x00000022" ∷ codes "0x00000023" ∷ codes "0x00000024" ∷ codes "0x00000027" ∷ []) n1.1 in
-    let n3 = not_first said (codes "0x00000004") (codes "0x00000005" ∷ codes "0x00000008" ∷ codes "0x00000009" ∷ codes "0x0000000A" ∷ codes "0x0000000B" ∷ codes "0x0000000C" ∷ codes "0x0000000D" ∷ codes "0x0000000E" ∷ codes "0x0000000F" ∷ codes "0x00000010" ∷ codes "0x00000011" ∷ codes "0x00000012" ∷ codes "0x00000013" ∷ codes "0x00000014" ∷ codes "0x00000015" ∷ codes "0x00000016" ∷ codes "0x00000018" ∷ codes "0x00000019" ∷ codes "0x0000001D" ∷ codes "0x0000001E" ∷ codes "0x0000001F" ∷ codes "0x00000020" ∷ codes "0x00000021" ∷ codes "0x00000022" ∷ codes "0x00000023" ∷ codes "0x00000024" ∷ codes "0x00000027" ∷ []) n2.1 in
-    let n4 = not_first said (codes "0x00000005") (codes "0x00000008" ∷ codes "0x00000009" ∷ codes "0x0000000A" ∷ codes "0x0000000B" ∷ codes "0x0000000C" ∷ codes "0x0000000D" ∷ codes "0x0000000E" ∷ codes "0x0000000F" ∷ codes "0x00000010" ∷ codes "0x00000011" ∷ codes "0x00000012" ∷ codes "0x00000013" ∷ codes "0x00000014" ∷ codes "0x00000015" ∷ codes "0x00000016" ∷ codes "0x00000018" ∷ codes "0x00000019" ∷ codes "0x0000001D" ∷ codes "0x0000001E" ∷ codes "0x0000001F" ∷ codes "0x00000020" ∷ codes "0x00000021" ∷ codes "0x00000022" ∷ codes "0x00000023" ∷ codes "0x00000024" ∷ codes "0x00000027" ∷ []) n3.1 in
-    let n5 = not_first said (codes "0x00000008") (codes "0x00000009" ∷ codes "0x0000000A" ∷ codes "0x0000000B" ∷ codes "0x0000000C" ∷ codes "0x0000000D" ∷ codes "0x0000000E" ∷ codes "0x0000000F" ∷ codes "0x00000010" ∷ codes "0x00000011" ∷ codes "0x00000012" ∷ codes "0x00000013" ∷ codes "0x00000014" ∷ codes "0x00000015" ∷ codes "0x00000016" ∷ codes "0x00000018" ∷ codes "0x00000019" ∷ codes "0x0000001D" ∷ codes "0x0000001E" ∷ codes "0x0000001F" ∷ codes "0x00000020" ∷ codes "0x00000021" ∷ codes "0x00000022" ∷ codes "0x00000023" ∷ codes "0x00000024" ∷ codes "0x00000027" ∷ []) n4.1 in
-    let n6 = not_first said (codes "0x00000009") (codes "0x0000000A" ∷ codes "0x0000000B" ∷ codes "0x0000000C" ∷ codes "0x0000000D" ∷ codes "0x0000000E" ∷ codes "0x0000000F" ∷ codes "0x00000010" ∷ codes "0x00000011" ∷ codes "0x00000012" ∷ codes "0x00000013" ∷ codes "0x00000014" ∷ codes "0x00000015" ∷ codes "0x00000016" ∷ codes "0x00000018" ∷ codes "0x00000019" ∷ codes "0x0000001D" ∷ codes "0x0000001E" ∷ codes "0x0000001F" ∷ codes "0x00000020" ∷ codes "0x00000021" ∷ codes "0x00000022" ∷ codes "0x00000023" ∷ codes "0x00000024" ∷ codes "0x00000027" ∷ []) n5.1 in
-    let n7 = not_first said (codes "0x0000000A") (codes "0x0000000B" ∷ codes "0x0000000C" ∷ codes "0x0000000D" ∷ codes "0x0000000E" ∷ codes "0x0000000F" ∷ codes "0x00000010" ∷ codes "0x00000011" ∷ codes "0x00000012" ∷ codes "0x00000013" ∷ codes "0x00000014" ∷ codes "0x00000015" ∷ codes "0x00000016" ∷ codes "0x00000018" ∷ codes "0x00000019" ∷ codes "0x0000001D" ∷ codes "0x0000001E" ∷ codes "0x0000001F" ∷ codes "0x00000020" ∷ codes "0x00000021" ∷ codes "0x00000022" ∷ codes "0x00000023" ∷ codes "0x00000024" ∷ codes "0x00000027" ∷ []) n6.1 in
-    let n8 = not_first said (codes "0x0000000B") (codes "0x0000000C" ∷ codes "0x0000000D" ∷ codes "0x0000000E" ∷ codes "0x0000000F" ∷ codes "0x00000010" ∷ codes "0x00000011" ∷ codes "0x00000012" ∷ codes "0x00000013" ∷ codes "0x00000014" ∷ codes "0x00000015" ∷ codes "0x00000016" ∷ codes "0x00000018" ∷ codes "0x00000019" ∷ codes "0x0000001D" ∷ codes "0x0000001E" ∷ codes "0x0000001F" ∷ codes "0x00000020" ∷ codes "0x00000021" ∷ codes "0x00000022" ∷ codes "0x00000023" ∷ codes "0x00000024" ∷ codes "0x00000027" ∷ []) n7.1 in
-    let n9 = not_first said (codes "0x0000000C") (codes "0x0000000D" ∷ codes "0x0000000E" ∷ codes "0x0000000F" ∷ codes "0x00000010" ∷ codes "0x00000011" ∷ codes "0x00000012" ∷ codes "0x00000013" ∷ codes "0x00000014" ∷ codes "0x00000015" ∷ codes "0x00000016" ∷ codes "0x00000018" ∷ codes "0x00000019" ∷ codes "0x0000001D" ∷ codes "0x0000001E" ∷ codes "0x0000001F" ∷ codes "0x00000020" ∷ codes "0x00000021" ∷ codes "0x00000022" ∷ codes "0x00000023" ∷ codes "0x00000024" ∷ codes "0x00000027" ∷ []) n8.1 in
-    let n10 = not_first said (codes "0x0000000D") (codes "0x0000000E" ∷ codes "0x0000000F" ∷ codes "0x00000010" ∷ codes "0x00000011" ∷ codes "0x00000012" ∷ codes "0x00000013" ∷ codes "0x00000014" ∷ codes "0x00000015" ∷ codes "0x00000016" ∷ codes "0x00000018" ∷ codes "0x00000019" ∷ codes "0x0000001D" ∷ codes "0x0000001E" ∷ codes "0x0000001F" ∷ codes "0x00000020" ∷ codes "0x00000021" ∷ codes "0x00000022" ∷ codes "0x00000023" ∷ codes "0x00000024" ∷ codes "0x00000027" ∷ []) n9.1 in
-    let n11 = not_first said (codes "0x0000000E") (codes "0x0000000F" ∷ codes "0x00000010" ∷ codes "0x00000011" ∷ codes "0x00000012" ∷ codes "0x00000013" ∷ codes "0x00000014" ∷ codes "0x00000015" ∷ codes "0x00000016" ∷ codes "0x00000018" ∷ codes "0x00000019" ∷ codes "0x0000001D" ∷ codes "0x0000001E" ∷ codes "0x0000001F" ∷ codes "0x00000020" ∷ codes "0x00000021" ∷ codes "0x00000022" ∷ codes "0x00000023" ∷ codes "0x00000024" ∷ codes "0x00000027" ∷ []) n10.1 in
-    let n12 = not_first said (codes "0x0000000F") (codes "0x00000010" ∷ codes "0x00000011" ∷ codes "0x00000012" ∷ codes "0x00000013" ∷ codes "0x00000014" ∷ codes "0x00000015" ∷ codes "0x00000016" ∷ codes "0x00000018" ∷ codes "0x00000019" ∷ codes "0x0000001D" ∷ codes "0x0000001E" ∷ codes "0x0000001F" ∷ codes "0x00000020" ∷ codes "0x00000021" ∷ codes "0x00000022" ∷ codes "0x00000023" ∷ codes "0x00000024" ∷ codes "0x00000027" ∷ []) n11.1 in
-    let n13 = not_first said (codes "0x00000010") (codes "0x00000011" ∷ codes "0x00000012" ∷ codes "0x00000013" ∷ codes "0x00000014" ∷ codes "0x00000015" ∷ codes "0x00000016" ∷ codes "0x00000018" ∷ codes "0x00000019" ∷ codes "0x0000001D" ∷ codes "0x0000001E" ∷ codes "0x0000001F" ∷ codes "0x00000020" ∷ codes "0x00000021" ∷ codes "0x00000022" ∷ codes "0x00000023" ∷ codes "0x00000024" ∷ codes "0x00000027" ∷ []) n12.1 in
-    let n14 = not_first said (codes "0x00000011") (codes "0x00000012" ∷ codes "0x00000013" ∷ codes "0x00000014" ∷ codes "0x00000015" ∷ codes "0x00000016" ∷ codes "0x00000018" ∷ codes "0x00000019" ∷ codes "0x0000001D" ∷ codes "0x0000001E" ∷ codes "0x0000001F" ∷ codes "0x00000020" ∷ codes "0x00000021" ∷ codes "0x00000022" ∷ codes "0x00000023" ∷ codes "0x00000024" ∷ codes "0x00000027" ∷ []) n13.1 in
-    let n15 = not_first said (codes "0x00000012") (codes "0x00000013" ∷ codes "0x00000014" ∷ codes "0x00000015" ∷ codes "0x00000016" ∷ codes "0x00000018" ∷ codes "0x00000019" ∷ codes "0x0000001D" ∷ codes "0x0000001E" ∷ codes "0x0000001F" ∷ codes "0x00000020" ∷ codes "0x00000021" ∷ codes "0x00000022" ∷ codes "0x00000023" ∷ codes "0x00000024" ∷ codes "0x00000027" ∷ []) n14.1 in
-    let n16 = not_first said (codes "0x00000013") (codes "0x00000014" ∷ codes "0x00000015" ∷ codes "0x00000016" ∷ codes "0x00000018" ∷ codes "0x00000019" ∷ codes "0x0000001D" ∷ codes "0x0000001E" ∷ codes "0x0000001F" ∷ codes "0x00000020" ∷ codes "0x00000021" ∷ codes "0x00000022" ∷ codes "0x00000023" ∷ codes "0x00000024" ∷ codes "0x00000027" ∷ []) n15.1 in
-    let n17 = not_first said (codes "0x00000014") (codes "0x00000015" ∷ codes "0x00000016" ∷ codes "0x00000018" ∷ codes "0x00000019" ∷ codes "0x0000001D" ∷ codes "0x0000001E" ∷ codes "0x0000001F" ∷ codes "0x00000020" ∷ codes "0x00000021" ∷ codes "0x00000022" ∷ codes "0x00000023" ∷ codes "0x00000024" ∷ codes "0x00000027" ∷ []) n16.1 in
-    let n18 = not_first said (codes "0x00000015") (codes "0x00000016" ∷ codes "0x00000018" ∷ codes "0x00000019" ∷ codes "0x0000001D" ∷ codes "0x0000001E" ∷ codes "0x0000001F" ∷ codes "0x00000020" ∷ codes "0x00000021" ∷ codes "0x00000022" ∷ codes "0x00000023" ∷ codes "0x00000024" ∷ codes "0x00000027" ∷ []) n17.1 in
-    let n19 = not_first said (codes "0x00000016") (codes "0x00000018" ∷ codes "0x00000019" ∷ codes "0x0000001D" ∷ codes "0x0000001E" ∷ codes "0x0000001F" ∷ codes "0x00000020" ∷ codes "0x00000021" ∷ codes "0x00000022" ∷ codes "0x00000023" ∷ codes "0x00000024" ∷ codes "0x00000027" ∷ []) n18.1 in
-    let n20 = not_first said (codes "0x00000018") (codes "0x00000019" ∷ codes "0x0000001D" ∷ codes "0x0000001E" ∷ codes "0x0000001F" ∷ codes "0x00000020" ∷ codes "0x00000021" ∷ codes "0x00000022" ∷ codes "0x00000023" ∷ codes "0x00000024" ∷ codes "0x00000027" ∷ []) n19.1 in
-    let n21 = not_first said (codes "0x00000019") (codes "0x0000001D" ∷ codes "0x0000001E" ∷ codes "0x0000001F" ∷ codes "0x00000020" ∷ codes "0x00000021" ∷ codes "0x00000022" ∷ codes "0x00000023" ∷ codes "0x00000024" ∷ codes "0x00000027" ∷ []) n20.1 in
-    let n22 = not_first said (codes "0x0000001D") (codes "0x0000001E" ∷ codes "0x0000001F" ∷ codes "0x00000020" ∷ codes "0x00000021" ∷ codes "0x00000022" ∷ codes "0x00000023" ∷ codes "0x00000024" ∷ codes "0x00000027" ∷ []) n21.1 in
-    let n23 = not_first said (codes "0x0000001E") (codes "0x0000001F" ∷ codes "0x00000020" ∷ codes "0x00000021" ∷ codes "0x00000022" ∷ codes "0x00000023" ∷ codes "0x00000024" ∷ codes "0x00000027" ∷ []) n22.1 in
-    let n24 = not_first said (codes "0x0000001F") (codes "0x00000020" ∷ codes "0x00000021" ∷ codes "0x00000022" ∷ codes "0x00000023" ∷ codes "0x00000024" ∷ codes "0x00000027" ∷ []) n23.1 in
-    let n25 = not_first said (codes "0x00000020") (codes "0x00000021" ∷ codes "0x00000022" ∷ codes "0x00000023" ∷ codes "0x00000024" ∷ codes "0x00000027" ∷ []) n24.1 in
-    let n26 = not_first said (codes "0x00000021") (codes "0x00000022" ∷ codes "0x00000023" ∷ codes "0x00000024" ∷ codes "0x00000027" ∷ []) n25.1 in
-    let n27 = not_first said (codes "0x00000022") (codes "0x00000023" ∷ codes "0x00000024" ∷ codes "0x00000027" ∷ []) n26.1 in
-    let n28 = not_first said (codes "0x00000023") (codes "0x00000024" ∷ codes "0x00000027" ∷ []) n27.1 in
-    let n29 = not_first said (codes "0x00000024") (codes "0x00000027" ∷ []) n28.1 in
-    let n30 = not_first said (codes "0x00000027") ([]) n29.1 in
-    rw (found, n0.0, n1.0, n2.0, n3.0, n4.0, n5.0, n6.0, n7.0, n8.0, n9.0, n10.0, n11.0, n12.0, n13.0, n14.0, n15.0, n16.0, n17.0, n18.0, n19.0, n20.0, n21.0, n22.0, n23.0, n24.0, n25.0, n26.0, n27.0, n28.0, n29.0, n30.0)
-    (ap (λ c. past 1 (past 1 (past 1 (past 1 (past 1 (past 1 (past 1 (past 1 (past 1 (past 1 (past 1 (past 1 (past 1 (past 1 (past 1 (past 1 (past 1 (past 1 (past 1 (past 1 (past 1 (past 1 (past 1 (past 1 (past 1 (past 1 (past 1 (past 1 (past 1 (past 1 (past 1 (c)))))))))))))))))))))))))))))))) e)
+-- the texts of 42005C that its rules ask for
+abbrev pub response_payload_texts : List (List (List ℕ))
+response_payload_texts =
+    (codes "0x00000001" ∷ []) ∷
+    (codes "0x00000002" ∷ []) ∷
+    (codes "0x00000003" ∷ []) ∷
+    (codes "0x00000004" ∷ []) ∷
+    (codes "0x00000005" ∷ []) ∷
+    (codes "0x00000008" ∷ []) ∷
+    (codes "0x00000009" ∷ []) ∷
+    (codes "0x0000000A" ∷ []) ∷
+    (codes "0x0000000B" ∷ []) ∷
+    (codes "0x0000000C" ∷ []) ∷
+    (codes "0x0000000D" ∷ []) ∷
+    (codes "0x0000000E" ∷ []) ∷
+    (codes "0x0000000F" ∷ []) ∷
+    (codes "0x00000010" ∷ []) ∷
+    (codes "0x00000011" ∷ []) ∷
+    (codes "0x00000012" ∷ []) ∷
+    (codes "0x00000013" ∷ []) ∷
+    (codes "0x00000014" ∷ []) ∷
+    (codes "0x00000015" ∷ []) ∷
+    (codes "0x00000016" ∷ []) ∷
+    (codes "0x00000018" ∷ []) ∷
+    (codes "0x00000019" ∷ []) ∷
+    (codes "0x0000001D" ∷ []) ∷
+    (codes "0x0000001E" ∷ []) ∷
+    (codes "0x0000001F" ∷ []) ∷
+    (codes "0x00000020" ∷ []) ∷
+    (codes "0x00000021" ∷ []) ∷
+    (codes "0x00000022" ∷ []) ∷
+    (codes "0x00000023" ∷ []) ∷
+    (codes "0x00000024" ∷ []) ∷
+    (codes "0x00000027" ∷ []) ∷
+    (codes "0x0000002A" ∷ []) ∷
+    (codes "0x0000002B" ∷ []) ∷
+    (codes "0x0000002D" ∷ []) ∷
+    []
+
+response_payload_begins : {A : Type 0} {eq : ResponsePayload A → ResponsePayload A → Boole} (i : ResponsePayloadItems A eq) → BeginsBy 0x42005C response_payload_texts (response_payload_variants i) (variant (codes "if type==Structure") (wrapped i.other.form) no_variants)
+unfolding parts_of
+response_payload_begins i = record { all = (refl, (refl, (refl, (refl, (refl, (refl, (refl, (refl, (refl, (refl, (refl, (refl, (refl, (refl, (refl, (refl, (refl, (refl, (refl, (refl, (refl, (refl, (refl, (refl, (refl, (refl, (refl, (refl, (refl, (refl, (refl, (refl, (refl, (refl, refl)))))))))))))))))))))))))))))))))) }
 
 pub response_payload_case : {A : Type 0} {eq : ResponsePayload A → ResponsePayload A → Boole} (i : ResponsePayloadItems A eq) (x : ResponsePayload A)
     → Case 0x42007C 0x42005C types.Structure (enum (codes "payload") (response_payload_variants i)) (λ said. ChoosesResponsePayload said x) (response_payload_by (response_payload_cases i) x)
 unfolding tag_of number rule sides equal at_least member in_brackets trim_end chars trim_start encode response_payload_by
-response_payload_case i (response_payload.Create x) = case_of i.create x first_variant (λ said chooses k found. rw (found ∙ ap Some chooses) refl)
-response_payload_case i (response_payload.CreateKeyPair x) = case_of i.create_key_pair x (later_variant first_variant) (λ said chooses k found. rw (found ∙ ap Some chooses) refl)
-response_payload_case i (response_payload.Register x) = case_of i.register x (later_variant (later_variant first_variant)) (λ said chooses k found. rw (found ∙ ap Some chooses) refl)
-response_payload_case i (response_payload.ReKey x) = case_of i.re_key x (later_variant (later_variant (later_variant first_variant))) (λ said chooses k found. rw (found ∙ ap Some chooses) refl)
-response_payload_case i (response_payload.DeriveKey x) = case_of i.derive_key x (later_variant (later_variant (later_variant (later_variant first_variant)))) (λ said chooses k found. rw (found ∙ ap Some chooses) refl)
-response_payload_case i (response_payload.Locate x) = case_of i.locate x (later_variant (later_variant (later_variant (later_variant (later_variant first_variant))))) (λ said chooses k found. rw (found ∙ ap Some chooses) refl)
-response_payload_case i (response_payload.Check x) = case_of i.check x (later_variant (later_variant (later_variant (later_variant (later_variant (later_variant first_variant)))))) (λ said chooses k found. rw (found ∙ ap Some chooses) refl)
-response_payload_case i (response_payload.Get x) = case_of i.get x (later_variant (later_variant (later_variant (later_variant (later_variant (later_variant (later_variant first_variant))))))) (λ said chooses k found. rw (found ∙ ap Some chooses) refl)
-response_payload_case i (response_payload.GetAttributes x) = case_of i.get_attributes x (later_variant (later_variant (later_variant (later_variant (later_variant (later_variant (later_variant (later_variant first_variant)))))))) (λ said chooses k found. rw (found ∙ ap Some chooses) refl)
-response_payload_case i (response_payload.GetAttributeList x) = case_of i.get_attribute_list x (later_variant (later_variant (later_variant (later_variant (later_variant (later_variant (later_variant (later_variant (later_variant first_variant))))))))) (λ said chooses k found. rw (found ∙ ap Some chooses) refl)
-response_payload_case i (response_payload.AddAttribute x) = case_of i.add_attribute x (later_variant (later_variant (later_variant (later_variant (later_variant (later_variant (later_variant (later_variant (later_variant (later_variant first_variant)))))))))) (λ said chooses k found. rw (found ∙ ap Some chooses) refl)
-response_payload_case i (response_payload.ModifyAttribute x) = case_of i.modify_attribute x (later_variant (later_variant (later_variant (later_variant (later_variant (later_variant (later_variant (later_variant (later_variant (later_variant (later_variant first_variant))))))))))) (λ said chooses k found. rw (found ∙ ap Some chooses) refl)
-response_payload_case i (response_payload.DeleteAttribute x) = case_of i.delete_attribute x (later_variant (later_variant (later_variant (later_variant (later_variant (later_variant (later_variant (later_variant (later_variant (later_variant (later_variant (later_variant first_variant)))))))))))) (λ said chooses k found. rw (found ∙ ap Some chooses) refl)
-response_payload_case i (response_payload.ObtainLease x) = case_of i.obtain_lease x (later_variant (later_variant (later_variant (later_variant (later_variant (later_variant (later_variant (later_variant (later_variant (later_variant (later_variant (later_variant (later_variant first_variant))))))))))))) (λ said chooses k found. rw (found ∙ ap Some chooses) refl)
-response_payload_case i (response_payload.GetUsageAllocation x) = case_of i.get_usage_allocation x (later_variant (later_variant (later_variant (later_variant (later_variant (later_variant (later_variant (later_variant (later_variant (later_variant (later_variant (later_variant (later_variant (later_variant first_variant)))))))))))))) (λ said chooses k found. rw (found ∙ ap Some chooses) refl)
-response_payload_case i (response_payload.Activate x) = case_of i.activate x (later_variant (later_variant (later_variant (later_variant (later_variant (later_variant (later_variant (later_variant (later_variant (later_variant (later_variant (later_variant (later_variant (later_variant (later_variant first_variant))))))))))))))) (λ said chooses k found. rw (found ∙ ap Some chooses) refl)
-response_payload_case i (response_payload.Revoke x) = case_of i.revoke x (later_variant (later_variant (later_variant (later_variant (later_variant (later_variant (later_variant (later_variant (later_variant (later_variant (later_variant (later_variant (later_variant (later_variant (later_variant (later_variant first_variant)))))))))))))))) (λ said chooses k found. rw (found ∙ ap Some chooses) refl)
-response_payload_case i (response_payload.Destroy x) = case_of i.destroy x (later_variant (later_variant (later_variant (later_variant (later_variant (later_variant (later_variant (later_variant (later_variant (later_variant (later_variant (later_variant (later_variant (later_variant (later_variant (later_variant (later_variant first_variant))))))))))))))))) (λ said chooses k found. rw (found ∙ ap Some chooses) refl)
-response_payload_case i (response_payload.Archive x) = case_of i.archive x (later_variant (later_variant (later_variant (later_variant (later_variant (later_variant (later_variant (later_variant (later_variant (later_variant (later_variant (later_variant (later_variant (later_variant (later_variant (later_variant (later_variant (later_variant first_variant)))))))))))))))))) (λ said chooses k found. rw (found ∙ ap Some chooses) refl)
-response_payload_case i (response_payload.Recover x) = case_of i.recover x (later_variant (later_variant (later_variant (later_variant (later_variant (later_variant (later_variant (later_variant (later_variant (later_variant (later_variant (later_variant (later_variant (later_variant (later_variant (later_variant (later_variant (later_variant (later_variant first_variant))))))))))))))))))) (λ said chooses k found. rw (found ∙ ap Some chooses) refl)
-response_payload_case i (response_payload.Query x) = case_of i.query x (later_variant (later_variant (later_variant (later_variant (later_variant (later_variant (later_variant (later_variant (later_variant (later_variant (later_variant (later_variant (later_variant (later_variant (later_variant (later_variant (later_variant (later_variant (later_variant (later_variant first_variant)))))))))))))))))))) (λ said chooses k found. rw (found ∙ ap Some chooses) refl)
-response_payload_case i (response_payload.Cancel x) = case_of i.cancel x (later_variant (later_variant (later_variant (later_variant (later_variant (later_variant (later_variant (later_variant (later_variant (later_variant (later_variant (later_variant (later_variant (later_variant (later_variant (later_variant (later_variant (later_variant (later_variant (later_variant (later_variant first_variant))))))))))))))))))))) (λ said chooses k found. rw (found ∙ ap Some chooses) refl)
-response_payload_case i (response_payload.ReKeyKeyPair x) = case_of i.re_key_key_pair x (later_variant (later_variant (later_variant (later_variant (later_variant (later_variant (later_variant (later_variant (later_variant (later_variant (later_variant (later_variant (later_variant (later_variant (later_variant (later_variant (later_variant (later_variant (later_variant (later_variant (later_variant (later_variant first_variant)))))))))))))))))))))) (λ said chooses k found. rw (found ∙ ap Some chooses) refl)
-response_payload_case i (response_payload.DiscoverVersions x) = case_of i.discover_versions x (later_variant (later_variant (later_variant (later_variant (later_variant (later_variant (later_variant (later_variant (later_variant (later_variant (later_variant (later_variant (later_variant (later_variant (later_variant (later_variant (later_variant (later_variant (later_variant (later_variant (later_variant (later_variant (later_variant first_variant))))))))))))))))))))))) (λ said chooses k found. rw (found ∙ ap Some chooses) refl)
-response_payload_case i (response_payload.Encrypt x) = case_of i.encrypt x (later_variant (later_variant (later_variant (later_variant (later_variant (later_variant (later_variant (later_variant (later_variant (later_variant (later_variant (later_variant (later_variant (later_variant (later_variant (later_variant (later_variant (later_variant (later_variant (later_variant (later_variant (later_variant (later_variant (later_variant first_variant)))))))))))))))))))))))) (λ said chooses k found. rw (found ∙ ap Some chooses) refl)
-response_payload_case i (response_payload.Decrypt x) = case_of i.decrypt x (later_variant (later_variant (later_variant (later_variant (later_variant (later_variant (later_variant (later_variant (later_variant (later_variant (later_variant (later_variant (later_variant (later_variant (later_variant (later_variant (later_variant (later_variant (later_variant (later_variant (later_variant (later_variant (later_variant (later_variant (later_variant first_variant))))))))))))))))))))))))) (λ said chooses k found. rw (found ∙ ap Some chooses) refl)
-response_payload_case i (response_payload.Sign x) = case_of i.sign x (later_variant (later_variant (later_variant (later_variant (later_variant (later_variant (later_variant (later_variant (later_variant (later_variant (later_variant (later_variant (later_variant (later_variant (later_variant (later_variant (later_variant (later_variant (later_variant (later_variant (later_variant (later_variant (later_variant (later_variant (later_variant (later_variant first_variant)))))))))))))))))))))))))) (λ said chooses k found. rw (found ∙ ap Some chooses) refl)
-response_payload_case i (response_payload.SignatureVerify x) = case_of i.signature_verify x (later_variant (later_variant (later_variant (later_variant (later_variant (later_variant (later_variant (later_variant (later_variant (later_variant (later_variant (later_variant (later_variant (later_variant (later_variant (later_variant (later_variant (later_variant (later_variant (later_variant (later_variant (later_variant (later_variant (later_variant (later_variant (later_variant (later_variant first_variant))))))))))))))))))))))))))) (λ said chooses k found. rw (found ∙ ap Some chooses) refl)
-response_payload_case i (response_payload.Mac x) = case_of i.mac x (later_variant (later_variant (later_variant (later_variant (later_variant (later_variant (later_variant (later_variant (later_variant (later_variant (later_variant (later_variant (later_variant (later_variant (later_variant (later_variant (later_variant (later_variant (later_variant (later_variant (later_variant (later_variant (later_variant (later_variant (later_variant (later_variant (later_variant (later_variant first_variant)))))))))))))))))))))))))))) (λ said chooses k found. rw (found ∙ ap Some chooses) refl)
-response_payload_case i (response_payload.MacVerify x) = case_of i.mac_verify x (later_variant (later_variant (later_variant (later_variant (later_variant (later_variant (later_variant (later_variant (later_variant (later_variant (later_variant (later_variant (later_variant (later_variant (later_variant (later_variant (later_variant (later_variant (later_variant (later_variant (later_variant (later_variant (later_variant (later_variant (later_variant (later_variant (later_variant (later_variant (later_variant first_variant))))))))))))))))))))))))))))) (λ said chooses k found. rw (found ∙ ap Some chooses) refl)
-response_payload_case i (response_payload.Hash x) = case_of i.hash x (later_variant (later_variant (later_variant (later_variant (later_variant (later_variant (later_variant (later_variant (later_variant (later_variant (later_variant (later_variant (later_variant (later_variant (later_variant (later_variant (later_variant (later_variant (later_variant (later_variant (later_variant (later_variant (later_variant (later_variant (later_variant (later_variant (later_variant (later_variant (later_variant (later_variant first_variant)))))))))))))))))))))))))))))) (λ said chooses k found. rw (found ∙ ap Some chooses) refl)
-response_payload_case i (response_payload.Other x) = case_of i.other x (later_variant (later_variant (later_variant (later_variant (later_variant (later_variant (later_variant (later_variant (later_variant (later_variant (later_variant (later_variant (later_variant (later_variant (later_variant (later_variant (later_variant (later_variant (later_variant (later_variant (later_variant (later_variant (later_variant (later_variant (later_variant (later_variant (later_variant (later_variant (later_variant (later_variant (later_variant first_variant))))))))))))))))))))))))))))))) (λ said none k found. response_payload_unnamed i said k types.Structure 0 none found refl)
+response_payload_case i (response_payload.Create x) = case_of i.create x (is_there _ 0 refl) (λ said chooses. chosen_by_text types.Structure (response_payload_begins i) chooses refl)
+response_payload_case i (response_payload.CreateKeyPair x) = case_of i.create_key_pair x (is_there _ 1 refl) (λ said chooses. chosen_by_text types.Structure (response_payload_begins i) chooses refl)
+response_payload_case i (response_payload.Register x) = case_of i.register x (is_there _ 2 refl) (λ said chooses. chosen_by_text types.Structure (response_payload_begins i) chooses refl)
+response_payload_case i (response_payload.ReKey x) = case_of i.re_key x (is_there _ 3 refl) (λ said chooses. chosen_by_text types.Structure (response_payload_begins i) chooses refl)
+response_payload_case i (response_payload.DeriveKey x) = case_of i.derive_key x (is_there _ 4 refl) (λ said chooses. chosen_by_text types.Structure (response_payload_begins i) chooses refl)
+response_payload_case i (response_payload.Locate x) = case_of i.locate x (is_there _ 5 refl) (λ said chooses. chosen_by_text types.Structure (response_payload_begins i) chooses refl)
+response_payload_case i (response_payload.Check x) = case_of i.check x (is_there _ 6 refl) (λ said chooses. chosen_by_text types.Structure (response_payload_begins i) chooses refl)
+response_payload_case i (response_payload.Get x) = case_of i.get x (is_there _ 7 refl) (λ said chooses. chosen_by_text types.Structure (response_payload_begins i) chooses refl)
+response_payload_case i (response_payload.GetAttributes x) = case_of i.get_attributes x (is_there _ 8 refl) (λ said chooses. chosen_by_text types.Structure (response_payload_begins i) chooses refl)
+response_payload_case i (response_payload.GetAttributeList x) = case_of i.get_attribute_list x (is_there _ 9 refl) (λ said chooses. chosen_by_text types.Structure (response_payload_begins i) chooses refl)
+response_payload_case i (response_payload.AddAttribute x) = case_of i.add_attribute x (is_there _ 10 refl) (λ said chooses. chosen_by_text types.Structure (response_payload_begins i) chooses refl)
+response_payload_case i (response_payload.ModifyAttribute x) = case_of i.modify_attribute x (is_there _ 11 refl) (λ said chooses. chosen_by_text types.Structure (response_payload_begins i) chooses refl)
+response_payload_case i (response_payload.DeleteAttribute x) = case_of i.delete_attribute x (is_there _ 12 refl) (λ said chooses. chosen_by_text types.Structure (response_payload_begins i) chooses refl)
+response_payload_case i (response_payload.ObtainLease x) = case_of i.obtain_lease x (is_there _ 13 refl) (λ said chooses. chosen_by_text types.Structure (response_payload_begins i) chooses refl)
+response_payload_case i (response_payload.GetUsageAllocation x) = case_of i.get_usage_allocation x (is_there _ 14 refl) (λ said chooses. chosen_by_text types.Structure (response_payload_begins i) chooses refl)
+response_payload_case i (response_payload.Activate x) = case_of i.activate x (is_there _ 15 refl) (λ said chooses. chosen_by_text types.Structure (response_payload_begins i) chooses refl)
+response_payload_case i (response_payload.Revoke x) = case_of i.revoke x (is_there _ 16 refl) (λ said chooses. chosen_by_text types.Structure (response_payload_begins i) chooses refl)
+response_payload_case i (response_payload.Destroy x) = case_of i.destroy x (is_there _ 17 refl) (λ said chooses. chosen_by_text types.Structure (response_payload_begins i) chooses refl)
+response_payload_case i (response_payload.Archive x) = case_of i.archive x (is_there _ 18 refl) (λ said chooses. chosen_by_text types.Structure (response_payload_begins i) chooses refl)
+response_payload_case i (response_payload.Recover x) = case_of i.recover x (is_there _ 19 refl) (λ said chooses. chosen_by_text types.Structure (response_payload_begins i) chooses refl)
+response_payload_case i (response_payload.Query x) = case_of i.query x (is_there _ 20 refl) (λ said chooses. chosen_by_text types.Structure (response_payload_begins i) chooses refl)
+response_payload_case i (response_payload.Cancel x) = case_of i.cancel x (is_there _ 21 refl) (λ said chooses. chosen_by_text types.Structure (response_payload_begins i) chooses refl)
+response_payload_case i (response_payload.ReKeyKeyPair x) = case_of i.re_key_key_pair x (is_there _ 22 refl) (λ said chooses. chosen_by_text types.Structure (response_payload_begins i) chooses refl)
+response_payload_case i (response_payload.DiscoverVersions x) = case_of i.discover_versions x (is_there _ 23 refl) (λ said chooses. chosen_by_text types.Structure (response_payload_begins i) chooses refl)
+response_payload_case i (response_payload.Encrypt x) = case_of i.encrypt x (is_there _ 24 refl) (λ said chooses. chosen_by_text types.Structure (response_payload_begins i) chooses refl)
+response_payload_case i (response_payload.Decrypt x) = case_of i.decrypt x (is_there _ 25 refl) (λ said chooses. chosen_by_text types.Structure (response_payload_begins i) chooses refl)
+response_payload_case i (response_payload.Sign x) = case_of i.sign x (is_there _ 26 refl) (λ said chooses. chosen_by_text types.Structure (response_payload_begins i) chooses refl)
+response_payload_case i (response_payload.SignatureVerify x) = case_of i.signature_verify x (is_there _ 27 refl) (λ said chooses. chosen_by_text types.Structure (response_payload_begins i) chooses refl)
+response_payload_case i (response_payload.Mac x) = case_of i.mac x (is_there _ 28 refl) (λ said chooses. chosen_by_text types.Structure (response_payload_begins i) chooses refl)
+response_payload_case i (response_payload.MacVerify x) = case_of i.mac_verify x (is_there _ 29 refl) (λ said chooses. chosen_by_text types.Structure (response_payload_begins i) chooses refl)
+response_payload_case i (response_payload.Hash x) = case_of i.hash x (is_there _ 30 refl) (λ said chooses. chosen_by_text types.Structure (response_payload_begins i) chooses refl)
+response_payload_case i (response_payload.Import x) = case_of i.import x (is_there _ 31 refl) (λ said chooses. chosen_by_text types.Structure (response_payload_begins i) chooses refl)
+response_payload_case i (response_payload.Export x) = case_of i.export x (is_there _ 32 refl) (λ said chooses. chosen_by_text types.Structure (response_payload_begins i) chooses refl)
+response_payload_case i (response_payload.Login x) = case_of i.login x (is_there _ 33 refl) (λ said chooses. chosen_by_text types.Structure (response_payload_begins i) chooses refl)
+response_payload_case i (response_payload.Other x) = case_of i.other x (is_there _ 34 refl) (λ said none. chosen_by_others types.Structure (response_payload_begins i) none)
 
 pub response_payload_same : {A : Type 0} {eq : ResponsePayload A → ResponsePayload A → Boole} (i : ResponsePayloadItems A eq) (x y : ResponsePayload A)
     → (response_payload_by (response_payload_cases i) x).value ≡ (response_payload_by (response_payload_cases i) y).value
@@ -412,6 +451,9 @@ response_payload_same i (response_payload.SignatureVerify x) (response_payload.S
 response_payload_same i (response_payload.Mac x) (response_payload.Mac y) e = i.mac.same x y (i.mac.rules.same x y (in_variant e))
 response_payload_same i (response_payload.MacVerify x) (response_payload.MacVerify y) e = i.mac_verify.same x y (i.mac_verify.rules.same x y (in_variant e))
 response_payload_same i (response_payload.Hash x) (response_payload.Hash y) e = i.hash.same x y (i.hash.rules.same x y (in_variant e))
+response_payload_same i (response_payload.Import x) (response_payload.Import y) e = i.import.same x y (i.import.rules.same x y (in_variant e))
+response_payload_same i (response_payload.Export x) (response_payload.Export y) e = i.export.same x y (i.export.rules.same x y (in_variant e))
+response_payload_same i (response_payload.Login x) (response_payload.Login y) e = i.login.same x y (i.login.rules.same x y (in_variant e))
 response_payload_same i (response_payload.Other x) (response_payload.Other y) e = i.other.same x y (i.other.rules.same x y (in_variant e))
 response_payload_same i x y e = absurd (apart e refl)
 

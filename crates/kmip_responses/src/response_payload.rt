@@ -6,11 +6,11 @@ ghost use Rattle.kmip_ttlv_parts.specs.Returns.{IsNoneOf};
 ghost use Rattle.kmip_ttlv_kinds.specs.Parts.{IsApart, keeping_structure, structure, structure_where};
 ghost use Rattle.kmip_ttlv_kinds.specs.Choices.{held};
 ghost use Rattle.kmip_ttlv_parts.specs.MessageParts.{there};
-ghost use Rattle.kmip_responses.specs.Choices.{IsGetResponseObject, response_payload_choice, ChoosesResponsePayload, response_payload_names};
+ghost use Rattle.kmip_responses.specs.Choices.{IsGetResponseObject, IsExportResponseObject, response_payload_choice, ChoosesResponsePayload, response_payload_names};
 
 use kmip_attributes::attribute::Attribute;
 use kmip_attributes::values::{ObjectType, State};
-use kmip_headers::header::{Operation, ProtocolVersion};
+use kmip_headers::header::{Operation, ProtocolVersion, Ticket};
 use kmip_objects::object::{
     Certificate, ManagedObject, OpaqueObject, PrivateKey, PublicKey, SecretData, SplitKey,
     SymmetricKey, Template,
@@ -421,24 +421,28 @@ impl<A: Allocator + Copy> Structure<A> for GetResponse<A> {
 pub struct GetAttributesResponse<A: Allocator = Global> {
     /// Its identifier.
     pub unique_identifier: String<A>,
-    /// What is known.
+    /// What is known, up to KMIP 1.4.
     pub attributes: Vec<Attribute<A>, A>,
+    /// What is known, by tags (KMIP 2.0).
+    pub attributes_by_tag: Option<Kept<A>>,
 }
 
 type GetAttributesResponseParts<A> = (
     Leaf<String<A>, 0x420094>,
     Any<Of<Attribute<A>, 0x420008>, 0x420008>,
+    Maybe<Of<Kept<A>, 0x420125>, 0x420125>,
 );
 
 impl<A: Allocator + Copy> FromParts<A, GetAttributesResponseParts<A>> for GetAttributesResponse<A> {
-    ghost parts = { λ x. (x.unique_identifier, x.attributes) };
+    ghost parts = { λ x. (x.unique_identifier, x.attributes, x.attributes_by_tag) };
 
     fn from_parts(
-        (unique_identifier, attributes): Holds<GetAttributesResponseParts<A>, A>,
+        (unique_identifier, attributes, attributes_by_tag): Holds<GetAttributesResponseParts<A>, A>,
     ) -> Self {
         GetAttributesResponse {
             unique_identifier,
             attributes,
+            attributes_by_tag,
         }
     }
 }
@@ -451,56 +455,75 @@ impl<A: Allocator + Copy> Structure<A> for GetAttributesResponse<A> {
     }
 
     fn tell_parts<W: Walk<A>>(&self, state: &mut W::State) -> Result<(), AllocError> {
-        W::two::<Leaf<String<A>, 0x420094>, Any<Of<Attribute<A>, 0x420008>, 0x420008>>(
+        W::three::<
+            Leaf<String<A>, 0x420094>,
+            Any<Of<Attribute<A>, 0x420008>, 0x420008>,
+            Maybe<Of<Kept<A>, 0x420125>, 0x420125>,
+        >(
             state,
             &self.unique_identifier,
             &self.attributes,
+            &self.attributes_by_tag,
         )
     }
 }
 
-/// The names of what is known of an object (section 4.12).
+/// The names of what is known of an object (section 4.12). Of KMIP 2.0 the Attribute References are among the other items.
 #[derive(Drop)]
 #[derive_where(PartialEq)]
 pub struct GetAttributeListResponse<A: Allocator = Global> {
     /// Its identifier.
     pub unique_identifier: String<A>,
-    /// The names.
+    /// The names, up to KMIP 1.4.
     pub attribute_names: Vec<String<A>, A>,
+    /// What stands behind these, whatever it is.
+    pub other_items: Kept<A>,
 }
 
-type GetAttributeListResponseParts<A> = (
+impl<A: Allocator + Copy> Decided for GetAttributeListResponse<A> {
+    ghost IsDecided = { λ x. IsApart ⟦<GetAttributeListResponseParts<A> as PartList<A>>⟧.rules ⟦<GetAttributeListResponse<A> as FromParts<A, GetAttributeListResponseParts<A>>>⟧.parts x };
+
+    fn is_decided(&self) -> bool {
+        is_apart::<GetAttributeListResponseParts<A>, A>(&self.other_items)
+    }
+}
+
+type GetAttributeListResponseParts<A> = Before<
     Leaf<String<A>, 0x420094>,
-    Any<LeafItem<String<A>, 0x42000A>, 0x42000A>,
-);
+    Before<Any<LeafItem<String<A>, 0x42000A>, 0x42000A>, Rest>,
+>;
 
 impl<A: Allocator + Copy> FromParts<A, GetAttributeListResponseParts<A>>
     for GetAttributeListResponse<A> {
-    ghost parts = { λ x. (x.unique_identifier, x.attribute_names) };
+    ghost parts = { λ x. (x.unique_identifier, (x.attribute_names, x.other_items)) };
 
     fn from_parts(
-        (unique_identifier, attribute_names): Holds<GetAttributeListResponseParts<A>, A>,
+        (unique_identifier, (attribute_names, other_items)): Holds<
+            GetAttributeListResponseParts<A>,
+            A,
+        >,
     ) -> Self {
         GetAttributeListResponse {
             unique_identifier,
             attribute_names,
+            other_items,
         }
     }
 }
 
 impl<A: Allocator + Copy> Structure<A> for GetAttributeListResponse<A> {
-    ghost rules = { structure true ⟦<GetAttributeListResponseParts<A> as PartList<A>>⟧.rules ⟦<GetAttributeListResponse<A> as FromParts<A, GetAttributeListResponseParts<A>>>⟧.parts refl ⟦<GetAttributeListResponse<A> as PartialEq>⟧.eq (λ x y e. e) };
+    ghost rules = { keeping_structure ⟦<GetAttributeListResponseParts<A> as PartList<A>>⟧.rules ⟦<GetAttributeListResponse<A> as FromParts<A, GetAttributeListResponseParts<A>>>⟧.parts refl ⟦<GetAttributeListResponse<A> as PartialEq>⟧.eq (λ x y e. e) };
 
     fn read<'b>(scope: &Scope<'b, A>, tag: u32, cursor: &mut Cursor<'b, A>) -> Step<Self, A> {
         read_structure::<GetAttributeListResponseParts<A>, Self, A>(scope, tag, true, cursor)
     }
 
     fn tell_parts<W: Walk<A>>(&self, state: &mut W::State) -> Result<(), AllocError> {
-        W::two::<Leaf<String<A>, 0x420094>, Any<LeafItem<String<A>, 0x42000A>, 0x42000A>>(
-            state,
-            &self.unique_identifier,
-            &self.attribute_names,
-        )
+        W::one::<Leaf<String<A>, 0x420094>>(state, &self.unique_identifier)?;
+        W::one::<Any<LeafItem<String<A>, 0x42000A>, 0x42000A>>(state, &self.attribute_names)?;
+        W::kept(state, &self.other_items)?;
+        W::check(state, self);
+        Ok(())
     }
 }
 
@@ -510,11 +533,14 @@ impl<A: Allocator + Copy> Structure<A> for GetAttributeListResponse<A> {
 pub struct AttributeResponse<A: Allocator = Global> {
     /// The identifier of its object.
     pub unique_identifier: String<A>,
-    /// The attribute.
-    pub attribute: Attribute<A>,
+    /// The attribute, up to KMIP 1.4.
+    pub attribute: Option<Attribute<A>>,
 }
 
-type AttributeResponseParts<A> = (Leaf<String<A>, 0x420094>, One<Of<Attribute<A>, 0x420008>>);
+type AttributeResponseParts<A> = (
+    Leaf<String<A>, 0x420094>,
+    Maybe<Of<Attribute<A>, 0x420008>, 0x420008>,
+);
 
 impl<A: Allocator + Copy> FromParts<A, AttributeResponseParts<A>> for AttributeResponse<A> {
     ghost parts = { λ x. (x.unique_identifier, x.attribute) };
@@ -535,7 +561,7 @@ impl<A: Allocator + Copy> Structure<A> for AttributeResponse<A> {
     }
 
     fn tell_parts<W: Walk<A>>(&self, state: &mut W::State) -> Result<(), AllocError> {
-        W::two::<Leaf<String<A>, 0x420094>, One<Of<Attribute<A>, 0x420008>>>(
+        W::two::<Leaf<String<A>, 0x420094>, Maybe<Of<Attribute<A>, 0x420008>, 0x420008>>(
             state,
             &self.unique_identifier,
             &self.attribute,
@@ -1112,6 +1138,245 @@ impl<A: Allocator + Copy> Structure<A> for CryptographicResponse<A> {
     }
 }
 
+/// An object, as another server is to have it (KMIP 1.4).
+#[derive(Drop)]
+#[derive_where(PartialEq)]
+pub struct ExportResponse<A: Allocator = Global> {
+    /// What it is.
+    pub object_type: ObjectType,
+    /// Its identifier.
+    pub unique_identifier: String<A>,
+    /// What is known of it, in KMIP 1.4.
+    pub attributes: Vec<Attribute<A>, A>,
+    /// What is known of it, by tags (KMIP 2.0).
+    pub attributes_by_tag: Option<Kept<A>>,
+    /// A certificate.
+    pub certificate: Option<Certificate<A>>,
+    /// A symmetric key.
+    pub symmetric_key: Option<Boxed<SymmetricKey<A>, A>>,
+    /// A public key.
+    pub public_key: Option<Boxed<PublicKey<A>, A>>,
+    /// A private key.
+    pub private_key: Option<Boxed<PrivateKey<A>, A>>,
+    /// One of the parts that a key was split into.
+    pub split_key: Option<Boxed<SplitKey<A>, A>>,
+    /// Attributes that other objects are made with.
+    pub template: Option<Template<A>>,
+    /// A secret that is no key.
+    pub secret_data: Option<Boxed<SecretData<A>, A>>,
+    /// Bytes that the server doesn't interpret.
+    pub opaque_object: Option<OpaqueObject<A>>,
+}
+
+impl<A: Allocator> ExportResponse<A> {
+    /// The object. None if none is there, or more than one.
+    pub fn object(&self) -> Option<ManagedObject<'_, A>>
+        ensures { IsExportResponseObject self.now result }
+    {
+        match (
+            &self.certificate,
+            &self.symmetric_key,
+            &self.public_key,
+            &self.private_key,
+            &self.split_key,
+            &self.template,
+            &self.secret_data,
+            &self.opaque_object,
+        ) {
+            (Some(inner), None, None, None, None, None, None, None) => Some(
+                ManagedObject::Certificate(inner),
+            ),
+            (None, Some(inner), None, None, None, None, None, None) => Some(
+                ManagedObject::SymmetricKey(inner.inner.as_ref()),
+            ),
+            (None, None, Some(inner), None, None, None, None, None) => Some(
+                ManagedObject::PublicKey(inner.inner.as_ref()),
+            ),
+            (None, None, None, Some(inner), None, None, None, None) => Some(
+                ManagedObject::PrivateKey(inner.inner.as_ref()),
+            ),
+            (None, None, None, None, Some(inner), None, None, None) => Some(ManagedObject::SplitKey(
+                inner.inner.as_ref(),
+            )),
+            (None, None, None, None, None, Some(inner), None, None) => Some(ManagedObject::Template(
+                inner,
+            )),
+            (None, None, None, None, None, None, Some(inner), None) => Some(
+                ManagedObject::SecretData(inner.inner.as_ref()),
+            ),
+            (None, None, None, None, None, None, None, Some(inner)) => Some(
+                ManagedObject::OpaqueObject(inner),
+            ),
+            _ => None,
+        }
+    }
+}
+
+impl<A: Allocator> Decided for ExportResponse<A> {
+    ghost IsDecided = { λ x. (there x.certificate + (there x.symmetric_key + (there x.public_key + (there x.private_key + (there x.split_key + (there x.template + (there x.secret_data + there x.opaque_object)))))) ≡ 1) };
+
+    fn is_decided(&self) -> bool {
+        self.object().is_some()
+    }
+}
+
+type ExportResponseFirst<A> = (
+    One<ObjectType>,
+    Leaf<String<A>, 0x420094>,
+    Any<Of<Attribute<A>, 0x420008>, 0x420008>,
+    Maybe<Of<Kept<A>, 0x420125>, 0x420125>,
+);
+
+type ExportResponseSecond<A> = (
+    Maybe<Of<Certificate<A>, 0x420013>, 0x420013>,
+    Maybe<InBox<Of<SymmetricKey<A>, 0x42008F>>, 0x42008F>,
+    Maybe<InBox<Of<PublicKey<A>, 0x42006D>>, 0x42006D>,
+    Maybe<InBox<Of<PrivateKey<A>, 0x420064>>, 0x420064>,
+);
+
+type ExportResponseThird<A> = (
+    Maybe<InBox<Of<SplitKey<A>, 0x420089>>, 0x420089>,
+    Maybe<Of<Template<A>, 0x420090>, 0x420090>,
+    Maybe<InBox<Of<SecretData<A>, 0x420085>>, 0x420085>,
+    Maybe<Of<OpaqueObject<A>, 0x42005B>, 0x42005B>,
+);
+
+type ExportResponseParts<A> = Four<
+    ExportResponseFirst<A>,
+    Four<ExportResponseSecond<A>, ExportResponseThird<A>>,
+>;
+
+impl<A: Allocator + Copy> FromParts<A, ExportResponseParts<A>> for ExportResponse<A> {
+    ghost parts = { λ x. (x.object_type, x.unique_identifier, x.attributes, x.attributes_by_tag, (x.certificate, x.symmetric_key, x.public_key, x.private_key, (x.split_key, x.template, x.secret_data, x.opaque_object))) };
+
+    fn from_parts(
+        (
+            object_type,
+            unique_identifier,
+            attributes,
+            attributes_by_tag,
+            (
+                certificate,
+                symmetric_key,
+                public_key,
+                private_key,
+                (split_key, template, secret_data, opaque_object),
+            ),
+        ): Holds<ExportResponseParts<A>, A>,
+    ) -> Self {
+        ExportResponse {
+            object_type,
+            unique_identifier,
+            attributes,
+            attributes_by_tag,
+            certificate,
+            symmetric_key,
+            public_key,
+            private_key,
+            split_key,
+            template,
+            secret_data,
+            opaque_object,
+        }
+    }
+}
+
+impl<A: Allocator + Copy> Structure<A> for ExportResponse<A> {
+    ghost rules = { structure_where true ⟦<ExportResponseParts<A> as PartList<A>>⟧.rules ⟦<ExportResponse<A> as FromParts<A, ExportResponseParts<A>>>⟧.parts refl
+        (λ x. (there x.certificate + (there x.symmetric_key + (there x.public_key + (there x.private_key + (there x.split_key + (there x.template + (there x.secret_data + there x.opaque_object)))))) ≡ 1)) (λ x d. (tt, (tt, (tt, (tt, (tt, (tt, (tt, (tt, (tt, (tt, (tt, (tt))))))))))))) ⟦<ExportResponse<A> as PartialEq>⟧.eq (λ x y e. e) };
+
+    fn read<'b>(scope: &Scope<'b, A>, tag: u32, cursor: &mut Cursor<'b, A>) -> Step<Self, A> {
+        read_structure::<ExportResponseParts<A>, Self, A>(scope, tag, true, cursor)
+    }
+
+    fn tell_parts<W: Walk<A>>(&self, state: &mut W::State) -> Result<(), AllocError> {
+        W::four::<
+            One<ObjectType>,
+            Leaf<String<A>, 0x420094>,
+            Any<Of<Attribute<A>, 0x420008>, 0x420008>,
+            Maybe<Of<Kept<A>, 0x420125>, 0x420125>,
+        >(
+            state,
+            &self.object_type,
+            &self.unique_identifier,
+            &self.attributes,
+            &self.attributes_by_tag,
+        )?;
+        W::four::<
+            Maybe<Of<Certificate<A>, 0x420013>, 0x420013>,
+            Maybe<InBox<Of<SymmetricKey<A>, 0x42008F>>, 0x42008F>,
+            Maybe<InBox<Of<PublicKey<A>, 0x42006D>>, 0x42006D>,
+            Maybe<InBox<Of<PrivateKey<A>, 0x420064>>, 0x420064>,
+        >(
+            state,
+            &self.certificate,
+            &self.symmetric_key,
+            &self.public_key,
+            &self.private_key,
+        )?;
+        W::four::<
+            Maybe<InBox<Of<SplitKey<A>, 0x420089>>, 0x420089>,
+            Maybe<Of<Template<A>, 0x420090>, 0x420090>,
+            Maybe<InBox<Of<SecretData<A>, 0x420085>>, 0x420085>,
+            Maybe<Of<OpaqueObject<A>, 0x42005B>, 0x42005B>,
+        >(
+            state,
+            &self.split_key,
+            &self.template,
+            &self.secret_data,
+            &self.opaque_object,
+        )?;
+        W::check(state, self);
+        Ok(())
+    }
+}
+
+/// A ticket, by which a client's later requests go (KMIP 2.0).
+#[derive(Drop)]
+#[derive_where(PartialEq)]
+pub struct LoginResponse<A: Allocator = Global> {
+    /// The ticket.
+    pub ticket: Ticket<A>,
+    /// What stands behind these, whatever it is.
+    pub other_items: Kept<A>,
+}
+
+impl<A: Allocator + Copy> Decided for LoginResponse<A> {
+    ghost IsDecided = { λ x. IsApart ⟦<LoginResponseParts<A> as PartList<A>>⟧.rules ⟦<LoginResponse<A> as FromParts<A, LoginResponseParts<A>>>⟧.parts x };
+
+    fn is_decided(&self) -> bool {
+        is_apart::<LoginResponseParts<A>, A>(&self.other_items)
+    }
+}
+
+type LoginResponseParts<A> = Before<One<Of<Ticket<A>, 0x420149>>, Rest>;
+
+impl<A: Allocator + Copy> FromParts<A, LoginResponseParts<A>> for LoginResponse<A> {
+    ghost parts = { λ x. (x.ticket, x.other_items) };
+
+    fn from_parts((ticket, other_items): Holds<LoginResponseParts<A>, A>) -> Self {
+        LoginResponse {
+            ticket,
+            other_items,
+        }
+    }
+}
+
+impl<A: Allocator + Copy> Structure<A> for LoginResponse<A> {
+    ghost rules = { keeping_structure ⟦<LoginResponseParts<A> as PartList<A>>⟧.rules ⟦<LoginResponse<A> as FromParts<A, LoginResponseParts<A>>>⟧.parts refl ⟦<LoginResponse<A> as PartialEq>⟧.eq (λ x y e. e) };
+
+    fn read<'b>(scope: &Scope<'b, A>, tag: u32, cursor: &mut Cursor<'b, A>) -> Step<Self, A> {
+        read_structure::<LoginResponseParts<A>, Self, A>(scope, tag, true, cursor)
+    }
+
+    fn tell_parts<W: Walk<A>>(&self, state: &mut W::State) -> Result<(), AllocError> {
+        W::one::<One<Of<Ticket<A>, 0x420149>>>(state, &self.ticket)?;
+        W::kept(state, &self.other_items)?;
+        W::check(state, self);
+        Ok(())
+    }
+}
+
 /// What was done.
 #[derive(Drop)]
 #[derive_where(PartialEq)]
@@ -1131,7 +1396,7 @@ pub enum ResponsePayload<A: Allocator = Global> {
     /// How an object may not be used.
     Check(CheckResponse<A>),
     /// An object.
-    Get(GetResponse<A>),
+    Get(Boxed<GetResponse<A>, A>),
     /// What is known of an object.
     GetAttributes(GetAttributesResponse<A>),
     /// The names of what is known.
@@ -1178,12 +1443,18 @@ pub enum ResponsePayload<A: Allocator = Global> {
     MacVerify(Boxed<CryptographicResponse<A>, A>),
     /// A hash was made of data.
     Hash(Boxed<CryptographicResponse<A>, A>),
+    /// An object is kept as another server had it.
+    Import(ObjectResponse<A>),
+    /// An object, as another server is to have it.
+    Export(Boxed<ExportResponse<A>, A>),
+    /// A ticket.
+    Login(LoginResponse<A>),
     /// What any other operation did.
     Other(Kept<A>),
 }
 
 // The texts that choose a variant, whatever the type of its item is.
-const RESPONSE_PAYLOAD_NAMES: [&str; 31] = [
+const RESPONSE_PAYLOAD_NAMES: [&str; 34] = [
     "0x00000001",
     "0x00000002",
     "0x00000003",
@@ -1215,6 +1486,9 @@ const RESPONSE_PAYLOAD_NAMES: [&str; 31] = [
     "0x00000023",
     "0x00000024",
     "0x00000027",
+    "0x0000002A",
+    "0x0000002B",
+    "0x0000002D",
 ];
 
 // Whether a text is none of these.
@@ -1261,13 +1535,16 @@ impl<A: Allocator> ResponsePayload<A> {
             ResponsePayload::Mac(_) => text == "0x00000023",
             ResponsePayload::MacVerify(_) => text == "0x00000024",
             ResponsePayload::Hash(_) => text == "0x00000027",
+            ResponsePayload::Import(_) => text == "0x0000002A",
+            ResponsePayload::Export(_) => text == "0x0000002B",
+            ResponsePayload::Login(_) => text == "0x0000002D",
             ResponsePayload::Other(_) => is_no_response_payload(text),
         }
     }
 }
 
 // The rules of the variants, in their order.
-const RESPONSE_PAYLOAD_RULES: [RuleParts; 32] = [
+const RESPONSE_PAYLOAD_RULES: [RuleParts; 35] = [
     RuleParts::Texts {
         tag: 0x42005C,
         texts: &["0x00000001"],
@@ -1392,6 +1669,18 @@ const RESPONSE_PAYLOAD_RULES: [RuleParts; 32] = [
         tag: 0x42005C,
         texts: &["0x00000027"],
     },
+    RuleParts::Texts {
+        tag: 0x42005C,
+        texts: &["0x0000002A"],
+    },
+    RuleParts::Texts {
+        tag: 0x42005C,
+        texts: &["0x0000002B"],
+    },
+    RuleParts::Texts {
+        tag: 0x42005C,
+        texts: &["0x0000002D"],
+    },
     RuleParts::Type(TtlvType::Structure),
 ];
 
@@ -1404,7 +1693,7 @@ impl<A: Allocator + Copy> Choice<A> for ResponsePayload<A> {
       derive_key = held ⟦<Of<RegisterResponse<A>, 0x42007C> as Element<A>>⟧.rules refl refl (λ x y e. e);
       locate = held ⟦<Of<LocateResponse<A>, 0x42007C> as Element<A>>⟧.rules refl refl (λ x y e. e);
       check = held ⟦<Of<CheckResponse<A>, 0x42007C> as Element<A>>⟧.rules refl refl (λ x y e. e);
-      get = held ⟦<Of<GetResponse<A>, 0x42007C> as Element<A>>⟧.rules refl refl (λ x y e. e);
+      get = held ⟦<InBox<Of<GetResponse<A>, 0x42007C>> as Element<A>>⟧.rules refl refl (λ x y e. e);
       get_attributes = held ⟦<Of<GetAttributesResponse<A>, 0x42007C> as Element<A>>⟧.rules refl refl (λ x y e. e);
       get_attribute_list = held ⟦<Of<GetAttributeListResponse<A>, 0x42007C> as Element<A>>⟧.rules refl refl (λ x y e. e);
       add_attribute = held ⟦<InBox<Of<AttributeResponse<A>, 0x42007C>> as Element<A>>⟧.rules refl refl (λ x y e. e);
@@ -1428,6 +1717,9 @@ impl<A: Allocator + Copy> Choice<A> for ResponsePayload<A> {
       mac = held ⟦<InBox<Of<CryptographicResponse<A>, 0x42007C>> as Element<A>>⟧.rules refl refl (λ x y e. e);
       mac_verify = held ⟦<InBox<Of<CryptographicResponse<A>, 0x42007C>> as Element<A>>⟧.rules refl refl (λ x y e. e);
       hash = held ⟦<InBox<Of<CryptographicResponse<A>, 0x42007C>> as Element<A>>⟧.rules refl refl (λ x y e. e);
+      import = held ⟦<Of<ObjectResponse<A>, 0x42007C> as Element<A>>⟧.rules refl refl (λ x y e. e);
+      export = held ⟦<InBox<Of<ExportResponse<A>, 0x42007C>> as Element<A>>⟧.rules refl refl (λ x y e. e);
+      login = held ⟦<Of<LoginResponse<A>, 0x42007C> as Element<A>>⟧.rules refl refl (λ x y e. e);
       other = held ⟦<Of<Kept<A>, 0x42007C> as Element<A>>⟧.rules refl refl (λ x y e. e);
     } };
 
@@ -1463,9 +1755,9 @@ impl<A: Allocator + Copy> Choice<A> for ResponsePayload<A> {
             6 => Ok(ResponsePayload::Check(<Of<CheckResponse<A>, 0x42007C> as Element<A>>::read_one(
                 scope, cursor,
             )?)),
-            7 => Ok(ResponsePayload::Get(<Of<GetResponse<A>, 0x42007C> as Element<A>>::read_one(
-                scope, cursor,
-            )?)),
+            7 => Ok(ResponsePayload::Get(<InBox<Of<GetResponse<A>, 0x42007C>> as Element<
+                A,
+            >>::read_one(scope, cursor)?)),
             8 => Ok(ResponsePayload::GetAttributes(<Of<
                 GetAttributesResponse<A>,
                 0x42007C,
@@ -1539,7 +1831,16 @@ impl<A: Allocator + Copy> Choice<A> for ResponsePayload<A> {
             30 => Ok(ResponsePayload::Hash(<InBox<
                 Of<CryptographicResponse<A>, 0x42007C>,
             > as Element<A>>::read_one(scope, cursor)?)),
-            31 => Ok(ResponsePayload::Other(<Of<Kept<A>, 0x42007C> as Element<A>>::read_one(
+            31 => Ok(ResponsePayload::Import(<Of<ObjectResponse<A>, 0x42007C> as Element<
+                A,
+            >>::read_one(scope, cursor)?)),
+            32 => Ok(ResponsePayload::Export(<InBox<Of<ExportResponse<A>, 0x42007C>> as Element<
+                A,
+            >>::read_one(scope, cursor)?)),
+            33 => Ok(ResponsePayload::Login(<Of<LoginResponse<A>, 0x42007C> as Element<
+                A,
+            >>::read_one(scope, cursor)?)),
+            34 => Ok(ResponsePayload::Other(<Of<Kept<A>, 0x42007C> as Element<A>>::read_one(
                 scope, cursor,
             )?)),
             _ => unreachable!(),
@@ -1569,7 +1870,9 @@ impl<A: Allocator + Copy> Choice<A> for ResponsePayload<A> {
             ResponsePayload::Check(inner) => W::item::<Of<CheckResponse<A>, 0x42007C>>(
                 state, inner,
             ),
-            ResponsePayload::Get(inner) => W::item::<Of<GetResponse<A>, 0x42007C>>(state, inner),
+            ResponsePayload::Get(inner) => W::item::<InBox<Of<GetResponse<A>, 0x42007C>>>(
+                state, inner,
+            ),
             ResponsePayload::GetAttributes(inner) => W::item::<
                 Of<GetAttributesResponse<A>, 0x42007C>,
             >(state, inner),
@@ -1639,6 +1942,15 @@ impl<A: Allocator + Copy> Choice<A> for ResponsePayload<A> {
             ResponsePayload::Hash(inner) => W::item::<
                 InBox<Of<CryptographicResponse<A>, 0x42007C>>,
             >(state, inner),
+            ResponsePayload::Import(inner) => W::item::<Of<ObjectResponse<A>, 0x42007C>>(
+                state, inner,
+            ),
+            ResponsePayload::Export(inner) => W::item::<InBox<Of<ExportResponse<A>, 0x42007C>>>(
+                state, inner,
+            ),
+            ResponsePayload::Login(inner) => W::item::<Of<LoginResponse<A>, 0x42007C>>(
+                state, inner,
+            ),
             ResponsePayload::Other(inner) => W::item::<Of<Kept<A>, 0x42007C>>(state, inner),
         }
     }

@@ -1,18 +1,17 @@
 -- Written by codegen from types.table: change that, and run codegen/codegen.
 -- Which rules choose what, and what is there of what may be.
-use Rattle.std.proofs.Common.{ap, refl, true, ◌∙◌}
-use Rattle.std.specs.Prelude.{List, Some, codes, ℕ, ◌≡◌, [], ◌∷◌}
+use Rattle.std.proofs.Common.{refl, true}
+use Rattle.std.specs.Prelude.{List, codes, ℕ, ◌≡◌, [], ◌∷◌}
 use Rattle.std.specs.Str.{chars, trim_end, trim_start}
 use lib.Utf8.{encode}
 use Rattle.kmip_ttlv_kinds.specs.Choices.{Case, ChoiceOf, Held, Meaning, as_item, case_of, choice_by}
 use Rattle.kmip_ttlv_parts.proofs.Equal.{apart, in_variant}
-use Rattle.kmip_ttlv_parts.proofs.MessageRules.{not_first}
-use Rattle.kmip_ttlv_parts.specs.Agreements.{first_variant, later_variant}
+use Rattle.kmip_ttlv_parts.proofs.ChoiceTexts.{BeginsBy, chosen_by_others, chosen_by_text, is_there}
+use Rattle.kmip_ttlv_parts.specs.RuleParts.{parts_of}
 use Rattle.kmip_ttlv_parts.specs.Forms.{Variants, enum, no_variants, variant, wrapped}
 use Rattle.kmip_ttlv_parts.specs.Names.{number, tag_of}
 use Rattle.kmip_ttlv_parts.specs.Returns.{IsNoneOf}
-use Rattle.kmip_ttlv_parts.specs.Rules.{at_least, chosen, choice, equal, in_brackets, member, past, rule, sides}
-use Rattle.kmip_ttlv_parts.specs.TagValues.{TagValue, last}
+use Rattle.kmip_ttlv_parts.specs.Rules.{at_least, equal, in_brackets, member, rule, sides}
 use Rattle.std.proofs.Common.{Bool as Boole}
 use Rattle.kmip_ttlv_parts.specs.declared.types.TtlvType.{TtlvType}
 use Rattle.kmip_ttlv_parts.specs.declared.types.TtlvType.TheVariants as types
@@ -72,23 +71,22 @@ detail_cases i = record {
   mark = as_item (codes "detail") (codes "if type==Integer") i.mark;
 }
 
--- where what is said is none of the names, the type of the item chooses
-detail_unnamed : {A : Type 0} {eq : Detail A → Detail A → Boole} (i : DetailItems A eq) (said : List ℕ) (k : List TagValue) (typ : TtlvType) (n : ℕ)
-    → IsNoneOf said detail_names → last k 0xBBBBBB ≡ Some said
-    → choice (variant (codes "if type==TextString") (wrapped i.text.form) (variant (codes "if type==Integer") (wrapped i.mark.form) no_variants)) k typ ≡ chosen n
-    → choice (detail_variants i) k typ ≡ past 1 (chosen n)
-unfolding tag_of number rule sides equal at_least member in_brackets trim_end chars trim_start encode
-detail_unnamed i said k typ n none found e =
-    let n0 = not_first said (codes "0x00000001") ([]) none in
-    rw (found, n0.0)
-    (ap (λ c. past 1 (c)) e)
+-- the texts of BBBBBB that its rules ask for
+abbrev pub detail_texts : List (List (List ℕ))
+detail_texts =
+    (codes "0x00000001" ∷ []) ∷
+    []
+
+detail_begins : {A : Type 0} {eq : Detail A → Detail A → Boole} (i : DetailItems A eq) → BeginsBy 0xBBBBBB detail_texts (detail_variants i) (variant (codes "if type==TextString") (wrapped i.text.form) (variant (codes "if type==Integer") (wrapped i.mark.form) no_variants))
+unfolding parts_of
+detail_begins i = record { all = (refl, refl) }
 
 pub detail_case : {A : Type 0} {eq : Detail A → Detail A → Boole} (i : DetailItems A eq) (x : Detail A)
     → Case 0xDDDDDD 0xBBBBBB (detail_typ x) (enum (codes "detail") (detail_variants i)) (λ said. ChoosesDetail said x) (detail_by (detail_cases i) x)
 unfolding tag_of number rule sides equal at_least member in_brackets trim_end chars trim_start encode detail_by
-detail_case i (detail.Point x) = case_of i.point x first_variant (λ said chooses k found. rw (found ∙ ap Some chooses) refl)
-detail_case i (detail.Text x) = case_of i.text x (later_variant first_variant) (λ said none k found. detail_unnamed i said k types.TextString 0 none found refl)
-detail_case i (detail.Mark x) = case_of i.mark x (later_variant (later_variant first_variant)) (λ said none k found. detail_unnamed i said k types.Integer 1 none found refl)
+detail_case i (detail.Point x) = case_of i.point x (is_there _ 0 refl) (λ said chooses. chosen_by_text types.Structure (detail_begins i) chooses refl)
+detail_case i (detail.Text x) = case_of i.text x (is_there _ 1 refl) (λ said none. chosen_by_others types.TextString (detail_begins i) none)
+detail_case i (detail.Mark x) = case_of i.mark x (is_there _ 2 refl) (λ said none. chosen_by_others types.Integer (detail_begins i) none)
 
 pub detail_same : {A : Type 0} {eq : Detail A → Detail A → Boole} (i : DetailItems A eq) (x y : Detail A)
     → (detail_by (detail_cases i) x).value ≡ (detail_by (detail_cases i) y).value

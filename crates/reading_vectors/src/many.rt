@@ -1,6 +1,6 @@
 //! Messages of many stored texts, of a long one that many rules ask for, or of many ignored items. What
 //! is read of them is what the last stored text says. A text of four mebibytes that is parsed for each of 16,384
-//! items takes longer than a test may. What such messages cost, `ttlv_times` prints.
+//! items takes longer than a test may. What such messages cost, `bench/run --sizes` prints.
 
 use crate::answer::Of;
 use crate::reading::Reading;

@@ -1,4 +1,4 @@
-//! Shapes put together by types, by which the tests of reading_vectors and the program ttlv_times read: `parts` stand for shapes,
+//! Shapes put together by types, by which the tests of reading_vectors and the program bench/ttlv_times read: `parts` stand for shapes,
 //! `names` for the names in them, and `Run` keeps of what was read its length. `inputs` makes messages of any size, and `shapes`
 //! says what they are read by. `rereads` tests whether messages come back.
 #![tactic(auto)]

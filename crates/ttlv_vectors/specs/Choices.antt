@@ -1,13 +1,14 @@
 -- Written by codegen from types.table: change that, and run codegen/codegen.
 -- Which rules choose what, and what is there of what may be.
-use Rattle.std.proofs.Common.{ap, refl, true, ◌∙◌}
+use Rattle.std.proofs.Common.{refl, true}
 use Rattle.std.proofs.Math.Logic.{⊎_elim}
-use Rattle.std.specs.Prelude.{List, Some, codes, ℕ, ◌≡◌, ◌⊎◌}
+use Rattle.std.specs.Prelude.{List, codes, ℕ, ◌≡◌, ◌⊎◌, [], ◌∷◌}
 use Rattle.std.specs.Str.{chars, trim_end, trim_start}
 use lib.Utf8.{encode}
 use Rattle.kmip_ttlv_kinds.specs.Choices.{Case, ChoiceOf, Held, Meaning, TypedCase, as_item, case_of, choice_by, choice_by_type, typed_case}
 use Rattle.kmip_ttlv_parts.proofs.Equal.{apart, in_variant}
-use Rattle.kmip_ttlv_parts.specs.Agreements.{first_variant, later_variant}
+use Rattle.kmip_ttlv_parts.proofs.ChoiceTexts.{BeginsBy, chosen_by_text, is_there}
+use Rattle.kmip_ttlv_parts.specs.RuleParts.{parts_of}
 use Rattle.kmip_ttlv_parts.specs.Forms.{Variants, enum, no_variants, variant, wrapped}
 use Rattle.kmip_ttlv_parts.specs.Names.{number, tag_of}
 use Rattle.kmip_ttlv_parts.specs.Rules.{at_least, equal, in_brackets, member, rule, sides}
@@ -58,8 +59,8 @@ said_cases i = record {
 pub said_case : {A : Type 0} {eq : Said A → Said A → Boole} (i : SaidItems A eq) (x : Said A)
     → TypedCase 0x540071 (said_typ x) (enum (codes "said") (said_variants i)) (said_by (said_cases i) x)
 unfolding tag_of number rule sides equal at_least member in_brackets trim_end chars trim_start encode said_by
-said_case i (said.Line x) = typed_case i.line x first_variant (λ k. refl)
-said_case i (said.Count x) = typed_case i.count x (later_variant first_variant) (λ k. refl)
+said_case i (said.Line x) = typed_case i.line x (is_there _ 0 refl) (λ k. refl)
+said_case i (said.Count x) = typed_case i.count x (is_there _ 1 refl) (λ k. refl)
 
 pub said_same : {A : Type 0} {eq : Said A → Said A → Boole} (i : SaidItems A eq) (x y : Said A)
     → (said_by (said_cases i) x).value ≡ (said_by (said_cases i) y).value
@@ -108,8 +109,8 @@ more_cases i = record {
 pub more_case : {A : Type 0} {eq : More A → More A → Boole} (i : MoreItems A eq) (x : More A)
     → TypedCase 0x540073 (more_typ x) (enum (codes "more") (more_variants i)) (more_by (more_cases i) x)
 unfolding tag_of number rule sides equal at_least member in_brackets trim_end chars trim_start encode more_by
-more_case i (more.Line x) = typed_case i.line x first_variant (λ k. refl)
-more_case i (more.Count x) = typed_case i.count x (later_variant first_variant) (λ k. refl)
+more_case i (more.Line x) = typed_case i.line x (is_there _ 0 refl) (λ k. refl)
+more_case i (more.Count x) = typed_case i.count x (is_there _ 1 refl) (λ k. refl)
 
 pub more_same : {A : Type 0} {eq : More A → More A → Boole} (i : MoreItems A eq) (x y : More A)
     → (more_by (more_cases i) x).value ≡ (more_by (more_cases i) y).value
@@ -160,11 +161,22 @@ named_cases i = record {
   count = as_item (codes "named") (codes "if 0x540070==Number") i.count;
 }
 
+-- the texts of 540070 that its rules ask for
+abbrev pub named_texts : List (List (List ℕ))
+named_texts =
+    (codes "Label" ∷ codes "Address" ∷ []) ∷
+    (codes "Number" ∷ []) ∷
+    []
+
+named_begins : {A : Type 0} {eq : Named A → Named A → Boole} (i : NamedItems A eq) → BeginsBy 0x540070 named_texts (named_variants i) no_variants
+unfolding parts_of
+named_begins i = record { all = (refl, (refl, refl)) }
+
 pub named_case : {A : Type 0} {eq : Named A → Named A → Boole} (i : NamedItems A eq) (x : Named A)
     → Case 0x540072 0x540070 (named_typ x) (enum (codes "named") (named_variants i)) (λ said. ChoosesNamed said x) (named_by (named_cases i) x)
-unfolding tag_of number rule sides equal at_least member in_brackets trim_end chars trim_start encode named_by
-named_case i (named.Line x) = case_of i.line x first_variant (λ said chooses k found. ⊎_elim (λ (e : said ≡ codes "Label"). rw (found ∙ ap Some e) refl) (λ (e : said ≡ codes "Address"). rw (found ∙ ap Some e) refl) chooses)
-named_case i (named.Count x) = case_of i.count x (later_variant first_variant) (λ said chooses k found. rw (found ∙ ap Some chooses) refl)
+unfolding named_by
+named_case i (named.Line x) = case_of i.line x (is_there _ 0 refl) (λ said chooses. ⊎_elim (λ (e : said ≡ codes "Label"). chosen_by_text types.TextString (named_begins i) e refl) (λ (e : said ≡ codes "Address"). chosen_by_text types.TextString (named_begins i) e refl) chooses)
+named_case i (named.Count x) = case_of i.count x (is_there _ 1 refl) (λ said chooses. chosen_by_text types.Integer (named_begins i) chooses refl)
 
 pub named_same : {A : Type 0} {eq : Named A → Named A → Boole} (i : NamedItems A eq) (x y : Named A)
     → (named_by (named_cases i) x).value ≡ (named_by (named_cases i) y).value

@@ -14,5 +14,10 @@ returns-in_err-four-clause-told g c =
     let p = err_from_is_err_and c.from_residual.result c.from_residual.ensures.1 in
     not_told _ c.from_residual.result p.0 p.1
 
+pub returns-in_err-one-clause-told : goal.returns-in_err-one-clause-told
+returns-in_err-one-clause-told g c =
+    let p = err_from_is_err_and c.from_residual-in_err-one.result c.from_residual-in_err-one.ensures.1 in
+    not_told _ c.from_residual-in_err-one.result p.0 p.1
+
 pub returns-clause-told : goal.returns-clause-told
-returns-clause-told g c = g.W.Walk.steps.checked _ _ _ _ _ c.in_ok-four.ensures.told c.check.ensures
+returns-clause-told g c = g.W.Walk.steps.checked _ _ _ _ _ (g.W.Walk.steps.behind _ _ _ _ _ c.in_ok-four.ensures.told c.in_ok-one.ensures.told) c.check.ensures

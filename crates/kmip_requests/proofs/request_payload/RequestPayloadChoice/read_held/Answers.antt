@@ -268,3 +268,35 @@ returns-in_err-read_one-in-32-clause-read g c =
 pub returns-in_ok-read_one-in-32-clause-read : goal.returns-in_ok-read_one-in-32-clause-read
 unfolding request_payload_by
 returns-in_ok-read_one-in-32-clause-read g c = is_held_at _ _ _ _ _ c.in_ok-read_one-in-32.ensures.read c.in-32.is refl refl
+
+pub returns-in_err-read_one-in-33-clause-read : goal.returns-in_err-read_one-in-33-clause-read
+returns-in_err-read_one-in-33-clause-read g c =
+    is_failed_at _ _ _ _ _ _ c.in_err-read_one-in-33.ensures.read c.from_residual-in_err-read_one-in-33.ensures.1 c.in-33.is refl
+
+pub returns-in_ok-read_one-in-33-clause-read : goal.returns-in_ok-read_one-in-33-clause-read
+unfolding request_payload_by
+returns-in_ok-read_one-in-33-clause-read g c = is_held_at _ _ _ _ _ c.in_ok-read_one-in-33.ensures.read c.in-33.is refl refl
+
+pub returns-in_err-read_one-in-34-clause-read : goal.returns-in_err-read_one-in-34-clause-read
+returns-in_err-read_one-in-34-clause-read g c =
+    is_failed_at _ _ _ _ _ _ c.in_err-read_one-in-34.ensures.read c.from_residual-in_err-read_one-in-34.ensures.1 c.in-34.is refl
+
+pub returns-in_ok-read_one-in-34-clause-read : goal.returns-in_ok-read_one-in-34-clause-read
+unfolding request_payload_by
+returns-in_ok-read_one-in-34-clause-read g c = is_held_at _ _ _ _ _ c.in_ok-read_one-in-34.ensures.read c.in-34.is refl refl
+
+pub returns-in_err-read_one-in-35-clause-read : goal.returns-in_err-read_one-in-35-clause-read
+returns-in_err-read_one-in-35-clause-read g c =
+    is_failed_at _ _ _ _ _ _ c.in_err-read_one-in-35.ensures.read c.from_residual-in_err-read_one-in-35.ensures.1 c.in-35.is refl
+
+pub returns-in_ok-read_one-in-35-clause-read : goal.returns-in_ok-read_one-in-35-clause-read
+unfolding request_payload_by
+returns-in_ok-read_one-in-35-clause-read g c = is_held_at _ _ _ _ _ c.in_ok-read_one-in-35.ensures.read c.in-35.is refl refl
+
+pub returns-in_err-read_one-in-36-clause-read : goal.returns-in_err-read_one-in-36-clause-read
+returns-in_err-read_one-in-36-clause-read g c =
+    is_failed_at _ _ _ _ _ _ c.in_err-read_one-in-36.ensures.read c.from_residual-in_err-read_one-in-36.ensures.1 c.in-36.is refl
+
+pub returns-in_ok-read_one-in-36-clause-read : goal.returns-in_ok-read_one-in-36-clause-read
+unfolding request_payload_by
+returns-in_ok-read_one-in-36-clause-read g c = is_held_at _ _ _ _ _ c.in_ok-read_one-in-36.ensures.read c.in-36.is refl refl

@@ -133,6 +133,22 @@ pub returns-in-Hash-clause-told : goal.returns-in-Hash-clause-told
 unfolding request_payload_by
 returns-in-Hash-clause-told g c = told_as (request_payload_by _) (λ t. OnOk c.item-in-Hash.result (g.W.Walk.steps.Takes c.args.state.now t c.item-in-Hash.new.state)) c.in-Hash.is c.item-in-Hash.ensures.told
 
+pub returns-in-Import-clause-told : goal.returns-in-Import-clause-told
+unfolding request_payload_by
+returns-in-Import-clause-told g c = told_as (request_payload_by _) (λ t. OnOk c.item-in-Import.result (g.W.Walk.steps.Takes c.args.state.now t c.item-in-Import.new.state)) c.in-Import.is c.item-in-Import.ensures.told
+
+pub returns-in-Export-clause-told : goal.returns-in-Export-clause-told
+unfolding request_payload_by
+returns-in-Export-clause-told g c = told_as (request_payload_by _) (λ t. OnOk c.item-in-Export.result (g.W.Walk.steps.Takes c.args.state.now t c.item-in-Export.new.state)) c.in-Export.is c.item-in-Export.ensures.told
+
+pub returns-in-Login-clause-told : goal.returns-in-Login-clause-told
+unfolding request_payload_by
+returns-in-Login-clause-told g c = told_as (request_payload_by _) (λ t. OnOk c.item-in-Login.result (g.W.Walk.steps.Takes c.args.state.now t c.item-in-Login.new.state)) c.in-Login.is c.item-in-Login.ensures.told
+
+pub returns-in-Logout-clause-told : goal.returns-in-Logout-clause-told
+unfolding request_payload_by
+returns-in-Logout-clause-told g c = told_as (request_payload_by _) (λ t. OnOk c.item-in-Logout.result (g.W.Walk.steps.Takes c.args.state.now t c.item-in-Logout.new.state)) c.in-Logout.is c.item-in-Logout.ensures.told
+
 pub returns-in-Other-clause-told : goal.returns-in-Other-clause-told
 unfolding request_payload_by
 returns-in-Other-clause-told g c = told_as (request_payload_by _) (λ t. OnOk c.item-in-Other.result (g.W.Walk.steps.Takes c.args.state.now t c.item-in-Other.new.state)) c.in-Other.is c.item-in-Other.ensures.told

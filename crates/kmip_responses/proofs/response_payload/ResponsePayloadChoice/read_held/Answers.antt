@@ -260,3 +260,27 @@ returns-in_err-read_one-in-31-clause-read g c =
 pub returns-in_ok-read_one-in-31-clause-read : goal.returns-in_ok-read_one-in-31-clause-read
 unfolding response_payload_by
 returns-in_ok-read_one-in-31-clause-read g c = is_held_at _ _ _ _ _ c.in_ok-read_one-in-31.ensures.read c.in-31.is refl refl
+
+pub returns-in_err-read_one-in-32-clause-read : goal.returns-in_err-read_one-in-32-clause-read
+returns-in_err-read_one-in-32-clause-read g c =
+    is_failed_at _ _ _ _ _ _ c.in_err-read_one-in-32.ensures.read c.from_residual-in_err-read_one-in-32.ensures.1 c.in-32.is refl
+
+pub returns-in_ok-read_one-in-32-clause-read : goal.returns-in_ok-read_one-in-32-clause-read
+unfolding response_payload_by
+returns-in_ok-read_one-in-32-clause-read g c = is_held_at _ _ _ _ _ c.in_ok-read_one-in-32.ensures.read c.in-32.is refl refl
+
+pub returns-in_err-read_one-in-33-clause-read : goal.returns-in_err-read_one-in-33-clause-read
+returns-in_err-read_one-in-33-clause-read g c =
+    is_failed_at _ _ _ _ _ _ c.in_err-read_one-in-33.ensures.read c.from_residual-in_err-read_one-in-33.ensures.1 c.in-33.is refl
+
+pub returns-in_ok-read_one-in-33-clause-read : goal.returns-in_ok-read_one-in-33-clause-read
+unfolding response_payload_by
+returns-in_ok-read_one-in-33-clause-read g c = is_held_at _ _ _ _ _ c.in_ok-read_one-in-33.ensures.read c.in-33.is refl refl
+
+pub returns-in_err-read_one-in-34-clause-read : goal.returns-in_err-read_one-in-34-clause-read
+returns-in_err-read_one-in-34-clause-read g c =
+    is_failed_at _ _ _ _ _ _ c.in_err-read_one-in-34.ensures.read c.from_residual-in_err-read_one-in-34.ensures.1 c.in-34.is refl
+
+pub returns-in_ok-read_one-in-34-clause-read : goal.returns-in_ok-read_one-in-34-clause-read
+unfolding response_payload_by
+returns-in_ok-read_one-in-34-clause-read g c = is_held_at _ _ _ _ _ c.in_ok-read_one-in-34.ensures.read c.in-34.is refl refl
