@@ -1,5 +1,5 @@
-//! A program that tests messages. First it reads messages of another implementation from standard input, a line each with a name and
-//! hexadecimal digits; a line that begins with `#` is a comment. Each has to be decoded as a request or a response of `kmip_messages`, to
+//! A program that tests messages. First it reads messages of another implementation, and of `worked.py`, from standard input, a line each
+//! with a name and hexadecimal digits; a line that begins with `#` is a comment. Each has to be decoded as a request or a response of `kmip_messages`, to
 //! be sound, and to come back equal and as the same bytes; and so with its payloads kept as they are. Of each the operations are printed,
 //! and what names them in the batch, and whether a payload is kept, since it has no type. Then it tries the messages in its modules, and
 //! what is in them. What is otherwise is printed.

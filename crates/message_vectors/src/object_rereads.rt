@@ -181,10 +181,11 @@ fn search(
         storage_status_mask: None,
         object_group_member: None,
         attributes: one(alloc, attribute)?,
+        attributes_by_tag: None,
         other_items: Kept::none(alloc),
     });
     let items = one(alloc, RequestItem::new(operation, payload))?;
-    let header = RequestHeader::new(ProtocolVersion { major: 1, minor: 0 }, 1);
+    let header = RequestHeader::new(alloc, ProtocolVersion { major: 1, minor: 0 }, 1);
     Ok(Request { header, items })
 }
 
