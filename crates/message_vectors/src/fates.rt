@@ -1,6 +1,6 @@
 //! What becomes of a message that is decoded and encoded again, with its payloads in the types of their operations, or kept as they are.
-//! Each type of message is named in one place, `fate_of_bytes` or `envelope_fate_of_bytes`, since each call at such a type takes the
-//! prover long.
+//! `Request` and `Response` are named in functions of their own, which call `from_slice` and `to_vec` at them: evidence that one of them
+//! meets several bounds at once is more than the prover compares.
 
 use kmip_messages::envelope::{RequestEnvelope, ResponseEnvelope};
 use kmip_messages::request::Request;
@@ -58,19 +58,18 @@ pub fn is_equal_again<T: Decode<Global> + PartialEq>(
     }
 }
 
-// What becomes of a message that was decoded from these bytes.
-fn fate_of_decoded<T: Decode<Global> + Serialize + Sound + PartialEq>(
-    alloc: Global,
-    message: &T,
+// What becomes of a message that was decoded from these bytes, by what it is encoded as: whether it is sound, and equal to itself once more.
+fn fate_of_encoded(
+    encoded: Result<Vec<u8>, Error>,
     bytes: &[u8],
+    is_sound: bool,
+    is_equal: bool,
 ) -> Fate {
-    if !message.is_sound() {
+    if !is_sound {
         return Fate::Unsound;
     }
-    match to_vec(alloc, message) {
-        Ok(again) if again.as_slice() == bytes && is_equal_again(alloc, message, bytes) => {
-            Fate::Back
-        }
+    match encoded {
+        Ok(again) if again.as_slice() == bytes && is_equal => Fate::Back,
         Ok(_) => Fate::Changed,
         Err(error) => Fate::Unencoded(error),
     }
@@ -80,7 +79,36 @@ fn fate_of_decoded<T: Decode<Global> + Serialize + Sound + PartialEq>(
 fn fate_as<T: Decode<Global> + Serialize + Sound + PartialEq>(alloc: Global, bytes: &[u8]) -> Fate {
     let read: Result<T, Error> = from_slice(alloc, bytes);
     match read {
-        Ok(message) => fate_of_decoded(alloc, &message, bytes),
+        Ok(message) => {
+            let is_equal = is_equal_again(alloc, &message, bytes);
+            fate_of_encoded(to_vec(alloc, &message), bytes, message.is_sound(), is_equal)
+        }
+        Err(error) => Fate::Undecoded(error),
+    }
+}
+
+// What becomes of the request that bytes are.
+fn fate_of_request(alloc: Global, bytes: &[u8]) -> Fate {
+    let read: Result<Request, Error> = from_slice(alloc, bytes);
+    let again: Result<Request, Error> = from_slice(alloc, bytes);
+    match read {
+        Ok(message) => {
+            let is_equal = matches!(&again, Ok(other) if message == *other);
+            fate_of_encoded(to_vec(alloc, &message), bytes, message.is_sound(), is_equal)
+        }
+        Err(error) => Fate::Undecoded(error),
+    }
+}
+
+// What becomes of the response that bytes are.
+fn fate_of_response(alloc: Global, bytes: &[u8]) -> Fate {
+    let read: Result<Response, Error> = from_slice(alloc, bytes);
+    let again: Result<Response, Error> = from_slice(alloc, bytes);
+    match read {
+        Ok(message) => {
+            let is_equal = matches!(&again, Ok(other) if message == *other);
+            fate_of_encoded(to_vec(alloc, &message), bytes, message.is_sound(), is_equal)
+        }
         Err(error) => Fate::Undecoded(error),
     }
 }
@@ -93,9 +121,9 @@ pub fn is_request(bytes: &[u8]) -> bool {
 /// What becomes of the message that bytes are, whatever kind of message it has.
 pub fn fate_of_bytes(alloc: Global, bytes: &[u8]) -> Fate {
     if is_request(bytes) {
-        fate_as::<Request>(alloc, bytes)
+        fate_of_request(alloc, bytes)
     } else {
-        fate_as::<Response>(alloc, bytes)
+        fate_of_response(alloc, bytes)
     }
 }
 
