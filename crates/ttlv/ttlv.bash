@@ -9,18 +9,19 @@ _ttlv() {
     --width | --width=) COMPREPLY=(); return ;;
     --tag | --tag=) COMPREPLY=(); return ;;
     --color | --color=) COMPREPLY=($(compgen -W 'always never auto' -- "$word")); return ;;
-    --input | --input=) COMPREPLY=($(compgen -W 'raw hex base64 base64url pem xxd hexdump od tcpdump' -- "$word")); return ;;
+    --input | --input=) COMPREPLY=($(compgen -W 'raw hex base64 base64url pem xxd hexdump od tcpdump pcap pcapng' -- "$word")); return ;;
+    --port | --port=) COMPREPLY=(); return ;;
     --prefix | --prefix=) COMPREPLY=(); return ;;
     esac
     [ "$COMP_CWORD" -gt 1 ] && command=${COMP_WORDS[1]}
     case $command in
     '') options='show diag undiag check hex json from-json --help --version' ;;
-    show) options='--redact --redact=all --redact=keys --secrets --strict --raw --find --offsets --lengths --width --tag --color --names --input --help' ;;
-    diag) options='--prefix --closed --unclosed --strict --input --help' ;;
+    show) options='--redact --redact=all --redact=keys --secrets --strict --raw --find --offsets --lengths --width --tag --color --names --input --port --help' ;;
+    diag) options='--prefix --closed --unclosed --strict --input --port --help' ;;
     undiag) options='--prefix --names --help' ;;
-    check) options='--kmip --allow-empty --input --help' ;;
-    hex) options='--input --help' ;;
-    json) options='--redact --redact=all --redact=keys --secrets --strict --input --help' ;;
+    check) options='--kmip --allow-empty --input --port --help' ;;
+    hex) options='--input --port --help' ;;
+    json) options='--redact --redact=all --redact=keys --secrets --strict --input --port --help' ;;
     from-json) options='--raw --help' ;;
     esac
     if [ -z "$command" ] || [[ $word == -* ]]; then

@@ -4,10 +4,11 @@ use Rattle.std.proofs.Common.{sym, refl, ◌∙◌, arith, append-nil, length-ap
 use Rattle.std.specs.Prelude.{slice_index, nat_lt, not, ◌==◌, ◌&&◌, ◌||◌}
 use Rattle.std.proofs.lemmas.Bool.{le-ltb, Decides.nat_tests}
 use Rattle.std.proofs.lemmas.List.{take-append-le, drop-append-le, get_or_append_left}
-use Rattle.ttlv_run.specs.declared.{form.Form.Form, job.Encoding.Encoding, job.Encoding.TheVariants.Detected, job.Encoding.TheVariants.Raw}
+use Rattle.ttlv_run.specs.declared.{form.Form.Form, job.Encoding.Encoding}
+use Rattle.ttlv_run.specs.declared.{job.Encoding.TheVariants.Detected, job.Encoding.TheVariants.Raw, job.Encoding.TheVariants.Capture}
 use Rattle.ttlv_run.specs.Columns.{mark_length, body}
 use Rattle.ttlv_run.specs.Fronts.{is_some, front_size, taken_as}
-use Rattle.ttlv_run.specs.Guesses.{is_raw, looks_raw, front_of, front_found, text_found}
+use Rattle.ttlv_run.specs.Guesses.{is_raw, raw_found, looks_raw, front_of, front_found, text_found}
 use Rattle.ttlv_run.specs.Inputs.{form_of, is_detected, encoding_of}
 
 -- it has four bytes at least
@@ -46,7 +47,7 @@ module _ (s more : List ℕ) (long : front_size Detected s ≤ length s) where
   raw = ap is_raw (take-append-le 4 s more four)
 
   decided_by : (r : Bool) → looks_raw s ≡ r → (o : Option Encoding) → front_of s ≡ o → Decided Detected s more
-  decided_by true is o of = record { size = rw (few_on, few, raw, is) refl; encoding = rw (raw, is) refl }
+  decided_by true is o of = record { size = rw (few_on, few, raw, is) refl; encoding = rw (raw, is) (ap raw_found (take-append-le 4 s more four)) }
   decided_by false is o of =
       let least : (if nat_lt (length s) 64 || is_some (front_of s) then 64 else 1024) ≤ length s = rw (few, is) at long in
       let sixty : 64 ≤ length s = omega (arith, least, some_least (nat_lt (length s) 64 || is_some (front_of s))) in
@@ -99,4 +100,5 @@ pub taken_is : (e : Encoding) (form : Form) → form_of e ≡ Some form → take
 unfolding known_as
 taken_is Detected form is = cc is
 taken_is Raw form is = cc is
+taken_is (Capture port) form is = cc is
 taken_is e form is = sym (ap known_as is)

@@ -34,3 +34,5 @@ pub mod OwnTables
 pub mod Tagging
 pub mod Written
 pub mod Finding
+pub mod Chains
+pub mod TrafficTexts

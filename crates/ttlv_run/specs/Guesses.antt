@@ -2,7 +2,8 @@
 use Rattle.std.specs.Prelude.{ℕ, ◌+◌, Bool, true, false, ◌==◌, ◌||◌, ◌&&◌, List, [], ◌∷◌, take, slice_index, nat_lt}
 use Rattle.std.specs.Prelude.{Option, Some, None, if◌then◌else◌}
 use Rattle.ttlv_run.specs.declared.job.Encoding.{Encoding}
-use Rattle.ttlv_run.specs.declared.job.Encoding.TheVariants.{Raw, Hexadecimal, Base64, Base64Url, Armoured, Dump, Packets}
+use Rattle.ttlv_run.specs.declared.job.Encoding.TheVariants.{Raw, Hexadecimal, Base64, Base64Url, Armoured, Dump, Packets, Capture}
+use Rattle.ttlv_run.specs.declared.guess.TheConstants.{KMIP_PORT}
 use Rattle.ttlv_run.specs.Columns.{is_between, is_hex_digit, body}
 
 -- a byte that stands in no text
@@ -116,6 +117,10 @@ text_found None s = if has_packet s then Packets else by_first s (first_byte s)
 abbrev pub front_of : List ℕ → Option Encoding
 front_of s = front_found (body (take front_length s))
 
+-- what an input that is raw looks like, by its first four bytes
+abbrev pub raw_found : List ℕ → Encoding
+raw_found four = if is_capture four then Capture KMIP_PORT else Raw
+
 -- what an input looks like
 abbrev pub encoding_found : List ℕ → Encoding
-encoding_found s = if looks_raw s then Raw else text_found (front_of s) (body (take long_front s))
+encoding_found s = if looks_raw s then raw_found (take 4 s) else text_found (front_of s) (body (take long_front s))

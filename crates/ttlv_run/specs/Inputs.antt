@@ -6,7 +6,7 @@ use Rattle.hex.specs.Hex as hex
 use Rattle.base64.specs.Engines.{standard, url_safe, url_safe_no_pad}
 use Rattle.base64.specs.GeneralPurpose as base64
 use Rattle.ttlv_run.specs.declared.job.Encoding.{Encoding}
-use Rattle.ttlv_run.specs.declared.job.Encoding.TheVariants.{Detected, Raw, Hexadecimal, Base64, Base64Url, Armoured, Dump, Packets}
+use Rattle.ttlv_run.specs.declared.job.Encoding.TheVariants.{Detected, Raw, Hexadecimal, Base64, Base64Url, Armoured, Dump, Packets, Capture}
 use Rattle.ttlv_run.specs.declared.coding.Alphabet.{Alphabet}
 use Rattle.ttlv_run.specs.declared.coding.Alphabet.TheVariants.{HexadecimalDigits, Base64Digits, UrlDigits, BareUrlDigits}
 use Rattle.ttlv_run.specs.declared.form.Form.{Form}
@@ -125,6 +125,12 @@ form_of Base64Url = Some Base64UrlText
 form_of Armoured = Some ArmouredText
 form_of Dump = Some DumpText
 form_of Packets = Some PacketText
+form_of (Capture port) = None
+
+-- the port of a packet capture
+abbrev pub port_of : Encoding → Option ℕ
+port_of (Capture port) = Some port
+port_of e = None
 
 -- no encoding was named
 abbrev pub is_detected : Encoding → Bool

@@ -29,3 +29,5 @@ pub mod Texts
 pub mod Tools
 pub mod Finds
 pub mod Kinds
+pub mod Peers
+pub mod Traffic

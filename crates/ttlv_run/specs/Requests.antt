@@ -9,6 +9,7 @@ use Rattle.ttlv_run.specs.declared.job.Asked.{Asked}
 use Rattle.ttlv_run.specs.declared.job.Asked.TheVariants.{Print, ReadBack, FromJson, Find}
 use Rattle.ttlv_run.specs.declared.job.Encoding.{Encoding}
 use Rattle.ttlv_run.specs.declared.job.Encoding.TheVariants as encoding
+use Rattle.ttlv_run.specs.declared.guess.TheConstants.{KMIP_PORT}
 use Rattle.ttlv_run.specs.declared.job.Look.{Look}
 use Rattle.ttlv_run.specs.declared.job.Task.{Task}
 use Rattle.ttlv_run.specs.declared.job.Task.TheVariants.{Show, Diagnose, Hexadecimal, Json, Whole, Check}
@@ -31,9 +32,19 @@ is_given f option word = is_word (first_value f option) word
 abbrev pub is_set : Found → List ℕ → Bool
 is_set f flag = is_given f flag (codes "true")
 
+-- `--port`, without which it is that of KMIP
+abbrev pub port_or : Option ℕ → Encoding
+port_or None = encoding.Capture KMIP_PORT
+port_or (Some port) = encoding.Capture port
+
+-- a port without an encoding is that of a packet capture
+abbrev pub by_port : Option ℕ → Encoding
+by_port None = encoding.Detected
+by_port (Some port) = encoding.Capture port
+
 -- `--input`
-unfoldable pub encoding_in : Found → Encoding
-encoding_in f =
+unfoldable pub encoding_in : Found → Option ℕ → Encoding
+encoding_in f port =
     if is_given f (codes "input") (codes "raw") then encoding.Raw
     else if is_given f (codes "input") (codes "hex") then encoding.Hexadecimal
     else if is_given f (codes "input") (codes "base64") then encoding.Base64
@@ -43,7 +54,9 @@ encoding_in f =
     else if is_given f (codes "input") (codes "hexdump") then encoding.Dump
     else if is_given f (codes "input") (codes "od") then encoding.Dump
     else if is_given f (codes "input") (codes "tcpdump") then encoding.Packets
-    else encoding.Detected
+    else if is_given f (codes "input") (codes "pcap") then port_or port
+    else if is_given f (codes "input") (codes "pcapng") then port_or port
+    else by_port port
 
 -- `--redact` and `--raw`, of which the first counts
 unfoldable pub values_in : Found → Values
@@ -71,11 +84,17 @@ color_in f =
 abbrev pub IsNumber : List ℕ → Type 0
 IsNumber text = IsNumeral 10 (without_leading_plus text) × (digits_value 10 (without_leading_plus text) < 2 ^ 64)
 
--- `--width`: the number that its digits are
+-- `--width` or `--port`: the number that its digits are
 abbrev pub IsWidth : Option (List ℕ) → Option ℕ → Type 0
 IsWidth None width = width ≡ None
 IsWidth (Some text) None = IsNumber text → ⊥
 IsWidth (Some text) (Some width) = IsNumber text × (width ≡ digits_value 10 (without_leading_plus text))
+
+-- `--input` and `--port`
+pub record IsEncoding (f : Found) (e : Encoding) : Type 0 where
+  pub port : Option ℕ
+  pub is_port : IsWidth (one_text f (codes "port")) port
+  pub is : e ≡ encoding_in f port
 
 -- the readable lines that are asked for; the colours and the tags are decided later
 pub record IsLook (f : Found) (look : Look) : Type 0 where
@@ -127,7 +146,7 @@ finds command f = bytes_eq command (codes "show") && is_set f (codes "find")
 
 -- what a command asks for
 abbrev pub IsAsked : List ℕ → Found → Asked → Type 0
-IsAsked command f (Print task encoding) = IsTask command f task × (encoding ≡ encoding_in f) × (finds command f ≡ false)
+IsAsked command f (Print task encoding) = IsTask command f task × IsEncoding f encoding × (finds command f ≡ false)
 IsAsked command f (ReadBack prefix) = (command ≡ codes "undiag") × (prefix.now ≡ prefix_in f)
 IsAsked command f (FromJson raw) = (command ≡ codes "from-json") × (raw ≡ is_set f (codes "raw"))
 IsAsked command f (Find look) = (finds command f ≡ true) × IsLook f look

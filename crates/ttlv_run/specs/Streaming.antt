@@ -61,6 +61,11 @@ pub record YieldsBy (old new : Option (List ℕ)) (before after : List ℕ) (cou
   pub as_many : length after ≡ length before + count
   pub ended : count ≡ 0 → IsAtEnd new
 
+-- so did all that was left of the input
+pub record YieldsAll (old new : Option (List ℕ)) (before after : List ℕ) : Type 0 where
+  pub yields : Yields old new before after
+  pub ended : IsAtEnd new
+
 -- so did all of a line and more, or what was left of the input
 pub record YieldsLines (old new : Option (List ℕ)) (before after : List ℕ) (ended : Bool) : Type 0 where
   pub yields : Yields old new before after

@@ -4,7 +4,7 @@ ghost use Rattle.std.specs.Prelude.{◌≡◌, ◌<◌, ◌≤◌, ◌+◌, ◌*
 ghost use Rattle.base64.specs.GeneralPurpose.{IsBytes};
 ghost use Rattle.ttlv_run.specs.declared.run_error.RunError.TheVariants.{MisreadInput as AMisread};
 ghost use Rattle.ttlv_run.specs.Fronts.{front_size, taken_as};
-ghost use Rattle.ttlv_run.specs.Inputs.{TakesAll, IsUnread, has_padding, url_alphabet, alphabet_of, width, decode_form, form_of, encoding_of, is_detected};
+ghost use Rattle.ttlv_run.specs.Inputs.{TakesAll, IsUnread, has_padding, url_alphabet, alphabet_of, width, decode_form, form_of, port_of, encoding_of, is_detected};
 
 use crate::form::Form;
 use crate::guess::{FRONT, LONG_FRONT, encoding_found, front_of, looks_raw};
@@ -104,12 +104,22 @@ pub fn decode_form(form: Form, digits: &[u8], bytes: &mut [u8]) -> Option<usize>
     }
 }
 
+/// The port of a packet capture; none of anything else.
+pub fn port_of(encoding: Encoding) -> Option<usize>
+    ensures { result ≡ port_of encoding }
+{
+    match encoding {
+        Encoding::Capture { port } => Some(port),
+        _ => None,
+    }
+}
+
 /// How digits stand in an input of an encoding; none where there are no digits.
 pub fn form_of(encoding: Encoding) -> Option<Form>
     ensures { result ≡ form_of encoding }
 {
     match encoding {
-        Encoding::Detected | Encoding::Raw => None,
+        Encoding::Detected | Encoding::Raw | Encoding::Capture { .. } => None,
         Encoding::Hexadecimal => Some(Form::HexadecimalText),
         Encoding::Base64 => Some(Form::Base64Text),
         Encoding::Base64Url => Some(Form::Base64UrlText),
@@ -130,7 +140,8 @@ fn is_detected(encoding: Encoding) -> bool
         | Encoding::Base64Url
         | Encoding::Armoured
         | Encoding::Dump
-        | Encoding::Packets => false,
+        | Encoding::Packets
+        | Encoding::Capture { .. } => false,
     }
 }
 

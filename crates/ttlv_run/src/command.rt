@@ -17,13 +17,15 @@ const EXAMPLES: &str = "Examples:
   ttlv json capture.bin          one line of JSON for each message
   ttlv from-json messages.json   the message of each line of JSON, in hexadecimal
   ttlv show --find server.log    the messages within anything else
+  ttlv show capture.pcapng       the messages that TCP carries in a packet capture
   xxd key.bin | ttlv show        a dump of xxd, hexdump -C, od -A x -t x1 or tcpdump -x
 
-Input is raw TTLV, hexadecimal, base64, or a dump; messages stand one after the other.
+Input is raw TTLV, hexadecimal, base64, a dump, or a packet capture; messages stand one
+after the other.
 Statuses: 0 whole; 1 malformed; 2 usage, or input that can't be read or decoded;
 3 out of memory, or output that can't be written.";
 
-const ENCODINGS: [&str; 9] = [
+const ENCODINGS: [&str; 11] = [
     "raw",
     "hex",
     "base64",
@@ -33,6 +35,8 @@ const ENCODINGS: [&str; 9] = [
     "hexdump",
     "od",
     "tcpdump",
+    "pcap",
+    "pcapng",
 ];
 
 /// What may stand behind a command's name.
@@ -40,6 +44,7 @@ const ENCODINGS: [&str; 9] = [
 enum Part {
     Files,
     Input,
+    Port,
     Prefix,
     Names,
     Offsets,
@@ -77,6 +82,7 @@ const COMMANDS: [(&str, &str, &[Part]); 7] = [
             Part::Color,
             Part::Names,
             Part::Input,
+            Part::Port,
             Part::Files,
         ],
     ),
@@ -89,6 +95,7 @@ const COMMANDS: [(&str, &str, &[Part]); 7] = [
             Part::Unclosed,
             Part::Strict,
             Part::Input,
+            Part::Port,
             Part::Files,
         ],
     ),
@@ -100,12 +107,18 @@ const COMMANDS: [(&str, &str, &[Part]); 7] = [
     (
         "check",
         "Prints nothing but the first fault of each input",
-        &[Part::Kmip, Part::Empty, Part::Input, Part::Files],
+        &[
+            Part::Kmip,
+            Part::Empty,
+            Part::Input,
+            Part::Port,
+            Part::Files,
+        ],
     ),
     (
         "hex",
         "Prints each message in hexadecimal digits, a line each",
-        &[Part::Input, Part::Files],
+        &[Part::Input, Part::Port, Part::Files],
     ),
     (
         "json",
@@ -115,6 +128,7 @@ const COMMANDS: [(&str, &str, &[Part]); 7] = [
             Part::Secrets,
             Part::Strict,
             Part::Input,
+            Part::Port,
             Part::Files,
         ],
     ),
@@ -139,6 +153,14 @@ fn input<'w>(alloc: Global) -> Arg<'w> {
         .value_name("ENCODING")
         .value_parser(ENCODINGS.as_slice())
         .help("What the input is, in place of what it looks like")
+}
+
+fn port<'w>(alloc: Global) -> Arg<'w> {
+    Arg::new(alloc, "port")
+        .long("port")
+        .value_name("NUMBER")
+        .value_parser(ValueParser::unsigned(0, 65_535))
+        .help("The TCP port of a packet capture; 5696 where none is named")
 }
 
 fn prefix<'w>(alloc: Global) -> Arg<'w> {
@@ -286,6 +308,7 @@ fn arg<'w>(alloc: Global, part: Part) -> Arg<'w> {
     match part {
         Part::Files => files(alloc),
         Part::Input => input(alloc),
+        Part::Port => port(alloc),
         Part::Prefix => prefix(alloc),
         Part::Names => names(alloc),
         Part::Offsets => offsets(alloc),

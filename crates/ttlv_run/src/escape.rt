@@ -140,8 +140,8 @@ fn push_short_hex<S: PlainSink>(out: &mut S, value: u32) -> Result<(), S::Error>
     push_digit(out, value)
 }
 
-// The same, of two bytes.
-fn push_word_hex<S: PlainSink>(out: &mut S, value: u32) -> Result<(), S::Error>
+/// The same, of two bytes.
+pub fn push_word_hex<S: PlainSink>(out: &mut S, value: u32) -> Result<(), S::Error>
     requires { value < 65536 }
     ensures ok { OnOk result (S.adds out.old (word_hex value) out.new) }
     ensures err { OnErr result (S.breaks out.old (word_hex value) out.new) }

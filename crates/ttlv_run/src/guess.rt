@@ -1,15 +1,18 @@
-//! What an input is taken as, where its encoding isn't named: raw messages, or one of the texts that stand for some.
+//! What an input is taken as, where its encoding isn't named: raw messages, a packet capture, or one of the texts that stand for some.
 
 ghost use Rattle.std.specs.Prelude.{◌≡◌, ◌<◌, ◌≤◌, ◌+◌, length, slice_index, take};
 ghost use Rattle.ttlv_run.specs.Columns.{mark_length, body};
 ghost use Rattle.ttlv_run.specs.Guesses.{is_control, has_control, are_four, is_capture, is_raw, looks_raw, first_byte, zeros, ends_offset, starts_dump};
-ghost use Rattle.ttlv_run.specs.Guesses.{starts_packet, has_packet, has_url_digit, by_first_byte, is_in_hexadecimal, is_hexadecimal, starts_digit, front_found, text_found, front_of, encoding_found};
+ghost use Rattle.ttlv_run.specs.Guesses.{starts_packet, has_packet, has_url_digit, by_first_byte, is_in_hexadecimal, is_hexadecimal, starts_digit, front_found, text_found, front_of, raw_found, encoding_found};
 
 use crate::form::{is_between, is_hex_digit};
 use crate::job::Encoding;
 
 /// How many bytes of a text are its front, which shows hexadecimal digits and dumps.
 pub const FRONT: usize = 64;
+
+/// The TCP port of KMIP.
+pub const KMIP_PORT: usize = 5696;
 
 /// How many decide the encoding of any other text.
 pub const LONG_FRONT: usize = 1024;
@@ -59,7 +62,7 @@ fn is_raw(bytes: &[u8]) -> bool
     has_control(bytes) || is_capture(bytes)
 }
 
-/// Whether an input is raw: its first four bytes hold one that stands in no text, or begin a packet capture, which is none.
+/// Whether an input is raw: its first four bytes hold one that stands in no text, or begin a packet capture.
 pub fn looks_raw(input: &[u8]) -> bool
     ensures { result ≡ looks_raw input.now }
 {
@@ -278,12 +281,22 @@ pub fn front_of(input: &[u8]) -> Option<Encoding>
     front_found(first_text(input, FRONT))
 }
 
+// What an input that is raw looks like, by its first four bytes.
+fn raw_found(four: &[u8]) -> Encoding
+    ensures { result ≡ raw_found four.now }
+{
+    if is_capture(four) {
+        return Encoding::Capture { port: KMIP_PORT };
+    }
+    Encoding::Raw
+}
+
 /// What an input looks like.
 pub fn encoding_found(input: &[u8]) -> Encoding
     ensures { result ≡ encoding_found input.now }
 {
     if looks_raw(input) {
-        return Encoding::Raw;
+        return raw_found(first(input, 4));
     }
     text_found(front_of(input), first_text(input, LONG_FRONT))
 }

@@ -107,6 +107,8 @@ pub enum Encoding {
     /// Lines of `tcpdump -x` or `-X`: indented ones are an offset with `0x`, digits, and the text that they are;
     /// others are left out.
     Packets,
+    /// A packet capture, of pcap or pcapng, whose messages are those that TCP carries on this port.
+    Capture { port: usize },
 }
 
 impl Encoding {
@@ -123,6 +125,7 @@ impl Encoding {
             Encoding::Armoured => "armoured base64",
             Encoding::Dump => "a hexadecimal dump",
             Encoding::Packets => "a dump of packets",
+            Encoding::Capture { .. } => "a packet capture",
         }
     }
 }

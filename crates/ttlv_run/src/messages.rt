@@ -204,8 +204,8 @@ fn wrong_words(wrong: Wrong) -> &'static str
     }
 }
 
-// What the input looks like, if the first message is wrong where it begins.
-fn kind_at(place: Place) -> Option<InputKind>
+/// What the input looks like, if the first message is wrong where it begins.
+pub fn kind_at(place: Place) -> Option<InputKind>
     ensures { result ≡ kind_at place }
 {
     if place.offset == 0 {

@@ -3,9 +3,10 @@
 ghost use Rattle.std.specs.Prelude.{◌≡◌, ℕ, List, false, map, bytes_eq, codes, IfOk};
 ghost use Rattle.clap.specs.Matches.{found_of, one_text};
 ghost use Rattle.clap.specs.declared.parser.matches.Found.{Found};
-ghost use Rattle.ttlv_run.specs.Requests.{is_given, is_set, encoding_in, prefix_in, values_in, IsWidth, IsLook, hiding_in, color_in, is_closed, is_strict, IsTask, texts_in, IsAsked, IsRequest, is_useless, tells_lengths, finds, names_encoding};
+ghost use Rattle.ttlv_run.specs.Requests.{is_given, is_set, port_or, by_port, encoding_in, IsEncoding, prefix_in, values_in, IsWidth, IsLook, hiding_in, color_in, is_closed, is_strict, IsTask, texts_in, IsAsked, IsRequest, is_useless, tells_lengths, finds, names_encoding};
 
 use crate::command::program;
+use crate::guess::KMIP_PORT;
 use crate::job::{Asked, Encoding, Look, Strict, Task, Values};
 use clap::error::ErrorKind;
 use clap::{ArgMatches, Error};
@@ -66,9 +67,41 @@ fn is_set(matches: &ArgMatches<'_>, flag: &str) -> bool
     is_given(matches, flag, "true")
 }
 
-#[tactic(auto, unfolding(crate::specs::Requests::encoding_in))]
+// A packet capture, of a port or of that of KMIP.
+fn port_or(port: Option<usize>) -> Encoding
+    ensures { result ≡ port_or port }
+{
+    match port {
+        Some(port) => Encoding::Capture { port },
+        None => Encoding::Capture { port: KMIP_PORT },
+    }
+}
+
+// A port without an encoding is that of a packet capture.
+fn by_port(port: Option<usize>) -> Encoding
+    ensures { result ≡ by_port port }
+{
+    match port {
+        Some(port) => Encoding::Capture { port },
+        None => Encoding::Detected,
+    }
+}
+
+fn port_of(matches: &ArgMatches<'_>) -> Option<usize>
+    ensures { IsWidth (one_text (found_of matches.now) (codes "port")) result }
+{
+    matches.get_one("port")
+}
+
 fn encoding_of(matches: &ArgMatches<'_>) -> Encoding
-    ensures { result ≡ encoding_in (found_of matches.now) }
+    ensures { IsEncoding (found_of matches.now) result }
+{
+    encoding_by(matches, port_of(matches))
+}
+
+#[tactic(auto, unfolding(crate::specs::Requests::encoding_in))]
+fn encoding_by(matches: &ArgMatches<'_>, port: Option<usize>) -> Encoding
+    ensures { result ≡ encoding_in (found_of matches.now) port }
 {
     if is_given(matches, "input", "raw") {
         Encoding::Raw
@@ -88,8 +121,12 @@ fn encoding_of(matches: &ArgMatches<'_>) -> Encoding
         Encoding::Dump
     } else if is_given(matches, "input", "tcpdump") {
         Encoding::Packets
+    } else if is_given(matches, "input", "pcap") {
+        port_or(port)
+    } else if is_given(matches, "input", "pcapng") {
+        port_or(port)
     } else {
-        Encoding::Detected
+        by_port(port)
     }
 }
 

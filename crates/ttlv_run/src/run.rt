@@ -5,7 +5,7 @@ ghost use Rattle.std.specs.Io.KnownBytes.{Consumes, IsAtEnd};
 ghost use Rattle.kmip_ttlv_types.specs.Held.{Held, held, Gets, Says};
 ghost use Rattle.kmip_ttlv_util.specs.Pieces.{SomeText};
 ghost use Rattle.ttlv_run.specs.Backs.{ReadsBack, ReadsFront, back_line};
-ghost use Rattle.ttlv_run.specs.Ends.{Responds, IsEnded, IsDone};
+ghost use Rattle.ttlv_run.specs.Ends.{Responds, IsEnded, IsDone, RespondsAlone, RespondsPrint};
 ghost use Rattle.ttlv_run.specs.Escapes.{escape};
 ghost use Rattle.ttlv_run.specs.Reasons.{IsOfPrinting, PrintsFront, IsOfError, Reports, place_report, error_line};
 ghost use Rattle.ttlv_run.specs.Fronts.{front_size, Begins, BeginFails};
@@ -16,7 +16,7 @@ ghost use Rattle.ttlv_run.specs.Runs.{streams, behind_all, Places, RespondsBack}
 ghost use Rattle.ttlv_run.specs.Texts.{names_of};
 
 use crate::back::{BackFault, BackReached, print_back};
-use crate::coding::{encoding_of, form_of, front_size};
+use crate::coding::{encoding_of, form_of, front_size, port_of};
 use crate::digits::print_digits;
 use crate::escape::{NameSink, push_text};
 use crate::find::{find_messages, report_find_fault};
@@ -26,6 +26,7 @@ use crate::memory::Memory;
 use crate::messages::{Place, Reached, fault_line, print_all, wants_message};
 use crate::misread::report_misread;
 use crate::run_error::{RunError, status_in};
+use crate::traffic::respond_packets;
 use crate::window::Window;
 use itoa::Buffer;
 use kmip_ttlv_types::stream::{Sink, Source};
@@ -136,27 +137,30 @@ fn read_front<A: Allocator, R: Source>(
     Ok(false)
 }
 
-// Prints what a job asks for, message by message, and gives the first fault.
+// Prints what a job asks for, message by message, of an input that begins with what was read, and gives the first fault.
 fn print_input<A: Allocator + Copy, B: Allocator + Copy, R: Source, W: Sink>(
     memory: Memory<A, B>,
     job: &Job<'_>,
     names: &Names<'_, B>,
+    window: Window<A>,
+    ended: bool,
     input: &mut R,
     output: &mut W,
 ) -> Result<Option<Place>, RunError>
-    ensures { Places (names_of names.now) job.now
-        (streams R.can_fail (R.left input.old) (R.left input.new) (held W.emitted W.room output.old) (held W.emitted W.room output.new)) result }
+    requires front { ended ≡ false → front_size job.now.encoding (window_bytes window) ≤ length (window_bytes window) }
+    requires at_end { ended ≡ true → IsAtEnd (R.left input.old) }
+    ensures { (known : Option (List ℕ)) → Consumes known (R.left input.old) (window_bytes window)
+        → Places (names_of names.now) job.now
+        (streams R.can_fail known (R.left input.new) (held W.emitted W.room output.old) (held W.emitted W.room output.new)) result }
 {
-    let mut window = Window::new(memory.input);
-    let ended = read_front(job.encoding, &mut window, input)?;
     match form_of(encoding_of(job.encoding, window.buffered())) {
         Some(form) => print_digits(memory, job, names, form, window, ended, input, output),
         None => print_raw(memory.rest, job, names, window, ended, input, output),
     }
 }
 
-// What is told of a fault: of a task that prints whole messages alone no tag.
-fn place_told(task: Task<'_>, place: Place) -> Place
+/// What is told of a fault: of a task that prints whole messages alone no tag.
+pub(crate) fn place_told(task: Task<'_>, place: Place) -> Place
     ensures { result ≡ place_told task.entry place }
 {
     match task {
@@ -297,6 +301,59 @@ fn report_back_fault<E: Sink>(errors: &mut E, name: &str, fault: BackFault)
     report(errors, writable, "\n");
 }
 
+// Prints what a job asks for of an input that is no packet capture, and begins with what was read; returns whether all of it is whole.
+// What is malformed is reported.
+fn print_alone<A: Allocator + Copy, B: Allocator + Copy, R: Source, W: Sink, E: Sink>(
+    memory: Memory<A, B>,
+    job: &Job<'_>,
+    names: &Names<'_, B>,
+    window: Window<A>,
+    ended: bool,
+    input: &mut R,
+    output: &mut W,
+    errors: &mut E,
+) -> Result<bool, RunError>
+    requires front { ended ≡ false → front_size job.now.encoding (window_bytes window) ≤ length (window_bytes window) }
+    requires at_end { ended ≡ true → IsAtEnd (R.left input.old) }
+    ensures { (known : Option (List ℕ)) → Consumes known (R.left input.old) (window_bytes window)
+        → RespondsAlone (names_of names.now) job.now
+        (streams R.can_fail known (R.left input.new) (held W.emitted W.room output.old) (held W.emitted W.room output.new))
+        (held E.emitted E.room errors.old) (held E.emitted E.room errors.new) result }
+{
+    let Some(place) = print_input(memory, job, names, window, ended, input, output)? else {
+        return Ok(true);
+    };
+    let line = fault_line(memory.rest, names, job.name, place_told(job.task, place))?;
+    let _ = errors.send(line.as_bytes());
+    Ok(false)
+}
+
+// Prints what a job asks for of an input's messages, or of those of a packet capture, and returns whether all is whole. What isn't is
+// reported.
+fn print_asked<A: Allocator + Copy, B: Allocator + Copy, R: Source, W: Sink, E: Sink>(
+    memory: Memory<A, B>,
+    job: &Job<'_>,
+    names: &Names<'_, B>,
+    input: &mut R,
+    output: &mut W,
+    errors: &mut E,
+) -> Result<bool, RunError>
+    ensures { RespondsPrint (names_of names.now) job.now
+        (streams R.can_fail (R.left input.old) (R.left input.new) (held W.emitted W.room output.old) (held W.emitted W.room output.new))
+        (held E.emitted E.room errors.old) (held E.emitted E.room errors.new) result }
+{
+    let mut window = Window::new(memory.input);
+    let ended = read_front(job.encoding, &mut window, input)?;
+    match port_of(encoding_of(job.encoding, window.buffered())) {
+        Some(port) => {
+            respond_packets(
+                memory, job, port, names, window, ended, input, output, errors,
+            )
+        }
+        None => print_alone(memory, job, names, window, ended, input, output, errors),
+    }
+}
+
 // Does with an input what is asked, and returns whether all of it is whole. What is malformed is reported.
 fn respond<A: Allocator + Copy, B: Allocator + Copy, R: Source, W: Sink, E: Sink>(
     memory: Memory<A, B>,
@@ -318,12 +375,7 @@ fn respond<A: Allocator + Copy, B: Allocator + Copy, R: Source, W: Sink, E: Sink
                 task,
                 encoding,
             };
-            let Some(place) = print_input(memory, &job, names, input, output)? else {
-                return Ok(true);
-            };
-            let line = fault_line(memory.rest, names, name, place_told(task, place))?;
-            let _ = errors.send(line.as_bytes());
-            Ok(false)
+            print_asked(memory, &job, names, input, output, errors)
         }
         Asked::ReadBack { prefix } => {
             let Some(fault) = read_back(memory, prefix, names, input, output)? else {
@@ -382,6 +434,10 @@ pub(crate) fn run_to_end<A: Allocator + Copy, B: Allocator + Copy, R: Source, W:
 /// Where no encoding was named, that is from when the input's first bytes decide it: four that it is raw, 64 that it is
 /// hexadecimal or a dump, 1,024 anything else. With status 1 the output has what is printed up to the fault, and nothing more is
 /// read. If reading fails or the digits of a text are those of no bytes, it has what is printed of the messages that were whole.
+///
+/// *Packet captures* are read to their end, and the messages that TCP carries on a port are printed in the order of their packets, as
+/// readable lines each behind a line with its time and its direction. With status 1 one line on `errors` says each thing that is wrong, a
+/// hundred at most: a message is malformed, bytes of a direction are missing, the capture ends early, or none of it has a message.
 ///
 /// *Diagnostics* are read back, each in a line of its own, which is printed before the next read if all of it is there. With status 1 all
 /// lines are read back, each as far as it goes, and the first that is not whole is reported. With status 2 the output has what the lines

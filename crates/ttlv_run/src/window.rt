@@ -70,7 +70,7 @@ pub struct Window<A: Allocator> {
 }
 
 impl<A: Allocator> Window<A> {
-    ghost use Rattle.ttlv_run.specs.Streaming.{window_bytes, YieldsBy, YieldsLines, LinesFail};
+    ghost use Rattle.ttlv_run.specs.Streaming.{window_bytes, YieldsBy, YieldsLines, LinesFail, YieldsAll};
 
     /// No bytes. Takes no memory.
     pub fn new(alloc: A) -> Window<A>
@@ -167,6 +167,20 @@ impl<A: Allocator> Window<A> {
                 return Ok(false);
             }
         }
+    }
+
+    /// Reads all that is left, if the input didn't end before.
+    pub fn read_rest<R: Source>(&mut self, ended: bool, input: &mut R) -> Result<(), RunError>
+        requires { ended ≡ true → IsAtEnd (R.left input.old) }
+        ensures ok { OnOk result (YieldsAll (R.left input.old) (R.left input.new) (window_bytes self.old) (window_bytes self.new)) }
+        ensures why { IfErr result (IsUnread R.can_fail) }
+    {
+        let mut at_end = ended;
+        'pieces: while !at_end {
+            let room = self.room_for_line();
+            at_end = self.read_behind(input, room)? == 0;
+        }
+        Ok(())
     }
 
     /// Adds bytes behind those that are there.
