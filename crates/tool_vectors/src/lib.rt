@@ -1,6 +1,6 @@
 //! Tests of the tool `ttlv`: what a run prints of worked messages in each encoding, the status and the
 //! error line of malformed or undecodable input, the results of failing allocations, failing writers and
-//! closed pipes, the memory of long lines, what is printed of long inputs and of raw messages, texts and diagnostics that come in pieces, what the
+//! closed pipes, the memory of long lines, what is printed of long inputs, packet captures and raw messages, texts and diagnostics that come in pieces, what the
 //! command line asks for, and what each of its options comes to.
 #![tactic(auto)]
 
@@ -8,6 +8,8 @@
 mod attributes;
 #[cfg(test)]
 mod backs;
+#[cfg(test)]
+mod captures;
 #[cfg(test)]
 mod dumps;
 #[cfg(test)]

@@ -1,5 +1,6 @@
 //! The tool from its words to what it prints: each option, on messages that hold keys.
 
+use crate::captures::{GAP, TAGGED, TAGGED_LINES, TALK, TALK_DIGITS, TALK_LINES};
 use crate::runs::Outcome;
 use kmip_ttlv_memory::{BoundedAllocator, Wiping};
 use std::alloc::{AllocError, Global};
@@ -48,6 +49,8 @@ impl Opener for Folder {
             "key" => KEY.as_bytes(),
             "own" => OWN.as_bytes(),
             "leak" => LEAK.as_bytes(),
+            "capture" => TALK.as_slice(),
+            "tagged" => TAGGED.as_slice(),
             "own.txt" => b"# Ours.\n540002 Own Secret\n".as_slice(),
             "same.txt" => b"540009 own secret\n540002 Own Secret\n".as_slice(),
             "values.txt" => b"540002 Own Secret\n540002:00000001 A Value\n".as_slice(),
@@ -113,7 +116,7 @@ const COLORED_ONE: &str =
 const LEAK_LINES: &str =
     "Tag: Key Block (0x420040), Type: Structure (0x01), Data:\n  Tag: Key Material (0x420043), Type: Structure (0x01), Data:\n";
 
-const ROWS: [Row; 48] = [
+const ROWS: [Row; 52] = [
     ("show --redact=keys key", PLAIN, 0, SHOWN_KEY, ""),
     ("show --raw --redact=keys key", PLAIN, 0, SHOWN_KEY, ""),
     ("show --redact key", PLAIN, 0, REDACTED_KEY, ""),
@@ -355,6 +358,17 @@ const ROWS: [Row; 48] = [
         "",
     ),
     ("check own key", PLAIN, 0, "", ""),
+    // Packet captures: with a gap, of a port with a message and of one without, and in the other format.
+    ("show capture", PLAIN, 1, TALK_LINES, GAP),
+    ("hex --port 40000 capture", PLAIN, 1, TALK_DIGITS, GAP),
+    (
+        "check --input pcap --port 443 capture",
+        PLAIN,
+        1,
+        "",
+        "capture: no message on TCP port 443 (--port)\n",
+    ),
+    ("show --redact tagged", PLAIN, 0, TAGGED_LINES, ""),
 ];
 
 // A tag as it is named, the table of names, a file, and what is printed of it.
