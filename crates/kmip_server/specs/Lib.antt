@@ -1,0 +1,9 @@
+pub mod Abilities
+pub mod Batches
+pub mod Conversions
+pub mod Items
+pub mod Logs
+pub mod Messages
+pub mod Refusals
+pub mod Replies
+pub mod Serving

@@ -1,0 +1,30 @@
+//! A server of KMIP over any reader and writer: batches, versions, limits, refusals and the log are its own, and what is done of one
+//! item is a `Handler`'s, which its author writes.
+//!
+//! `serve` is the call, `respond` and `reply_bytes` its parts for callers with a loop of their own. `items` is one item and its answer,
+//! `batch` the items of a request, `terms` and `messages` a whole request, `reply` the bytes of a response, `log` the lines of the log.
+//! `codec` is all that the crate knows of the types of messages, so that what stands on it is proved for any. It needs `kmip_messages`.
+//!
+//! ```
+//! let limits = Limits { request: 65_536, response: 65_536 };
+//! let budget = BoundedAllocator::new(rt.alloc(), 1_048_576); // of each message, one after the other
+//! let end = serve::<Kmip, _, _, _, _, _>(&mut handler, &budget, limits, &mut reader, &mut writer, &mut log);
+//! ```
+//!
+//! What is not promised: that a request is handled once if its client sends it again; which items were done when memory ran out, or the
+//! writer or the log failed; that the time is right.
+#![tactic(auto)]
+
+pub mod abilities;
+pub mod batch;
+pub mod codec;
+pub mod handler;
+pub mod items;
+pub mod log;
+pub mod messages;
+pub mod refusal;
+pub mod reply;
+pub mod serve;
+pub mod terms;
+#[cfg(test)]
+mod tests;
