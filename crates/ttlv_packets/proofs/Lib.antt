@@ -4,3 +4,4 @@ pub mod Streaming
 pub mod Splitting
 pub mod Carrying
 pub mod Orders
+pub mod Rows

@@ -1,11 +1,12 @@
 -- What TCP carries on a port of a capture.
-use Rattle.std.specs.Prelude.{◌≡◌, ℕ, ◌+◌, ◌<◌, List, [], ◌∷◌, ◌++◌, length, take, drop, None, IsPermutation, IsSorted}
+use Rattle.std.specs.Prelude.{◌≡◌, ℕ, ◌+◌, ◌<◌, Bool, true, false, List, [], ◌∷◌, ◌++◌, length, take, drop, None, IsPermutation, IsSorted}
 use Rattle.std.specs.declared.cmp.Ordering.{Ordering}
 use Rattle.ttlv_packets.specs.declared.segment.Segment.{Segment}
 use Rattle.ttlv_packets.specs.declared.place.Placed.{Placed}
 use Rattle.ttlv_packets.specs.declared.place.TheConstants.{FIRST}
 use Rattle.ttlv_packets.specs.declared.message.Message.{Message}
-use Rattle.ttlv_packets.specs.Files.{HasSegments, classic_order}
+use Rattle.ttlv_packets.specs.Files.{HasSegments, classic_order, is_capture}
+use Rattle.ttlv_packets.specs.Listings.{HasListing}
 use Rattle.ttlv_packets.specs.Orders.{segment_order, placed_order, message_order}
 use Rattle.ttlv_packets.specs.Streams.{places, stream_bytes, reach, first_run}
 use Rattle.ttlv_packets.specs.Messages.{Splits, gaps}
@@ -39,15 +40,25 @@ pub record IsSortedOf {A : Type 0} (cmp : A → A → Ordering) (xs ys : List A)
   pub same : IsPermutation xs ys
   pub sorted : IsSorted cmp ys
 
--- the segments on a port, in the order of their flows and of the capture; their places, in the order of the streams and of these; the
+-- the segments of bytes, in the order of their flows and of the capture; their places, in the order of the streams and of these; the
 -- bytes and the messages that the streams have, and these in the order of their packets
-pub record IsRead (s : List ℕ) (port : ℕ) (bytes : List ℕ) (messages : List Message) (end : ℕ) : Type 0 where
-  pub segments : List Segment
+pub record IsPut (s : List ℕ) (segments : List Segment) (bytes : List ℕ) (messages : List Message) : Type 0 where
   pub by_flow : List Segment
   pub by_place : List Placed
   pub by_stream : List Message
-  pub found : HasSegments s port (classic_order s) end segments
   pub flows : IsSortedOf segment_order segments by_flow
   pub streams : IsSortedOf placed_order (places None by_flow) by_place
   pub carries : Carries s by_place (length by_place) bytes by_stream
   pub shown : IsSortedOf message_order by_stream messages
+
+-- the segments on a port up to an offset, and the bytes that they stand in: those of a capture, or else of the packets that a text lists
+abbrev pub IsFound : Bool → List ℕ → ℕ → List ℕ → ℕ → List Segment → Type 0
+IsFound true s port source end segments = (source ≡ s) × HasSegments s port (classic_order s) end segments
+IsFound false s port source end segments = HasListing s port source end segments
+
+-- these put together
+pub record IsRead (s : List ℕ) (port : ℕ) (bytes : List ℕ) (messages : List Message) (end : ℕ) : Type 0 where
+  pub source : List ℕ
+  pub segments : List Segment
+  pub found : IsFound (is_capture s) s port source end segments
+  pub put : IsPut source segments bytes messages

@@ -12,7 +12,8 @@ use std::alloc::{AllocError, Allocator};
 /// A message of a stream, or the place from which on bytes of it are missing.
 #[derive(Clone, Copy, Debug, PartialEq, Eq, PartialOrd, Ord)]
 pub struct Message {
-    /// The offset in the capture of the packet with its last byte, or of the first packet behind the gap.
+    /// The offset of the packet with its last byte, or of the first packet behind the gap: in the capture, or among the bytes of the packets
+    /// that a text lists.
     pub packet: usize,
     /// Where it begins in the bytes of all streams.
     pub start: usize,

@@ -2,12 +2,13 @@
 
 ghost use Rattle.std.specs.Prelude.{◌≡◌, ◌<◌, ◌≤◌, ◌+◌, ◌++◌, IfOk, OnOk, length, []};
 ghost use Rattle.ttlv_packets.specs.Files.{is_capture};
-ghost use Rattle.ttlv_packets.specs.Captures.{run_at, Carries, Carried, IsRead};
+ghost use Rattle.ttlv_packets.specs.Captures.{run_at, Carries, Carried, IsPut, IsRead};
 
+use crate::listing::read_listing;
 use crate::message::{Message, note_gap, split};
 use crate::place::{FIRST, Placed, places};
 use crate::stream::{assemble, first_run};
-use crate::walk::segments_in;
+use crate::walk::{Found, is_capture, segments_in};
 use std::alloc::{AllocError, Allocator};
 
 /// What TCP carries on a port of a capture.
@@ -69,7 +70,29 @@ fn carry_all<A: Allocator>(
     Ok(())
 }
 
-/// What TCP carries on a port of a capture, of pcap or pcapng.
+// Puts the segments together that stand in bytes of a capture, which was read up to an offset.
+fn put_together<A: Allocator + Copy>(
+    alloc: A,
+    source: &[u8],
+    mut found: Found<A>,
+) -> Result<Packets<A>, AllocError>
+    ensures put { IfOk result (λ packets. IsPut source.now found.segments.items packets.bytes.items packets.messages.items) }
+    ensures end { IfOk result (λ packets. packets.end ≡ found.end) }
+{
+    found.segments.sort()?;
+    let mut placed = places(alloc, found.segments.as_slice())?;
+    placed.sort()?;
+    let mut packets = Packets {
+        bytes: Vec::new(alloc),
+        messages: Vec::new(alloc),
+        end: found.end,
+    };
+    carry_all(&mut packets, source, placed.as_slice())?;
+    packets.messages.sort()?;
+    Ok(packets)
+}
+
+/// What TCP carries on a port of a capture: of pcap or pcapng, or else of the packets that tcpdump lists in a text (`-x`, `-X`, `-xx`, `-XX`).
 ///
 /// It fails only if memory runs out. For a capture of n bytes it takes time in the order of n log n, and memory in the order of n, which
 /// is up to some fifty times n where all its messages are empty.
@@ -80,16 +103,10 @@ pub fn read_packets<A: Allocator + Copy>(
 ) -> Result<Packets<A>, AllocError>
     ensures { IfOk result (λ packets. IsRead capture.now port packets.bytes.items packets.messages.items packets.end) }
 {
-    let mut found = segments_in(alloc, capture, port)?;
-    found.segments.sort()?;
-    let mut placed = places(alloc, found.segments.as_slice())?;
-    placed.sort()?;
-    let mut packets = Packets {
-        bytes: Vec::new(alloc),
-        messages: Vec::new(alloc),
-        end: found.end,
-    };
-    carry_all(&mut packets, capture, placed.as_slice())?;
-    packets.messages.sort()?;
-    Ok(packets)
+    if is_capture(capture) {
+        let found = segments_in(alloc, capture, port)?;
+        return put_together(alloc, capture, found);
+    }
+    let (bytes, found) = read_listing(alloc, capture, port)?;
+    put_together(alloc, bytes.as_slice(), found)
 }

@@ -1,4 +1,5 @@
-//! Captures, written by the descriptions of pcap, pcapng, Ethernet, 802.1Q, IPv4, IPv6 and TCP, and what is in them.
+//! Captures, written by the descriptions of pcap, pcapng, Ethernet, 802.1Q, IPv4, IPv6 and TCP, and as tcpdump prints them, and what is in
+//! them.
 
 use crate::flow::{Address, Endpoint, Flow, Time};
 use crate::message::Message;
@@ -73,6 +74,13 @@ const MIXED: [u8; 342] = [
     0, 0, 0, 0,
 ];
 
+// What `tcpdump -X` prints of the packet of ALONE, behind one of ARP, and `tcpdump -xx` on Ethernet.
+const LISTED: &[u8] =
+    b"reading from file, link-type RAW\n10:47:29.000000 ARP, Request who-has 192.0.2.2, length 28\n\t0x0000:  0001 0800 0604 0001 5255 0000 0001 c000  ........RU......\n\t0x0010:  0201 0000 0000 0000 c000 0202            ............\n10:47:30.000000 IP 192.0.2.1.40000 > 192.0.2.2.5696: Flags [.], seq 1:9, ack 0, win 0, length 8\n\t0x0000:  4500 0030 0000 0000 4006 0000 c000 0201  E..0....@.......\n\t0x0010:  c000 0202 9c40 1640 0000 0001 0000 0000  .....@.@........\n\t0x0020:  5010 0000 0000 0000 4200 7b01 0000 0000  P.......B.{.....\n";
+
+const LISTED_FRAME: &[u8] =
+    b"10:47:30.000000 IP (tos 0x0, ttl 64, id 0, offset 0, flags [none], proto TCP (6), length 48)\n    192.0.2.1.40000 > 192.0.2.2.5696: Flags [.], cksum 0x0000, seq 1:9, ack 0, win 0, length 8\n\t0x0000:  0000 0000 0000 0000 0000 0000 0800 4500\n\t0x0010:  0030 0000 0000 4006 0000 c000 0201 c000\n\t0x0020:  0202 9c40 1640 0000 0001 0000 0000 5010\n\t0x0030:  0000 0000 0000 4200 7b01 0000 0000\n";
+
 // Messages without content.
 const REQUEST: [u8; 8] = [0x42, 0, 0x78, 1, 0, 0, 0, 0];
 
@@ -123,7 +131,7 @@ struct Row {
     messages: &'static [Message],
 }
 
-const ROWS: [Row; 5] = [
+const ROWS: [Row; 7] = [
     Row {
         capture: &ALONE,
         port: 5696,
@@ -138,6 +146,35 @@ const ROWS: [Row; 5] = [
                 seconds: 1,
                 micros: 0,
             }),
+            gap: false,
+        }],
+    },
+    // Times aren't read.
+    Row {
+        capture: LISTED,
+        port: 5696,
+        bytes: &RESPONSE,
+        messages: &[Message {
+            packet: 28,
+            start: 0,
+            size: 8,
+            offset: 0,
+            flow: ASKS,
+            time: None,
+            gap: false,
+        }],
+    },
+    Row {
+        capture: LISTED_FRAME,
+        port: 5696,
+        bytes: &RESPONSE,
+        messages: &[Message {
+            packet: 0,
+            start: 0,
+            size: 8,
+            offset: 0,
+            flow: ASKS,
+            time: None,
             gap: false,
         }],
     },

@@ -26,8 +26,8 @@ struct Known<A: Allocator> {
     interfaces: Vec<Interface, A>,
 }
 
-// Adds what a part carries.
-fn carry<A: Allocator>(
+/// Adds what a part carries.
+pub fn carry<A: Allocator>(
     segments: &mut Vec<Segment, A>,
     capture: &[u8],
     kind: BlockKind,
