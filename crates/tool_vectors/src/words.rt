@@ -301,7 +301,8 @@ const ASKED: [Row; 27] = [
 ];
 
 // Arguments that ask for no run, and the exit status: help, the version, and mistakes.
-const OTHERS: [(&str, i32); 15] = [
+const OTHERS: [(&str, i32); 16] = [
+    ("ttlv show --find --port 5696", 2),
     ("ttlv from-json --input raw", 2),
     ("ttlv --help", 0),
     ("ttlv show --help", 0),

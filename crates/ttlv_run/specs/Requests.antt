@@ -173,6 +173,6 @@ abbrev pub tells_lengths : Found → Bool
 tells_lengths f =
     is_set f (codes "lengths") && (is_given f (codes "redact") (codes "all") || is_given f (codes "redact") (codes "keys"))
 
--- messages are looked for in any notation, and an encoding is named
+-- messages are looked for in any notation, and an encoding or a port is named
 abbrev pub names_encoding : Found → Bool
-names_encoding f = is_set f (codes "find") && is_some (matched_of f (codes "input"))
+names_encoding f = is_set f (codes "find") && (is_some (matched_of f (codes "input")) || is_some (matched_of f (codes "port")))

@@ -19,8 +19,9 @@ const NO_USE: &str = "--secrets hides nothing without --redact=keys";
 /// Why lengths are refused.
 const TELLS: &str = "--lengths tells how long the values are that --redact hides";
 
-/// Why an encoding is refused where messages are looked for.
-const ANY_NOTATION: &str = "--find looks for messages in any notation, so --input names none";
+/// Why an encoding and a port are refused where messages are looked for.
+const ANY_NOTATION: &str =
+    "--find looks for messages in any notation, so it takes no --input and no --port";
 
 /// When lines are coloured.
 #[derive(Clone, Copy, Debug, PartialEq, Eq)]
@@ -352,15 +353,15 @@ fn tells_lengths(matches: &ArgMatches<'_>) -> bool
         && (is_given(matches, "redact", "all") || is_given(matches, "redact", "keys"))
 }
 
-// Whether messages are looked for in any notation, and an encoding is named.
+// Whether messages are looked for in any notation, and an encoding or a port is named.
 fn names_encoding(matches: &ArgMatches<'_>) -> bool
     ensures { result ≡ names_encoding (found_of matches.now) }
 {
-    is_set(matches, "find") && matches.contains_id("input")
+    is_set(matches, "find") && (matches.contains_id("input") || matches.contains_id("port"))
 }
 
 /// What words ask for, the first of which is the program's name. `--secrets` without `--redact=keys` is wrong usage, and so are
-/// `--lengths` with any `--redact` and `--find` with `--input`. The error is to be printed, on standard output for help and the version, and has the exit status.
+/// `--lengths` with any `--redact` and `--find` with `--input` or `--port`. The error is to be printed, on standard output for help and the version, and has the exit status.
 pub fn request_of<'w>(alloc: Global, words: &'w [String]) -> Result<Request<'w>, Error>
     ensures { IfOk result (λ r. (command : List ℕ) × (f : Found) × IsRequest command f r
         × (is_useless f ≡ false) × (tells_lengths f ≡ false) × (names_encoding f ≡ false)) }
