@@ -37,6 +37,10 @@ pub const TAGGED: [u8; 196] = [
     0, 0, 0, 0, 0, 0x88,
 ];
 
+/// What `tcpdump -x` prints of the first capture.
+pub const LISTED: &[u8] =
+    b"10:47:30.250000 IP 192.0.2.1.40000 > 192.0.2.2.5696: Flags [.], seq 1:25, ack 0, win 0, length 24\n\t0x0000:  4500 0040 0000 0000 4006 0000 c000 0201\n\t0x0010:  c000 0202 9c40 1640 0000 0001 0000 0000\n\t0x0020:  5010 0000 0000 0000 4200 7801 0000 0010\n\t0x0030:  4200 6a02 0000 0004 0000 0001 0000 0000\n10:47:30.500000 IP 192.0.2.2.5696 > 192.0.2.1.40000: Flags [.], seq 1:25, ack 0, win 0, length 24\n\t0x0000:  4500 0040 0000 0000 4006 0000 c000 0202\n\t0x0010:  c000 0201 1640 9c40 0000 0001 0000 0000\n\t0x0020:  5010 0000 0000 0000 4200 7b01 0000 0010\n\t0x0030:  4200 7f05 0000 0004 0000 0000 0000 0000\n10:47:30.750000 IP 192.0.2.1.40000 > 192.0.2.2.5696: Flags [.], seq 30:49, ack 0, win 0, length 19\n\t0x0000:  4500 003b 0000 0000 4006 0000 c000 0201\n\t0x0010:  c000 0202 9c40 1640 0000 001e 0000 0000\n\t0x0020:  5010 0000 0000 0000 0000 1042 006a 0200\n\t0x0030:  0000 0400 0000 0100 0000 00\n";
+
 /// The lines of a request, and of a response.
 pub const TALK_LINES: &str =
     "At 2009-11-12T10:47:30Z +250000us 192.0.2.1:40000 > 192.0.2.2:5696\nTag: Request Message (0x420078), Type: Structure (0x01), Data:\n  Tag: Protocol Version Major (0x42006A), Type: Integer (0x02), Data: 0x000001 (1)\nAt 2009-11-12T10:47:30Z +500000us 192.0.2.2:5696 > 192.0.2.1:40000\nTag: Response Message (0x42007B), Type: Structure (0x01), Data:\n  Tag: Result Status (0x42007F), Type: Enumeration (0x05), Data: 0x000000 (0) Success\n";

@@ -2,7 +2,7 @@
 //! capture: whole inputs and pieces, readers that fail, and failing allocations. In which notations messages are found, and what
 //! captures hold, are rows of `.ci/test-tool`.
 
-use crate::captures::{GAP, TALK, TALK_DIGITS};
+use crate::captures::{GAP, LISTED, TALK, TALK_DIGITS};
 use crate::pieces::asked_slow;
 use crate::runs::{Outcome, no_names, run_asked};
 use kmip_ttlv_memory::BoundedAllocator;
@@ -31,10 +31,11 @@ type Row = (
     &'static str,
 );
 
-const ROWS: [Row; 3] = [
+const ROWS: [Row; 4] = [
     (FIND, TWO, 0, LINES, ""),
     (FIND, b"", 1, "", "capture: no message\n"),
     (DIGITS, &TALK, 1, TALK_DIGITS, GAP),
+    (DIGITS, LISTED, 1, TALK_DIGITS, GAP),
 ];
 
 // A run on an input in memory.

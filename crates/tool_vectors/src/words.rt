@@ -284,7 +284,7 @@ const ASKED: [Row; 27] = [
                 kmip: false,
                 empty: false,
             },
-            encoding: Encoding::Packets,
+            encoding: Encoding::Capture { port: 5696 },
         },
         None,
         0,

@@ -1,5 +1,5 @@
 -- What an input looks like: raw messages, or one of the texts that stand for some.
-use Rattle.std.specs.Prelude.{ℕ, ◌+◌, Bool, true, false, ◌==◌, ◌||◌, ◌&&◌, List, [], ◌∷◌, take, slice_index, nat_lt}
+use Rattle.std.specs.Prelude.{ℕ, ◌+◌, ◌-◌, Bool, true, false, ◌==◌, ◌||◌, ◌&&◌, List, [], ◌∷◌, take, drop, slice_index, nat_lt}
 use Rattle.std.specs.Prelude.{Option, Some, None, if◌then◌else◌}
 use Rattle.ttlv_run.specs.declared.job.Encoding.{Encoding}
 use Rattle.ttlv_run.specs.declared.job.Encoding.TheVariants.{Raw, Hexadecimal, Base64, Base64Url, Armoured, Dump, Packets, Capture}
@@ -56,7 +56,27 @@ starts_packet s =
     slice_index s 0 == 48 && (slice_index s 1 == 120 && (slice_index s 2 == 48 && (slice_index s 3 == 48
     && (slice_index s 4 == 48 && (slice_index s 5 == 48 && slice_index s 6 == 58)))))
 
--- or anywhere in it
+-- a space or a tab
+abbrev pub is_blank : ℕ → Bool
+is_blank b = b == 32 || b == 9
+
+-- the byte at a place of a text without its blanks
+abbrev pub unspaced_at : ℕ → List ℕ → ℕ
+unspaced_at n [] = 0
+unspaced_at n (b ∷ s) = if is_blank b then unspaced_at n s else if n == 0 then b else unspaced_at (n - 1) s
+
+-- behind it the digits of a message of KMIP stand, whose tag begins with 42, and its type is Structure: `4200 7801`
+abbrev pub starts_message : List ℕ → Bool
+starts_message s =
+    starts_packet s && (unspaced_at 0 (drop 7 s) == 52 && (unspaced_at 1 (drop 7 s) == 50
+    && (unspaced_at 6 (drop 7 s) == 48 && unspaced_at 7 (drop 7 s) == 49)))
+
+-- that stands anywhere in a text
+abbrev pub has_message : List ℕ → Bool
+has_message [] = false
+has_message (b ∷ s) = starts_message (b ∷ s) || has_message s
+
+-- `0x0000:` does
 abbrev pub has_packet : List ℕ → Bool
 has_packet [] = false
 has_packet (b ∷ s) = starts_packet (b ∷ s) || has_packet s
@@ -100,18 +120,22 @@ front_length = 64
 abbrev pub long_front : ℕ
 long_front = 1024
 
--- what the front of a text shows: a dump of packets, another dump, or hexadecimal digits; or none of these
+-- what the front of a text shows: messages that tcpdump prints without headers, another dump, or hexadecimal digits; or none of these
 abbrev pub front_found : List ℕ → Option Encoding
 front_found s =
-    if has_packet s then Some Packets
+    if has_message s then Some Packets
+    else if has_packet s then None
     else if starts_dump s then Some Dump
     else if starts_digit (first_byte s) && is_hexadecimal s then Some Hexadecimal
     else None
 
--- what a text looks like: what its front shows, or else what a longer one does
+-- what a text looks like: what its front shows, or else what a longer one does, packets that tcpdump lists among them
 abbrev pub text_found : Option Encoding → List ℕ → Encoding
 text_found (Some e) s = e
-text_found None s = if has_packet s then Packets else by_first s (first_byte s)
+text_found None s =
+    if has_message s then Packets
+    else if has_packet s then Capture KMIP_PORT
+    else by_first s (first_byte s)
 
 -- what the front of an input that isn't raw shows
 abbrev pub front_of : List ℕ → Option Encoding

@@ -53,7 +53,7 @@ encoding_in f port =
     else if is_given f (codes "input") (codes "xxd") then encoding.Dump
     else if is_given f (codes "input") (codes "hexdump") then encoding.Dump
     else if is_given f (codes "input") (codes "od") then encoding.Dump
-    else if is_given f (codes "input") (codes "tcpdump") then encoding.Packets
+    else if is_given f (codes "input") (codes "tcpdump") then port_or port
     else if is_given f (codes "input") (codes "pcap") then port_or port
     else if is_given f (codes "input") (codes "pcapng") then port_or port
     else by_port port

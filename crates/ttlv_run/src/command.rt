@@ -18,7 +18,8 @@ const EXAMPLES: &str = "Examples:
   ttlv from-json messages.json   the message of each line of JSON, in hexadecimal
   ttlv show --find server.log    the messages within anything else
   ttlv show capture.pcapng       the messages that TCP carries in a packet capture
-  xxd key.bin | ttlv show        a dump of xxd, hexdump -C, od -A x -t x1 or tcpdump -x
+  tcpdump -xr a.pcap | ttlv show the same of what tcpdump -x, -X, -xx or -XX prints
+  xxd key.bin | ttlv show        a dump of xxd, hexdump -C or od -A x -t x1
 
 Input is raw TTLV, hexadecimal, base64, a dump, or a packet capture; messages stand one
 after the other.

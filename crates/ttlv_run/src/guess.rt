@@ -1,9 +1,9 @@
 //! What an input is taken as, where its encoding isn't named: raw messages, a packet capture, or one of the texts that stand for some.
 
-ghost use Rattle.std.specs.Prelude.{◌≡◌, ◌<◌, ◌≤◌, ◌+◌, length, slice_index, take};
+ghost use Rattle.std.specs.Prelude.{◌≡◌, ◌<◌, ◌≤◌, ◌+◌, true, length, slice_index, take};
 ghost use Rattle.ttlv_run.specs.Columns.{mark_length, body};
 ghost use Rattle.ttlv_run.specs.Guesses.{is_control, has_control, are_four, is_capture, is_raw, looks_raw, first_byte, zeros, ends_offset, starts_dump};
-ghost use Rattle.ttlv_run.specs.Guesses.{starts_packet, has_packet, has_url_digit, by_first_byte, is_in_hexadecimal, is_hexadecimal, starts_digit, front_found, text_found, front_of, raw_found, encoding_found};
+ghost use Rattle.ttlv_run.specs.Guesses.{starts_packet, is_blank, unspaced_at, starts_message, has_message, has_packet, has_url_digit, by_first_byte, is_in_hexadecimal, is_hexadecimal, starts_digit, front_found, text_found, front_of, raw_found, encoding_found};
 
 use crate::form::{is_between, is_hex_digit};
 use crate::job::Encoding;
@@ -123,7 +123,8 @@ fn starts_dump(text: &[u8]) -> bool
 
 // Whether a text begins with the first offset of a packet, as tcpdump prints it: `0x0000:`.
 fn starts_packet(text: &[u8]) -> bool
-    ensures { result ≡ starts_packet text.now }
+    ensures is { result ≡ starts_packet text.now }
+    ensures inside { result ≡ true → 7 ≤ length text.now }
 {
     byte_at(text, 0) == 48
         && byte_at(text, 1) == 120
@@ -134,7 +135,55 @@ fn starts_packet(text: &[u8]) -> bool
         && byte_at(text, 6) == 58
 }
 
-// Whether it stands anywhere in a text.
+fn is_blank(b: u8) -> bool
+    ensures { result ≡ is_blank b }
+{
+    b == 32 || b == 9
+}
+
+// The byte at a place of a text without its blanks; 0 behind its end.
+fn unspaced_at(text: &[u8], place: usize) -> u8
+    ensures { result ≡ unspaced_at place text.now }
+{
+    let mut left = place;
+    for b in text {
+        if !is_blank(*b) {
+            if left == 0 {
+                return *b;
+            }
+            left -= 1;
+        }
+    }
+    0
+}
+
+// Whether a text begins with the first offset of a packet and a message of KMIP behind it: `0x0000:  4200 7801`.
+fn starts_message(text: &[u8]) -> bool
+    ensures { result ≡ starts_message text.now }
+{
+    if !starts_packet(text) {
+        return false;
+    }
+    let digits = &text[7..];
+    unspaced_at(digits, 0) == 52
+        && unspaced_at(digits, 1) == 50
+        && unspaced_at(digits, 6) == 48
+        && unspaced_at(digits, 7) == 49
+}
+
+// Whether that stands anywhere in a text.
+fn has_message(text: &[u8]) -> bool
+    ensures { result ≡ has_message text.now }
+{
+    for i in 0..text.len() {
+        if starts_message(&text[i..]) {
+            return true;
+        }
+    }
+    false
+}
+
+// Whether the first offset of a packet stands anywhere in a text.
 fn has_packet(text: &[u8]) -> bool
     ensures { result ≡ has_packet text.now }
 {
@@ -206,8 +255,11 @@ fn starts_digit(first: Option<u8>) -> bool
 fn front_found(text: &[u8]) -> Option<Encoding>
     ensures { result ≡ front_found text.now }
 {
-    if has_packet(text) {
+    if has_message(text) {
         return Some(Encoding::Packets);
+    }
+    if has_packet(text) {
+        return None;
     }
     if starts_dump(text) {
         return Some(Encoding::Dump);
@@ -225,8 +277,11 @@ fn text_found(front: Option<Encoding>, text: &[u8]) -> Encoding
     if let Some(encoding) = front {
         return encoding;
     }
-    if has_packet(text) {
+    if has_message(text) {
         return Encoding::Packets;
+    }
+    if has_packet(text) {
+        return Encoding::Capture { port: KMIP_PORT };
     }
     match first_byte(text) {
         Some(first) => by_first_byte(text, first),

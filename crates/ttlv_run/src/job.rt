@@ -104,10 +104,11 @@ pub enum Encoding {
     Armoured,
     /// Lines of `xxd`, of `hexdump -C` or of `od -A x -t x1`: an offset, digits, and the text that they are.
     Dump,
-    /// Lines of `tcpdump -x` or `-X`: indented ones are an offset with `0x`, digits, and the text that they are;
-    /// others are left out.
+    /// Lines of `tcpdump -x` or `-X` of messages without the headers of IP and TCP: indented ones are an offset with `0x`, digits, and
+    /// the text that they are; others are left out.
     Packets,
-    /// A packet capture, of pcap or pcapng, whose messages are those that TCP carries on this port.
+    /// A packet capture, of pcap or pcapng, or as `tcpdump -x`, `-X`, `-xx` or `-XX` prints one, whose messages are those that TCP
+    /// carries on this port.
     Capture { port: usize },
 }
 

@@ -121,7 +121,7 @@ fn encoding_by(matches: &ArgMatches<'_>, port: Option<usize>) -> Encoding
     } else if is_given(matches, "input", "od") {
         Encoding::Dump
     } else if is_given(matches, "input", "tcpdump") {
-        Encoding::Packets
+        port_or(port)
     } else if is_given(matches, "input", "pcap") {
         port_or(port)
     } else if is_given(matches, "input", "pcapng") {
