@@ -13,7 +13,14 @@ use Rattle.kmip_server.specs.Replies.{RepliesToRead}
 pub refuses_as : {A : Type 0} (version version' : ProtocolVersion) (reason reason' : ℕ) (response : Response A) → version ≡ version' → reason ≡ reason'
     → Refuses version reason response → Refuses version' reason' response
 refuses_as version version' reason reason' response versions reasons r = record {
-  version_is = r.version_is ∙ versions;
+  header = record {
+    version_is = r.header.version_is ∙ versions;
+    nonce = r.header.nonce;
+    password = r.header.password;
+    attestation = r.header.attestation;
+    client = r.header.client;
+    server = r.header.server;
+  };
   counted = r.counted;
   item = r.item;
   items_are = r.items_are;

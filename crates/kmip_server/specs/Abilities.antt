@@ -40,11 +40,20 @@ common own (v ∷ known) = filter (speaks (v ∷ known)) own
 abbrev pub asks : {A : Type 0} → QueryRequest A → Enumeration 0x420074 → Bool
 asks query function = is_among function query.functions.items
 
--- what a Query lists: of the operations (1), the kinds of objects (2) and the vendor (3) those that it asks for
+-- what a Query lists: of the operations (1), the kinds of objects (2) and the vendor (3) those that it asks for, and nothing else
 pub record AreListed {A : Type 0} (declared : Declaration) (query : QueryRequest A) (answer : QueryResponse A) : Type 0 where
   pub operations_are : answer.operations.items ≡ (if asks query record { number = 1 } then declared.operations else [])
   pub object_types_are : answer.object_types.items ≡ (if asks query record { number = 2 } then declared.object_types else [])
   pub vendor_is : option_map string_bytes answer.vendor_identification ≡ (if asks query record { number = 3 } then Some declared.vendor else None)
+  pub information : answer.server_information ≡ None
+  pub namespaces : answer.application_namespaces.items ≡ []
+  pub extensions : answer.extensions.items ≡ []
+  pub attestation : answer.attestation_types.items ≡ []
+  pub randomness : answer.rng_parameters.items ≡ []
+  pub profiles : answer.profiles.items ≡ []
+  pub validations : answer.validations.items ≡ []
+  pub capabilities : answer.capabilities.items ≡ []
+  pub registrations : answer.client_registration_methods.items ≡ []
 
 -- a Query is answered by what it asks for, or memory ran out
 abbrev pub AnswersQuery : {A : Type 0} → Declaration → QueryRequest A → Result (ResponsePayload A) Refusal → Type 0

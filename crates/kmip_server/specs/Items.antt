@@ -68,12 +68,17 @@ pub record SaysRefused {A : Type 0} (refusal : Refusal) (answer : ResponseItem A
   pub reason : answer.result_reason ≡ Some refusal.reason
   pub message : option_map string_bytes answer.result_message ≡ Some (message_of refusal)
   pub payload : answer.payload ≡ None
+  pub correlation : answer.asynchronous_correlation_value ≡ None
+  pub extension : answer.message_extension ≡ None
 
 -- an answer says that the item is done, with this payload
 pub record SaysDone {A : Type 0} (payload : ResponsePayload A) (answer : ResponseItem A) : Type 0 where
   pub status : answer.result_status.number ≡ 0
   pub reason : answer.result_reason ≡ None
+  pub message : answer.result_message ≡ None
   pub payload_is : answer.payload ≡ Some payload
+  pub correlation : answer.asynchronous_correlation_value ≡ None
+  pub extension : answer.message_extension ≡ None
 
 -- an answer with this payload wouldn't be sound: so one of another operation than the item's
 pub record IsUnfit {A : Type 0} (IsSound : ResponseItem A → Type 0) (payload : ResponsePayload A) (operation : Enumeration 0x42005C) : Type 0 where

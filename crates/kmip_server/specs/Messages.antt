@@ -4,6 +4,7 @@ use Rattle.kmip_ttlv_base.specs.declared.error.Error.{Error}
 use Rattle.kmip_ttlv_parts.specs.declared.enumeration.Enumeration.{Enumeration}
 use Rattle.kmip_headers.specs.declared.header.ProtocolVersion.{ProtocolVersion}
 use Rattle.kmip_headers.specs.declared.header.RequestHeader.{RequestHeader}
+use Rattle.kmip_headers.specs.declared.header.ResponseHeader.{ResponseHeader}
 use Rattle.kmip_messages.specs.declared.envelope.EnvelopeHeader.{EnvelopeHeader}
 use Rattle.kmip_messages.specs.declared.envelope.RequestEnvelope.{RequestEnvelope}
 use Rattle.kmip_messages.specs.declared.envelope.RequestEnvelopeItem.{RequestEnvelopeItem}
@@ -43,9 +44,18 @@ abbrev pub HeaderIs : {A : Type 0} → (Result (RequestHeader A) (Error A) → T
 HeaderIs {A} Reads (Ok header) = Reads (Ok header)
 HeaderIs {A} Reads (Err refusal) = (e : Error A) × Reads (Err e) × (reason_of refusal ≡ reason_for e)
 
+-- a header of a response says nothing but its version, its time and a count
+pub record IsPlain {A : Type 0} (version : ProtocolVersion) (header : ResponseHeader A) : Type 0 where
+  pub version_is : header.version ≡ version
+  pub nonce : header.nonce ≡ None
+  pub password : header.server_hashed_password ≡ None
+  pub attestation : header.attestation_types.items ≡ []
+  pub client : header.client_correlation_value ≡ None
+  pub server : header.server_correlation_value ≡ None
+
 -- the response that refuses a request as a whole: in this version, with one item, which is of no operation and says why
 pub record Refuses {A : Type 0} (version : ProtocolVersion) (reason : ℕ) (response : Response A) : Type 0 where
-  pub version_is : response.header.version ≡ version
+  pub header : IsPlain version response.header
   pub counted : response.header.batch_count ≡ pos 1
   pub item : ResponseItem A
   pub items_are : response.items.items ≡ item ∷ []
@@ -62,7 +72,7 @@ best (version ∷ versions) = version
 
 -- the response to a batch: in this version, with as many items as it says
 pub record IsResponse {A : Type 0} (version : ProtocolVersion) (response : Response A) : Type 0 where
-  pub version_is : response.header.version ≡ version
+  pub header : IsPlain version response.header
   pub counted : vec_len response.items < 2 ^ 31 → response.header.batch_count ≡ pos (vec_len response.items)
 
 -- nothing is done of a request, and its response says why

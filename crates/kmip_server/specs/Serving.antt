@@ -11,6 +11,7 @@ use Rattle.kmip_server.specs.declared.serve.End.TheVariants.{Input, Lost}
 use Rattle.kmip_server.specs.declared.serve.ServeError.{ServeError}
 use Rattle.kmip_server.specs.declared.serve.ServeError.TheVariants as errors
 use Rattle.kmip_server.specs.Logs.{IsLine}
+use Rattle.kmip_server.specs.Replies.{KeepsUnread}
 
 -- a server's handler, and what was written and logged, as far as that is known
 pub record Desk (H : Type 0) : Type 0 where
@@ -85,9 +86,10 @@ module _ {H A : Type 0} (Sends : H → Result (RequestEnvelope A) (Error A) → 
     pub logged : IsLogged old read came bytes new
     pub writes : AppendsFront old.written new.written bytes
 
-  -- there is no response: nothing is written
-  pub record HasNoReply (old : Desk H) (came : List ℕ) (new : Desk H) : Type 0 where
+  -- there is no response: nothing is written, and what is no request has reached no handler
+  pub record HasNoReply (old : Desk H) (read : Result (RequestEnvelope A) (Error A)) (came : List ℕ) (new : Desk H) : Type 0 where
     pub asked : Logs (codes "> ") came old.logged new.logged
+    pub kept : KeepsUnread old.handler read new.handler
     pub unwritten : new.written ≡ old.written
 
   -- the log fails at the line of the request, of which nothing is done, or at that of the response: nothing is written
@@ -107,7 +109,7 @@ module _ {H A : Type 0} (Sends : H → Result (RequestEnvelope A) (Error A) → 
   -- why a message is not answered, and what was done till then
   abbrev pub Breaks : Desk H → Result (RequestEnvelope A) (Error A) → List ℕ → ServeError A → Desk H → Type 0
   Breaks old read came (errors.Writer e) new = IsCutShort old read came new
-  Breaks old read came (errors.NoReply e) new = HasNoReply old came new
+  Breaks old read came (errors.NoReply e) new = HasNoReply old read came new
   Breaks old read came (errors.Log e) new = LosesAsked old came new ⊎ LosesAnswered old read came new
   Breaks old read came errors.Count new = ⊥
 
@@ -140,8 +142,11 @@ module _ {H A : Type 0} (answers : List ℕ → Result (RequestEnvelope A) (Erro
   -- One message that is not answered: what is read of the stream, and no byte more, and what was done till then
   pub record Stops (old : At H) (error : ServeError A) (new : At H) : Type 0 where
     pub read : Result (RequestEnvelope A) (Error A)
+    pub between : Bool
     pub came : List ℕ
     pub reads : Ends answers can_fail limit old.left new.left (Some came) read
+    pub leaves : Leaves can_fail limit old.left new.left (Some came) between read
+    pub is_due : is_silent read between ≡ false
     pub breaks : Breaks Sends old.desk read came error new.desk
 
   -- one message, whatever comes of it

@@ -139,6 +139,7 @@ pub fn reply_bytes<D: Codec<A>, H: Handler<A>, A: Allocator + Copy>(
     limit: u32,
 ) -> Result<Vec<u8, A>, NoReply<A>>
     ensures within { IfOk result (λ bytes. length bytes.items ≤ limit) }
+    ensures kept { OnErr result (KeepsUnread handler.old read handler.new) }
     ensures sends { IfOk result (λ bytes. Sends D.stated (Replies H.Admits (Answers (IsDone H.Does H.declaration D.ReadsItem) D.IsSound)
         D.ReadsHeader
         H.declaration limit) H.declaration limit handler.old read bytes.items handler.new) }

@@ -5,7 +5,14 @@ use Rattle.kmip_server.proofs.messages.response.Goals as goal
 
 pub returns-clause-is : goal.returns-clause-is
 returns-clause-is g c = record {
-  version_is = c.new-header.ensures.version;
+  header = record {
+    version_is = c.new-header.ensures.version;
+    nonce = c.new-header.ensures.nonce;
+    password = c.new-header.ensures.password;
+    attestation = c.new-header.ensures.attestation;
+    client = c.new-header.ensures.client;
+    server = c.new-header.ensures.server;
+  };
   counted = λ few.
       let fits : c.len.result < 2 ^ 31 = omega arith in
       let within : SFits w32 c.count.result = search rules in

@@ -19,8 +19,8 @@ returns-in-Ok-Some g c = record {
   answered = c.messages.invariant.led.answered;
   here = _;
   leads = c.messages.invariant.led.leads;
-  last_is = by_limit _ _ _ _ (Some c.args.limits.request) _ _ (Ok (Some c.in-Ok-Some.end)) _ c.messages.invariant.limit (ap (λ end. Ok end) c.in-Ok-Some.field-0-is)
-      c.in-Ok-Some.ensures.handles;
+  last_is = by_limit _ _ _ _ (Some c.args.limits.request) _ _ (Ok (Some c.in-Ok-Some.end)) _ c.messages.invariant.limit
+      (ap (λ end. Ok end) c.in-Ok-Some.field-0-is) c.in-Ok-Some.ensures.handles;
 }
 
 pub returns-in-Err : goal.returns-in-Err
@@ -28,7 +28,8 @@ returns-in-Err g c = record {
   answered = c.messages.invariant.led.answered;
   here = _;
   leads = c.messages.invariant.led.leads;
-  last_is = stops_last _ _ _ _ _ _ _ (by_limit _ _ _ _ (Some c.args.limits.request) _ _ (Err c.in-Err.error) _ c.messages.invariant.limit refl c.in-Err.ensures.handles);
+  last_is = stops_last _ _ _ _ _ _ _
+      (by_limit _ _ _ _ (Some c.args.limits.request) _ _ (Err c.in-Err.error) _ c.messages.invariant.limit refl c.in-Err.ensures.handles);
 }
 
 pub messages-preserved : goal.messages-preserved
