@@ -1,0 +1,7 @@
+mod Answering
+mod Refusing
+mod Deciding
+mod Asked
+mod Finding
+mod Versions
+mod Exchanging

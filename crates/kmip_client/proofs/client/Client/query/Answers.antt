@@ -1,0 +1,9 @@
+use Rattle.std.proofs.Common.{inl}
+use Rattle.kmip_client.proofs.Asked.{called}
+use Rattle.kmip_client.proofs.client.Client.query.Goals as goal
+
+pub returns-in-Ok-Query-clause-calls : goal.returns-in-Ok-Query-clause-calls
+returns-in-Ok-Query-clause-calls g c = called c.in_ok-asked.asked c.in_ok-asked.ensures c.in-Ok-Query.ensures.asks c.in-Ok-Query.field-0-is
+
+pub returns-in-Err-clause-calls : goal.returns-in-Err-clause-calls
+returns-in-Err-clause-calls g c = inl (record { asked = c.in_ok-asked.asked; is_asked = c.in_ok-asked.ensures; asks = c.in-Err.ensures.asks })

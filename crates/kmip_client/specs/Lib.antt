@@ -1,0 +1,9 @@
+pub mod Answers
+pub mod Asking
+pub mod Attributes
+pub mod Calling
+pub mod Exchanges
+pub mod Negotiation
+pub mod Payloads
+pub mod Refusals
+pub mod Turns
