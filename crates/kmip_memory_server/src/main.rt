@@ -1,0 +1,102 @@
+//! A server of KMIP 1.0 to 1.4 that keeps keys in memory: requests come on standard input, responses go to standard output, and the log,
+//! which shows no value, to standard error. `socat` or `stunnel` gives it TLS.
+//!
+//! `server` is what is done of one item. `making` has Create and Register, `showing` Get, Get Attributes and Get Attribute List, `finding`
+//! Locate, `living` Activate, Revoke and Destroy; `about` is what is known of an object, and `attributes` the same as attributes.
+//! `kmip_memory_store` keeps the objects, and `kmip_server` does the rest.
+#![tactic(auto)]
+
+mod about;
+mod attributes;
+mod finding;
+mod living;
+mod making;
+mod server;
+mod showing;
+
+use crate::server::Server;
+use clap::builder::ValueParser;
+use clap::{Arg, Command, Error};
+use kmip_server::serve::{Limits, serve};
+use kmip_ttlv::memory::{BoundedAllocator, Wiping};
+use std::alloc::Global;
+use std::process::ExitCode;
+use std::{env, io};
+
+/// The most bytes of a request, and of a response.
+const LIMITS: Limits = Limits {
+    request: 65_536,
+    response: 65_536,
+};
+
+/// How much memory a message may take, with its response, in bytes.
+const MESSAGE: usize = 4_194_304;
+
+/// How much memory all objects may take, in bytes.
+const OBJECTS: usize = 16_777_216;
+
+/// The status of words that the program doesn't have.
+const USAGE: u8 = 2;
+
+/// The status of what can't go on: memory ran out, or a stream failed.
+const FAILED: u8 = 3;
+
+// The time that is given, in seconds since 1970.
+fn time_of(alloc: Global, words: &[String]) -> Result<Option<i64>, Error> {
+    let time = Arg::new(alloc, "time")
+        .long("time")
+        .value_name("SECONDS")
+        .value_parser(ValueParser::unsigned(0, 4_294_967_295))
+        .help("Takes it to be this many seconds after 1970 began, for tests");
+    let command = Command::new(alloc, "kmip_memory_server")
+        .about("Serves KMIP on standard input and output, and keeps keys in memory")
+        .arg(time)?;
+    let matches = command.try_get_matches_from(words)?;
+    let given: Option<u32> = matches.get_one("time");
+    Ok(given.map(i64::from))
+}
+
+// Prints the help, or what is wrong with the words. The status.
+fn report(rt: &HostRuntime, error: &Error) -> u8 {
+    if error.use_stderr() {
+        let _ = eprint!(rt; "{error}");
+        return USAGE;
+    }
+    let _ = print!(rt; "{error}");
+    0
+}
+
+// The words of the command line.
+fn words(rt: &HostRuntime) -> io::Result<Vec<String>> {
+    Ok(env::args(rt)?.collect(rt.alloc())?)
+}
+
+// Serves until the input ends.
+fn run(rt: &HostRuntime, time: Option<i64>) -> u8 {
+    let memory = Wiping::new(rt.alloc());
+    let objects = BoundedAllocator::new(&memory, OBJECTS);
+    let messages = BoundedAllocator::new(&memory, MESSAGE);
+    let mut server = Server::new(rt, &objects, time);
+    let (mut input, mut output, mut log) = (rt.stdin(), rt.stdout(), rt.stderr());
+    match serve(
+        &mut server,
+        &messages,
+        LIMITS,
+        &mut input,
+        &mut output,
+        &mut log,
+    ) {
+        Ok(_) => 0,
+        Err(_) => FAILED,
+    }
+}
+
+fn main(rt: HostRuntime) -> ExitCode {
+    let Ok(words) = words(&rt) else {
+        return ExitCode::from(FAILED);
+    };
+    match time_of(rt.alloc(), words.as_slice()) {
+        Ok(time) => ExitCode::from(run(&rt, time)),
+        Err(error) => ExitCode::from(report(&rt, &error)),
+    }
+}
