@@ -1,5 +1,7 @@
 //! Locate (KMIP 1.0, section 4.8).
 
+ghost use Rattle.kmip_memory_server.specs.Effects.{SameObjects};
+
 use crate::attributes::attributes;
 use crate::server::{Server, identifier};
 use kmip_messages::attribute::{Attribute, AttributeValue};
@@ -69,7 +71,10 @@ impl<K: Allocator + Copy> Server<'_, K> {
         let mut found = Vec::new(alloc);
         for id in 0..self.store.count() {
             if let Some(object) = self.store.get(id)
-                && is_sought(sought, attributes(alloc, id, object, all.as_slice())?.as_slice())
+                && is_sought(
+                    sought,
+                    attributes(alloc, id, object, all.as_slice())?.as_slice(),
+                )
             {
                 found.push(id)?;
             }
@@ -83,7 +88,9 @@ impl<K: Allocator + Copy> Server<'_, K> {
         &mut self,
         alloc: A,
         asked: &LocateRequest<A>,
-    ) -> Result<ResponsePayload<A>, Refusal> {
+    ) -> Result<ResponsePayload<A>, Refusal>
+        ensures { SameObjects self.old self.new }
+    {
         self.last = None;
         if asked.object_group_member.is_some() || asked.attributes_by_tag.is_some() {
             return Err(Refusal::new(

@@ -1,5 +1,9 @@
 //! Activate, Revoke and Destroy (KMIP 1.0, sections 4.18 to 4.20).
 
+ghost use Rattle.std.specs.Prelude.{◌≡◌, ◌⊎◌, IfOk};
+ghost use Rattle.kmip_memory_store.specs.declared.object.Step.TheVariants.{Compromise, Deactivate};
+ghost use Rattle.kmip_memory_server.specs.Effects.{Moves};
+
 use crate::server::{Server, identifier};
 use kmip_memory_store::object::{Denied, Step};
 use kmip_messages::request_payload::RevokeRequest;
@@ -10,7 +14,9 @@ use kmip_server::refusal::Refusal;
 use std::alloc::Allocator;
 
 /// What Revoke asks for. Refused with Invalid Field for a reason that the standard doesn't have (KMIP 1.0, section 11.20).
-pub fn revoking<A: Allocator>(asked: &RevokeRequest<A>) -> Result<Step, Refusal> {
+pub fn revoking<A: Allocator>(asked: &RevokeRequest<A>) -> Result<Step, Refusal>
+    ensures { IfOk result (λ step. (step ≡ Deactivate) ⊎ (step ≡ Compromise)) }
+{
     match asked.revocation_reason.code {
         revocation_reason_code::KEY_COMPROMISE | revocation_reason_code::CA_COMPROMISE => {
             Ok(Step::Compromise)
@@ -35,14 +41,14 @@ impl<K: Allocator + Copy> Server<'_, K> {
         alloc: A,
         name: &Option<String<A>>,
         step: Step,
-    ) -> Result<ObjectResponse<A>, Refusal> {
+    ) -> Result<ObjectResponse<A>, Refusal>
+        ensures { Moves step self.old result self.new }
+    {
         let (id, _) = self.object(name)?;
+        let unique_identifier = identifier(alloc, id)?;
         let now = self.seconds();
         match self.store.take(id, step, now) {
-            Ok(()) => {
-                let unique_identifier = identifier(alloc, id)?;
-                Ok(ObjectResponse { unique_identifier })
-            }
+            Ok(()) => Ok(ObjectResponse { unique_identifier }),
             Err(Denied::NotFound) => Err(Refusal::new(
                 result_reason::ITEM_NOT_FOUND,
                 "there is no such object",

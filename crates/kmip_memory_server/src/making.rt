@@ -1,5 +1,7 @@
 //! Create and Register (KMIP 1.0, sections 4.1 and 4.3).
 
+ghost use Rattle.kmip_memory_server.specs.Effects.{Adds};
+
 use crate::about::About;
 use crate::server::{Server, identifier};
 use kmip_messages::key::{KeyBlock, KeyMaterial, KeyValue};
@@ -13,7 +15,7 @@ use kmip_messages::values::{
 };
 use kmip_server::refusal::Refusal;
 use kmip_ttlv::Kept;
-use std::alloc::Allocator;
+use std::alloc::{AllocError, Allocator};
 
 // A field that isn't good.
 fn bad(message: &'static str) -> Refusal {
@@ -135,7 +137,9 @@ impl<K: Allocator + Copy> Server<'_, K> {
     }
 
     // Keeps an object, unless another has one of its names (KMIP 1.0, section 3.2).
-    fn keep(&mut self, about: About<K>, material: Vec<u8, K>) -> Result<usize, Refusal> {
+    fn keep(&mut self, about: About<K>, material: Vec<u8, K>) -> Result<(), Refusal>
+        ensures { Adds self.old result self.new }
+    {
         for id in 0..self.store.count() {
             if let Some(object) = self.store.get(id)
                 && about.names.iter().any(|name| object.about.is_named(name))
@@ -146,7 +150,12 @@ impl<K: Allocator + Copy> Server<'_, K> {
         let now = self.seconds();
         let id = self.store.add(about, material, now)?;
         self.last = Some(id);
-        Ok(id)
+        Ok(())
+    }
+
+    // The identifier of the object that comes next.
+    fn coming<A: Allocator>(&self, alloc: A) -> Result<String<A>, AllocError> {
+        identifier(alloc, self.store.count())
     }
 
     /// Makes a symmetric key of random bytes. Refused with Invalid Field if the server makes no such key, with Cryptographic Failure if
@@ -155,7 +164,9 @@ impl<K: Allocator + Copy> Server<'_, K> {
         &mut self,
         alloc: A,
         asked: &CreateRequest<A>,
-    ) -> Result<ResponsePayload<A>, Refusal> {
+    ) -> Result<ResponsePayload<A>, Refusal>
+        ensures { Adds self.old result self.new }
+    {
         self.last = None;
         let others = [&asked.attributes_by_tag, &asked.protection_storage_masks];
         let about = self.about(asked.object_type, &asked.template_attribute, others)?;
@@ -167,8 +178,8 @@ impl<K: Allocator + Copy> Server<'_, K> {
         }
         let mut key = vec![in self.alloc; 0u8; size(&about)?]?;
         self.fill(key.as_mut_slice())?;
-        let id = self.keep(about, key)?;
-        let unique_identifier = identifier(alloc, id)?;
+        let unique_identifier = self.coming(alloc)?;
+        self.keep(about, key)?;
         Ok(ResponsePayload::Create(CreateResponse {
             object_type: asked.object_type,
             unique_identifier,
@@ -182,7 +193,9 @@ impl<K: Allocator + Copy> Server<'_, K> {
         &mut self,
         alloc: A,
         asked: &RegisterRequest<A>,
-    ) -> Result<ResponsePayload<A>, Refusal> {
+    ) -> Result<ResponsePayload<A>, Refusal>
+        ensures { Adds self.old result self.new }
+    {
         self.last = None;
         let others = [&asked.attributes_by_tag, &asked.protection_storage_masks];
         let mut about = self.about(asked.object_type, &asked.template_attribute, others)?;
@@ -194,8 +207,8 @@ impl<K: Allocator + Copy> Server<'_, K> {
             return Err(bad("the object is not of the type that is named"));
         }
         let material = bytes.to_vec(self.alloc)?;
-        let id = self.keep(about, material)?;
-        let unique_identifier = identifier(alloc, id)?;
+        let unique_identifier = self.coming(alloc)?;
+        self.keep(about, material)?;
         Ok(ResponsePayload::Register(RegisterResponse {
             unique_identifier,
             template_attribute: None,

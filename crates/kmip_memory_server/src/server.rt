@@ -134,8 +134,11 @@ impl<'r, K: Allocator + Copy> Server<'r, K> {
 
 impl<K: Allocator + Copy, A: Allocator + Copy> Handler<A> for Server<'_, K> {
     ghost use Rattle.kmip_memory_server.specs.declared.server.TheConstants.{OBJECT_TYPES, OPERATIONS, VERSIONS};
+    ghost use Rattle.kmip_memory_server.specs.Effects.{Handles};
 
     ghost declaration = { λ _. record { versions = VERSIONS; operations = OPERATIONS; object_types = OBJECT_TYPES; vendor = codes "Sieveebony" } };
+
+    ghost Does = { λ old _ asked result new. Handles old asked result new };
 
     fn abilities(&self) -> Abilities {
         Abilities {

@@ -1,10 +1,11 @@
 -- A store after one of its objects was written.
 use Rattle.std.proofs.Common.{◌≡◌, ◌≢◌, ℕ, zero, suc, ◌<◌, List, [], ◌∷◌, length, Some, Result, get_or, slice_set, length-set}
-use Rattle.std.proofs.Common.{ℤ, w64, to_z, of_z, refl, ap, subst, arith}
+use Rattle.std.proofs.Common.{Ok, Err, OnErr, ◌∙◌, ℤ, w64, to_z, of_z, refl, ap, subst, arith}
 use Rattle.std.specs.List.{slice_get}
 use Rattle.std.specs.Vec.{with_item}
 use Rattle.std.proofs.lemmas.Option.{slice_get_read}
 use Rattle.std.proofs.lemmas.Int.{to_z-of_z}
+use Rattle.std.proofs.lemmas.List.{set-get_or}
 use mir.Val.{SFits}
 use Rattle.kmip_memory_store.specs.declared.object.Denied.{Denied}
 use Rattle.kmip_memory_store.specs.declared.object.Object.{Object}
@@ -42,3 +43,10 @@ pub step_taken : {T A : Type 0} → (step : Step) (now : ℤ) (s : Store T A) (i
 step_taken step now s id before after r fits h e takes =
     rw (slice_get_read (objects_of s) (length (objects_of s)) id before refl h e)
     (after, subst (λ z. Takes step z before r after) (to_z-of_z w64 now fits) takes, get-set_same (objects_of s) id after h)
+
+-- an object that was denied a step: all objects are as they were
+pub all_kept : {T A : Type 0} → (s : Store T A) (id : ℕ) (before after : Object T A) (r : Result (Unit {0}) Denied) → before ≡ get_or (objects_of s) id before
+    → OnErr r (after ≡ before) → OnErr r (objects_of (rewritten s id after) ≡ objects_of s)
+all_kept s id before after (Ok x) e same = tt
+all_kept s id before after (Err d) e same =
+    ap (slice_set (objects_of s) id) (same ∙ e) ∙ set-get_or (objects_of s) id before

@@ -1,6 +1,6 @@
 //! An object: what is known of it, its material, its state and its dates, and the steps of its life.
 
-ghost use Rattle.std.specs.Prelude.{◌≡◌};
+ghost use Rattle.std.specs.Prelude.{◌≡◌, OnErr};
 ghost use Rattle.kmip_memory_store.specs.States.{Takes, born, dated, next, state_number};
 
 use std::alloc::{Allocator, Global};
@@ -140,7 +140,8 @@ pub struct Object<T, A: Allocator = Global> {
 impl<T, A: Allocator> Object<T, A> {
     // Takes a step now, if its state allows that.
     pub(crate) fn take(&mut self, step: Step, now: i64) -> Result<(), Denied>
-        ensures { Takes step now self.old result self.new }
+        ensures takes { Takes step now self.old result self.new }
+        ensures denied { OnErr result (self.new ≡ self.old) }
     {
         let Some(state) = self.state.next(step) else {
             return Err(Denied::WrongState);

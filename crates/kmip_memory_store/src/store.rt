@@ -59,6 +59,7 @@ impl<T: Drop, A: Allocator> Store<T, A> {
     /// changes. The material of an object that is destroyed is gone.
     pub fn take(&mut self, id: usize, step: Step, now: i64) -> Result<(), Denied>
         ensures steps { Steps step now id self.old result self.new }
+        ensures denied { OnErr result (objects_of self.new ≡ objects_of self.old) }
         ensures gone { OnOk result (step ≡ Destroy → IsGone id self.new) }
         ensures others { KeepsOthers id self.old self.new }
     {
