@@ -1,11 +1,14 @@
 -- What the server does to its objects.
-use Rattle.std.specs.Prelude.{◌≡◌, ◌⊎◌, ℕ, ℤ, Result, Ok, MatchResult}
+use Rattle.std.specs.Prelude.{◌≡◌, ◌⊎◌, ℕ, ℤ, Some, Result, Ok, Err, MatchResult, option_map, vec_items}
 use Rattle.kmip_requests.specs.declared.request_payload.RequestPayload.{RequestPayload}
-use Rattle.kmip_requests.specs.declared.request_payload.RequestPayload.TheVariants.{Create, Register, Activate, Revoke, Destroy}
+use Rattle.kmip_requests.specs.declared.request_payload.RequestPayload.TheVariants.{Create, Register, Get, Activate, Revoke, Destroy}
 use Rattle.kmip_memory_store.specs.declared.object.Object.{Object}
 use Rattle.kmip_memory_store.specs.declared.object.Step.{Step}
 use Rattle.kmip_memory_store.specs.declared.object.Step.TheVariants as steps
-use Rattle.kmip_memory_store.specs.Objects.{Comes, KeepsOthers, Steps, objects_of}
+use Rattle.kmip_memory_store.specs.Objects.{Comes, KeepsOthers, Steps, at, objects_of}
+use Rattle.kmip_responses.specs.declared.response_payload.ResponsePayload.{ResponsePayload}
+use Rattle.kmip_responses.specs.declared.response_payload.ResponsePayload.TheVariants as responses
+use Rattle.kmip_memory_server.specs.Answers.{bytes_of_response}
 use Rattle.kmip_memory_server.specs.declared.about.About.{About}
 use Rattle.kmip_memory_server.specs.declared.server.Server.{Server}
 
@@ -34,12 +37,21 @@ Adds old result new = MatchResult result (λ _. OneComes old new) (λ _. SameObj
 abbrev pub Moves : {K T E : Type 0} → Step → Server K → Result T E → Server K → Type 0
 Moves step old result new = MatchResult result (λ _. OneSteps step old new) (λ _. SameObjects old new)
 
+-- a Get is answered by the whole material of an object that is there, or refused
+abbrev pub Gets : {K A E : Type 0} → Server K → Result (ResponsePayload A) E → Type 0
+Gets {K} old (Ok (responses.Get answer)) =
+    (id : ℕ) × (object : Object (About K) K) × (at old.store id ≡ Some object)
+    × (option_map vec_items object.material ≡ bytes_of_response answer.inner.value)
+Gets old (Ok _) = ⊥
+Gets old (Err _) = Unit {0}
+
 -- From old, this is done of what is asked for: Create and Register add an object, Activate, Revoke and Destroy move one, and nothing else
--- changes any
-abbrev pub Handles : {K A T E : Type 0} → Server K → RequestPayload A → Result T E → Server K → Type 0
+-- changes any; Get gives what is there
+abbrev pub Handles : {K A E : Type 0} → Server K → RequestPayload A → Result (ResponsePayload A) E → Server K → Type 0
 Handles old (Create _) result new = Adds old result new
 Handles old (Register _) result new = Adds old result new
 Handles old (Activate _) result new = Moves steps.Activate old result new
 Handles old (Revoke _) result new = Moves steps.Deactivate old result new ⊎ Moves steps.Compromise old result new
 Handles old (Destroy _) result new = Moves steps.Destroy old result new
+Handles old (Get _) result new = Gets old result × SameObjects old new
 Handles old _ result new = SameObjects old new

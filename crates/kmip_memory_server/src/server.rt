@@ -1,6 +1,7 @@
 //! What the server has, and what it does of one item.
 
-ghost use Rattle.std.specs.Prelude.{codes};
+ghost use Rattle.std.specs.Prelude.{◌≡◌, Some, IfOk, codes};
+ghost use Rattle.kmip_memory_store.specs.Objects.{at};
 
 use crate::about::About;
 use crate::living::revoking;
@@ -118,7 +119,9 @@ impl<'r, K: Allocator + Copy> Server<'r, K> {
     pub fn object<A: Allocator>(
         &self,
         name: &Option<String<A>>,
-    ) -> Result<(usize, &Object<About<K>, K>), Refusal> {
+    ) -> Result<(usize, &Object<About<K>, K>), Refusal>
+        ensures { IfOk result (λ found. at self.now.store found.0 ≡ Some found.1.now) }
+    {
         let id = match name {
             Some(name) => numbered(name.as_str()),
             None => self.last,

@@ -1,5 +1,9 @@
 //! Get, Get Attributes and Get Attribute List (KMIP 1.0, sections 4.10 to 4.12).
 
+ghost use Rattle.std.specs.Prelude.{◌≡◌, Some, IfOk, OnOk};
+ghost use Rattle.kmip_memory_server.specs.Answers.{IsEmpty, bytes_of_block, bytes_of_response};
+ghost use Rattle.kmip_memory_server.specs.Effects.{Gets};
+
 use crate::about::About;
 use crate::attributes::attributes;
 use crate::server::{Server, identifier};
@@ -12,7 +16,7 @@ use kmip_messages::response::result_reason;
 use kmip_messages::response_payload::{
     GetAttributeListResponse, GetAttributesResponse, GetResponse, ResponsePayload,
 };
-use kmip_messages::values::{CertificateType, object_type};
+use kmip_messages::values::{CertificateType, ObjectType, object_type};
 use kmip_server::refusal::Refusal;
 use kmip_ttlv::{Boxed, Kept};
 use std::alloc::{AllocError, Allocator};
@@ -48,7 +52,9 @@ fn block<K: Allocator, A: Allocator + Copy>(
     alloc: A,
     about: &About<K>,
     material: &[u8],
-) -> Result<KeyBlock<A>, AllocError> {
+) -> Result<KeyBlock<A>, AllocError>
+    ensures { IfOk result (λ block. bytes_of_block block ≡ Some material.now) }
+{
     let key_material = KeyMaterial::Bytes(material.to_vec(alloc)?);
     Ok(KeyBlock {
         key_format_type: about.format,
@@ -63,13 +69,34 @@ fn block<K: Allocator, A: Allocator + Copy>(
     })
 }
 
+// A response that has no object yet.
+fn empty<A: Allocator>(object_type: ObjectType, unique_identifier: String<A>) -> GetResponse<A>
+    ensures { IsEmpty result }
+{
+    GetResponse {
+        object_type,
+        unique_identifier,
+        certificate: None,
+        symmetric_key: None,
+        public_key: None,
+        private_key: None,
+        split_key: None,
+        template: None,
+        secret_data: None,
+        opaque_object: None,
+    }
+}
+
 // Puts an object into its response.
 fn put<K: Allocator, A: Allocator + Copy>(
     alloc: A,
     response: &mut GetResponse<A>,
     about: &About<K>,
     material: &[u8],
-) -> Result<(), AllocError> {
+) -> Result<(), AllocError>
+    requires { IsEmpty response.old }
+    ensures { OnOk result (bytes_of_response response.new ≡ Some material.now) }
+{
     if about.object_type == object_type::CERTIFICATE {
         response.certificate = Some(Certificate {
             certificate_type: CertificateType {
@@ -109,24 +136,16 @@ impl<K: Allocator + Copy> Server<'_, K> {
         &self,
         alloc: A,
         asked: &GetRequest<A>,
-    ) -> Result<ResponsePayload<A>, Refusal> {
+    ) -> Result<ResponsePayload<A>, Refusal>
+        ensures { Gets self.now result }
+    {
         let (id, object) = self.object(&asked.unique_identifier)?;
         check(&object.about, asked)?;
         let Some(material) = &object.material else {
             return Err(Refusal::new(result_reason::ITEM_NOT_FOUND, "the object was destroyed"));
         };
-        let mut response = GetResponse {
-            object_type: object.about.object_type,
-            unique_identifier: identifier(alloc, id)?,
-            certificate: None,
-            symmetric_key: None,
-            public_key: None,
-            private_key: None,
-            split_key: None,
-            template: None,
-            secret_data: None,
-            opaque_object: None,
-        };
+        let unique_identifier = identifier(alloc, id)?;
+        let mut response = empty(object.about.object_type, unique_identifier);
         put(alloc, &mut response, &object.about, material.as_slice())?;
         Ok(ResponsePayload::Get(Boxed::new(alloc, response)?))
     }
