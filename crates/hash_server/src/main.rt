@@ -1,6 +1,7 @@
 //! A server of KMIP that makes hashes: an example to copy. It speaks on standard input and output, with its log on standard error.
 #![tactic(auto)]
 
+ghost use Rattle.hash_server.specs.declared.TheConstants.{OPERATIONS, VERSIONS};
 ghost use Rattle.std.specs.Prelude.{[], codes};
 
 use kmip_messages::header::{Operation, ProtocolVersion, RequestHeader, operation};
@@ -9,6 +10,7 @@ use kmip_messages::response::result_reason;
 use kmip_messages::response_payload::{CryptographicResponse, ResponsePayload};
 use kmip_messages::values::hashing_algorithm;
 use kmip_server::abilities::Abilities;
+use kmip_server::codec::Kmip;
 use kmip_server::handler::Handler;
 use kmip_server::refusal::Refusal;
 use kmip_server::serve::{Limits, serve};
@@ -63,8 +65,6 @@ fn hash<A: Allocator + Copy>(
 }
 
 impl<A: Allocator + Copy> Handler<A> for Hasher {
-    ghost use Rattle.hash_server.specs.declared.TheConstants.{OPERATIONS, VERSIONS};
-
     ghost declaration = { λ _. record { versions = VERSIONS; operations = OPERATIONS; object_types = []; vendor = codes "Example" } };
 
     fn abilities(&self) -> Abilities {
@@ -101,14 +101,13 @@ impl<A: Allocator + Copy> Handler<A> for Hasher {
 
 fn main(rt: HostRuntime) -> ExitCode {
     // each message, with its response, has a budget, and its memory is overwritten when it is given back
-    let memory = Wiping::new(rt.alloc());
-    let budget = BoundedAllocator::new(&memory, 1_048_576);
+    let budget = BoundedAllocator::new(Wiping::new(rt.alloc()), 1_048_576);
     let limits = Limits {
         request: 65_536,
         response: 65_536,
     };
     let (mut input, mut output, mut log) = (rt.stdin(), rt.stdout(), rt.stderr());
-    let end = serve(
+    let end = serve::<Kmip, _, _, _, _, _>(
         &mut Hasher {},
         &budget,
         limits,

@@ -1,10 +1,12 @@
--- What a response has of an object.
+-- What a response, and what a request, has of an object.
 use Rattle.std.specs.Prelude.{◌≡◌, ℕ, List, Option, Some, None}
 use Rattle.kmip_objects.specs.declared.key.KeyBlock.{KeyBlock}
 use Rattle.kmip_objects.specs.declared.key.KeyMaterial.{KeyMaterial}
 use Rattle.kmip_objects.specs.declared.key.KeyMaterial.TheVariants.{Bytes, Structure}
 use Rattle.kmip_objects.specs.declared.key.KeyValue.{KeyValue}
 use Rattle.kmip_objects.specs.declared.key.KeyValue.TheVariants.{Plain, Wrapped}
+use Rattle.kmip_objects.specs.declared.object.ManagedObject.{ManagedObject}
+use Rattle.kmip_objects.specs.declared.object.ManagedObject.TheVariants as objects
 use Rattle.kmip_responses.specs.declared.response_payload.GetResponse.{GetResponse}
 
 -- the bytes of a key, if it has some
@@ -18,6 +20,15 @@ bytes_of_value (Wrapped _) = None
 
 abbrev pub bytes_of_block : {A : Type 0} → KeyBlock A → Option (List ℕ)
 bytes_of_block block = bytes_of_value block.key_value
+
+-- the bytes of an object that is registered, if the server keeps it
+abbrev pub bytes_of_object : {A : Type 0} → ManagedObject A → Option (List ℕ)
+bytes_of_object (objects.Certificate c) = Some c.now.certificate_value.items
+bytes_of_object (objects.SymmetricKey k) = bytes_of_block k.now.key_block
+bytes_of_object (objects.PublicKey k) = bytes_of_block k.now.key_block
+bytes_of_object (objects.PrivateKey k) = bytes_of_block k.now.key_block
+bytes_of_object (objects.SecretData s) = bytes_of_block s.now.key_block
+bytes_of_object _ = None
 
 -- the first of two, if it is there
 abbrev pub first_of : {X : Type 0} → Option X → Option X → Option X

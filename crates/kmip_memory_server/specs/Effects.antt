@@ -1,5 +1,8 @@
 -- What the server does to its objects.
-use Rattle.std.specs.Prelude.{◌≡◌, ◌⊎◌, ℕ, ℤ, Some, Result, Ok, Err, MatchResult, option_map, vec_items}
+use Rattle.std.specs.Prelude.{◌≡◌, ◌⊎◌, ℕ, ℤ, List, Option, Some, Result, Ok, Err, MatchResult, option_map, vec_items}
+use Rattle.kmip_objects.specs.declared.object.ManagedObject.{ManagedObject}
+use Rattle.kmip_requests.specs.Choices.{IsRegisterRequestObject}
+use Rattle.kmip_requests.specs.declared.request_payload.RegisterRequest.{RegisterRequest}
 use Rattle.kmip_requests.specs.declared.request_payload.RequestPayload.{RequestPayload}
 use Rattle.kmip_requests.specs.declared.request_payload.RequestPayload.TheVariants.{Create, Register, Get, Activate, Revoke, Destroy}
 use Rattle.kmip_memory_store.specs.declared.object.Object.{Object}
@@ -8,7 +11,7 @@ use Rattle.kmip_memory_store.specs.declared.object.Step.TheVariants as steps
 use Rattle.kmip_memory_store.specs.Objects.{Comes, KeepsOthers, Steps, at, objects_of}
 use Rattle.kmip_responses.specs.declared.response_payload.ResponsePayload.{ResponsePayload}
 use Rattle.kmip_responses.specs.declared.response_payload.ResponsePayload.TheVariants as responses
-use Rattle.kmip_memory_server.specs.Answers.{bytes_of_response}
+use Rattle.kmip_memory_server.specs.Answers.{bytes_of_object, bytes_of_response}
 use Rattle.kmip_memory_server.specs.declared.about.About.{About}
 use Rattle.kmip_memory_server.specs.declared.server.Server.{Server}
 
@@ -16,9 +19,10 @@ use Rattle.kmip_memory_server.specs.declared.server.Server.{Server}
 abbrev pub SameObjects : {K : Type 0} → Server K → Server K → Type 0
 SameObjects old new = objects_of new.store ≡ objects_of old.store
 
--- an object came, under an identifier that none ever had, and no other changed
-pub record OneComes {K : Type 0} (old new : Server K) : Type 0 where
+-- an object of this material came, under an identifier that none ever had, and no other changed
+pub record OneComes {K : Type 0} (bytes : Option (List ℕ)) (old new : Server K) : Type 0 where
   pub object : Object (About K) K
+  pub material : option_map vec_items object.material ≡ bytes
   pub id : ℕ
   pub comes : Comes object id old.store new.store
 
@@ -29,9 +33,15 @@ pub record OneSteps {K : Type 0} (step : Step) (old new : Server K) : Type 0 whe
   pub steps : Steps step now id old.store (Ok tt) new.store
   pub others : KeepsOthers id old.store new.store
 
--- an object comes, unless that is refused: then nothing changes
-abbrev pub Adds : {K T E : Type 0} → Server K → Result T E → Server K → Type 0
-Adds old result new = MatchResult result (λ _. OneComes old new) (λ _. SameObjects old new)
+-- an object of a new key comes, unless that is refused: then nothing changes
+abbrev pub Makes : {K T E : Type 0} → Server K → Result T E → Server K → Type 0
+Makes old result new = MatchResult result (λ _. (key : List ℕ) × OneComes (Some key) old new) (λ _. SameObjects old new)
+
+-- the object of a request comes, with its whole material, unless that is refused: then nothing changes
+abbrev pub Adds : {K A T E : Type 0} → RegisterRequest A → Server K → Result T E → Server K → Type 0
+Adds {K} {A} asked old result new =
+    MatchResult result (λ _. (given : ManagedObject A) × IsRegisterRequestObject asked (Some given) × OneComes (bytes_of_object given) old new)
+    (λ _. SameObjects old new)
 
 -- an object takes a step of its life, unless that is refused: then nothing changes
 abbrev pub Moves : {K T E : Type 0} → Step → Server K → Result T E → Server K → Type 0
@@ -48,8 +58,8 @@ Gets old (Err _) = Unit {0}
 -- From old, this is done of what is asked for: Create and Register add an object, Activate, Revoke and Destroy move one, and nothing else
 -- changes any; Get gives what is there
 abbrev pub Handles : {K A E : Type 0} → Server K → RequestPayload A → Result (ResponsePayload A) E → Server K → Type 0
-Handles old (Create _) result new = Adds old result new
-Handles old (Register _) result new = Adds old result new
+Handles old (Create _) result new = Makes old result new
+Handles old (Register asked) result new = Adds asked.inner.value old result new
 Handles old (Activate _) result new = Moves steps.Activate old result new
 Handles old (Revoke _) result new = Moves steps.Deactivate old result new ⊎ Moves steps.Compromise old result new
 Handles old (Destroy _) result new = Moves steps.Destroy old result new

@@ -1,6 +1,8 @@
 //! Create and Register (KMIP 1.0, sections 4.1 and 4.3).
 
-ghost use Rattle.kmip_memory_server.specs.Effects.{Adds};
+ghost use Rattle.std.specs.Prelude.{◌≡◌, Some, IfOk, MatchResult};
+ghost use Rattle.kmip_memory_server.specs.Answers.{bytes_of_block, bytes_of_object};
+ghost use Rattle.kmip_memory_server.specs.Effects.{Adds, Makes, OneComes, SameObjects};
 
 use crate::about::About;
 use crate::server::{Server, identifier};
@@ -54,7 +56,9 @@ fn size<K: Allocator>(about: &About<K>) -> Result<usize, Refusal> {
 fn block<'k, K: Allocator, A: Allocator>(
     about: &mut About<K>,
     block: &'k KeyBlock<A>,
-) -> Result<&'k [u8], Refusal> {
+) -> Result<&'k [u8], Refusal>
+    ensures { IfOk result (λ bytes. bytes_of_block block.now ≡ Some bytes.now) }
+{
     if block.key_wrapping_data.is_some() {
         return Err(lacking("the server keeps no wrapped keys"));
     }
@@ -92,7 +96,9 @@ fn block<'k, K: Allocator, A: Allocator>(
 fn object<'k, K: Allocator, A: Allocator>(
     about: &mut About<K>,
     object: ManagedObject<'k, A>,
-) -> Result<(ObjectType, &'k [u8]), Refusal> {
+) -> Result<(ObjectType, &'k [u8]), Refusal>
+    ensures { IfOk result (λ found. bytes_of_object object.entry ≡ Some found.1.now) }
+{
     match object {
         ManagedObject::SymmetricKey(key) => {
             Ok((object_type::SYMMETRIC_KEY, block(about, &key.key_block)?))
@@ -138,7 +144,7 @@ impl<K: Allocator + Copy> Server<'_, K> {
 
     // Keeps an object, unless another has one of its names (KMIP 1.0, section 3.2).
     fn keep(&mut self, about: About<K>, material: Vec<u8, K>) -> Result<(), Refusal>
-        ensures { Adds self.old result self.new }
+        ensures { MatchResult result (λ _. OneComes (Some material.items) self.old self.new) (λ _. SameObjects self.old self.new) }
     {
         for id in 0..self.store.count() {
             if let Some(object) = self.store.get(id)
@@ -165,7 +171,7 @@ impl<K: Allocator + Copy> Server<'_, K> {
         alloc: A,
         asked: &CreateRequest<A>,
     ) -> Result<ResponsePayload<A>, Refusal>
-        ensures { Adds self.old result self.new }
+        ensures { Makes self.old result self.new }
     {
         self.last = None;
         let others = [&asked.attributes_by_tag, &asked.protection_storage_masks];
@@ -194,7 +200,7 @@ impl<K: Allocator + Copy> Server<'_, K> {
         alloc: A,
         asked: &RegisterRequest<A>,
     ) -> Result<ResponsePayload<A>, Refusal>
-        ensures { Adds self.old result self.new }
+        ensures { Adds asked.now self.old result self.new }
     {
         self.last = None;
         let others = [&asked.attributes_by_tag, &asked.protection_storage_masks];
