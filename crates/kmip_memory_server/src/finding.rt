@@ -60,7 +60,7 @@ fn count(number: Option<i32>, otherwise: usize) -> usize {
     }
 }
 
-impl<K: Allocator + Copy> Server<'_, K> {
+impl<K: Allocator + Copy> Server<K> {
     // The objects that have all of these attributes.
     fn found<A: Allocator + Copy>(
         &self,

@@ -33,7 +33,7 @@ pub fn revoking<A: Allocator>(asked: &RevokeRequest<A>) -> Result<Step, Refusal>
     }
 }
 
-impl<K: Allocator + Copy> Server<'_, K> {
+impl<K: Allocator + Copy> Server<K> {
     /// Takes a step of an object's life. Refused with Item Not Found if there is no such object, and with Permission Denied if its state
     /// doesn't allow the step (KMIP 1.0, sections 11.19 to 11.21).
     pub fn take<A: Allocator>(

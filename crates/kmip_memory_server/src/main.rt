@@ -20,7 +20,7 @@ use clap::{Arg, Command, Error};
 use kmip_server::codec::Kmip;
 use kmip_server::serve::{Limits, serve};
 use kmip_ttlv::memory::{BoundedAllocator, Wiping};
-use std::alloc::{Allocator, Global};
+use std::alloc::Global;
 use std::process::ExitCode;
 use std::{env, io};
 
@@ -72,24 +72,23 @@ fn words(rt: &HostRuntime) -> io::Result<Vec<String>> {
     Ok(env::args(rt)?.collect(rt.alloc())?)
 }
 
-// Serves until the input ends. Memory for a message comes from this allocator. The status.
-fn answer<K: Allocator + Copy, A: Allocator + Copy>(
-    rt: &HostRuntime,
-    server: &mut Server<'_, K>,
-    alloc: A,
-) -> u8 {
+// Serves until the input ends. What memory is given back is overwritten. The status.
+fn run(rt: HostRuntime, time: Option<i64>) -> u8 {
+    let objects = BoundedAllocator::new(Wiping::new(rt.alloc()), OBJECTS);
+    let messages = BoundedAllocator::new(Wiping::new(rt.alloc()), MESSAGE);
+    let mut server = Server::new(rt, &objects, time);
     let (mut input, mut output, mut log) = (rt.stdin(), rt.stdout(), rt.stderr());
-    match serve::<Kmip, _, _, _, _, _>(server, alloc, LIMITS, &mut input, &mut output, &mut log) {
+    match serve::<Kmip, _, _, _, _, _>(
+        &mut server,
+        &messages,
+        LIMITS,
+        &mut input,
+        &mut output,
+        &mut log,
+    ) {
         Ok(_) => 0,
         Err(_) => FAILED,
     }
-}
-
-// Serves without objects at first. What memory is given back is overwritten.
-fn run(rt: &HostRuntime, time: Option<i64>) -> u8 {
-    let objects = BoundedAllocator::new(Wiping::new(rt.alloc()), OBJECTS);
-    let messages = BoundedAllocator::new(Wiping::new(rt.alloc()), MESSAGE);
-    answer(rt, &mut Server::new(rt, &objects, time), &messages)
 }
 
 fn main(rt: HostRuntime) -> ExitCode {
@@ -97,7 +96,7 @@ fn main(rt: HostRuntime) -> ExitCode {
         return ExitCode::from(FAILED);
     };
     match time_of(rt.alloc(), words.as_slice()) {
-        Ok(time) => ExitCode::from(run(&rt, time)),
+        Ok(time) => ExitCode::from(run(rt, time)),
         Err(error) => ExitCode::from(report(&rt, &error)),
     }
 }

@@ -124,7 +124,7 @@ fn object<'k, K: Allocator, A: Allocator>(
     }
 }
 
-impl<K: Allocator + Copy> Server<'_, K> {
+impl<K: Allocator + Copy> Server<K> {
     // What a client says of an object that comes.
     fn about<A: Allocator>(
         &self,

@@ -52,8 +52,8 @@ const OBJECT_TYPES: [ObjectType; 5] = [
 
 /// A server of keys in memory.
 #[derive(Drop)]
-pub struct Server<'r, K: Allocator> {
-    rt: &'r HostRuntime,
+pub struct Server<K: Allocator> {
+    rt: HostRuntime,
     // The time, if it doesn't go by the clock.
     time: Option<i64>,
     /// Where objects have their memory.
@@ -77,9 +77,9 @@ fn numbered(name: &str) -> Option<usize> {
     }
 }
 
-impl<'r, K: Allocator + Copy> Server<'r, K> {
+impl<K: Allocator + Copy> Server<K> {
     /// One without objects.
-    pub fn new(rt: &'r HostRuntime, alloc: K, time: Option<i64>) -> Server<'r, K> {
+    pub fn new(rt: HostRuntime, alloc: K, time: Option<i64>) -> Server<K> {
         Server {
             rt,
             time,
@@ -94,7 +94,7 @@ impl<'r, K: Allocator + Copy> Server<'r, K> {
         if let Some(time) = self.time {
             return time;
         }
-        let Ok(now) = SystemTime::now(self.rt) else {
+        let Ok(now) = SystemTime::now(&self.rt) else {
             return 0;
         };
         match now.duration_since(SystemTime::UNIX_EPOCH) {
@@ -135,7 +135,7 @@ impl<'r, K: Allocator + Copy> Server<'r, K> {
     }
 }
 
-impl<K: Allocator + Copy, A: Allocator + Copy> Handler<A> for Server<'_, K> {
+impl<K: Allocator + Copy, A: Allocator + Copy> Handler<A> for Server<K> {
     ghost use Rattle.kmip_memory_server.specs.declared.server.TheConstants.{OBJECT_TYPES, OPERATIONS, VERSIONS};
     ghost use Rattle.kmip_memory_server.specs.Effects.{Handles};
 

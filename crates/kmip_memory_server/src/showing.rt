@@ -129,7 +129,7 @@ fn put<K: Allocator, A: Allocator + Copy>(
     Ok(())
 }
 
-impl<K: Allocator + Copy> Server<'_, K> {
+impl<K: Allocator + Copy> Server<K> {
     /// An object, as it was registered or made. Refused with Item Not Found if there is none, or its material was destroyed (KMIP 1.0,
     /// section 11.11).
     pub fn get<A: Allocator + Copy>(
