@@ -22,8 +22,8 @@ fault_words faults.Surplus = codes "surplus"
 abbrev pub fault_text : FaultKind → ℕ → ℕ → List ℕ
 fault_text kind offset size = fault_words kind ++ (codes " at byte " ++ (decimal offset ++ (codes " of " ++ decimal size)))
 
--- what is said of bytes: the outline of the message that they are, or else a fault, where it is, and how many they are. Neither has a byte
--- of a value
+-- what is said of bytes: the outline of the message that they are, or else a fault, where it is, and how many they are. Neither shows a
+-- value but those of Enumerations
 abbrev pub IsOutline : List ℕ → List ℕ → Type 0
 IsOutline bytes text = ShowsMessage (codes "4200") true bytes text ⊎ ((fault : Fault) × Judges bytes (Some fault) × (text ≡ fault_text fault.kind fault.offset (length bytes)))
 

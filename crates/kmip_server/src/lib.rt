@@ -1,18 +1,19 @@
-//! A server of KMIP over any reader and writer: batches, versions, limits, refusals and the log are its own, and what is done of one
-//! item is a `Handler`'s, which its author writes.
+//! A server of KMIP over any reader and writer: batches, versions, limits, refusals and the log are its own. Its author writes a
+//! `Handler`, which does one item.
 //!
 //! `serve` is the call, `respond` and `reply_bytes` its parts for callers with a loop of their own. `items` is one item and its answer,
 //! `batch` the items of a request, `terms` and `messages` a whole request, `reply` the bytes of a response, `log` the lines of the log.
-//! `codec` is all that the crate knows of the types of messages, so that what stands on it is proved for any. It needs `kmip_messages`.
+//! `codec` is all that the crate knows of the types of messages, and the rest is generic in it. It needs `kmip_messages`.
 //!
 //! ```
 //! let limits = Limits { request: 65_536, response: 65_536 };
-//! let budget = BoundedAllocator::new(rt.alloc(), 1_048_576); // of each message, one after the other
+//! let budget = BoundedAllocator::new(Wiping::new(rt.alloc()), 1_048_576); // of each message, one after the other
 //! let end = serve::<Kmip, _, _, _, _, _>(&mut handler, &budget, limits, &mut reader, &mut writer, &mut log);
 //! ```
 //!
-//! What is not promised: that a request is handled once if its client sends it again; which items were done when memory ran out, or the
-//! writer or the log failed; that the time is right.
+//! What is not promised: that a request is handled once if its client sends it again; which items were done if memory ran out, or there
+//! was no response; that the time is right. The items of a request whose response is larger than allowed are done, though the response is
+//! a refusal.
 #![tactic(auto)]
 
 pub mod abilities;

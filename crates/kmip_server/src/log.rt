@@ -1,4 +1,4 @@
-//! The log: a line for each message, which never has a byte of a value in it.
+//! The log: a line for each message, which shows no value but those of Enumerations.
 
 ghost use Rattle.std.specs.Prelude.{◌≡◌, ◌++◌, IfOk, OnOk, string_bytes, codes, true};
 ghost use Rattle.kmip_ttlv_util.specs.Printers.{closes_empty, prefix_of};

@@ -128,8 +128,8 @@ fn reply<D: Codec<A>, H: Handler<A>, A: Allocator + Copy>(
 }
 
 /// The bytes to send for what was read: those of the response to a request (`respond`), or of a refusal, if it is none (Invalid
-/// Message) or the response would be larger than allowed (Response Too Large, KMIP 1.0, section 11.1). They are never more than the
-/// limit, nor than the client's Maximum Response Size.
+/// Message) or the response would be larger than allowed (Response Too Large, KMIP 1.0, section 11.1; its items are done all the same).
+/// They are never more than the limit, and where the request's header can be decoded never more than its Maximum Response Size.
 ///
 /// If memory runs out, they are a General Failure; of a request some of the items may be done then.
 pub fn reply_bytes<D: Codec<A>, H: Handler<A>, A: Allocator + Copy>(

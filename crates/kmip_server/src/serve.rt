@@ -40,8 +40,8 @@ pub enum End {
 /// Why serving stops: nothing is read after it, and nothing written.
 #[derive(Drop)]
 pub enum ServeError<A: Allocator = Global> {
-    /// There is no response to send: memory ran out, also for the refusal that says so, or it has more than 2^32 - 1 bytes; or the
-    /// client's Maximum Response Size has no room for the refusal that says so.
+    /// There is no response to send: memory ran out, also for the refusal that says so, or it has more than 2^32 - 1 bytes; or a limit,
+    /// the server's or the client's, has no room for the refusal that says so.
     NoReply(NoReply<A>),
     /// The log failed, or memory ran out for a line of it.
     Log(io::Error),
@@ -180,13 +180,16 @@ fn serve_one<D: Codec<A>, H: Handler<A>, S: Source, W: Sink, L: Sink, A: Allocat
 /// Answers requests until the input ends, or until a message is refused by its header, so that what follows can't be told from what
 /// came: that one is still answered, and nothing behind it is read.
 ///
-/// Each message that came whole has exactly one response, in their order, and so has one that is refused by its header. Nothing of what is
-/// no request reaches the handler. A response is never larger than `limits.response`, nor than the client's Maximum Response Size. The
-/// log has a line for each message and each response: the outline of a message, or the fault of what is none.
+/// Each message that came whole has exactly one response, in their order, and so has one that is refused by its header. Nothing of what
+/// is no request reaches the handler. A response is never larger than `limits.response`, nor, where the request's header can be decoded,
+/// than its Maximum Response Size. The log has a line for each message and each response: the outline of a message, or the fault of
+/// malformed bytes.
 ///
 /// KMIP's own rules are those of `Kmip`: `serve::<Kmip, _, _, _, _, _>`.
 ///
-/// The memory of a message is given back before the next is read: an allocator with a budget bounds each.
+/// What a message took is given back before the next is read, but for its bytes, whose buffer is used again. So an allocator with a budget
+/// bounds each message (`BoundedAllocator`), and one that wipes leaves no key behind (`Wiping`). A response is written by one call, and
+/// nothing is flushed: a writer that holds bytes back leaves its client waiting.
 ///
 /// It fails if memory runs out so that not even that can be answered, if a limit has no room for the refusal that says so, or if the
 /// writer or the log fails. Nothing is read or written after that.

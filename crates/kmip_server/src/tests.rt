@@ -1,4 +1,4 @@
-//! A server of three operations, and what it answers: each response was worked out after the standard, by an encoder of its own.
+//! A server of five operations, and what it answers: each response was worked out after the standard, by an encoder of its own.
 
 ghost use Rattle.std.specs.Prelude.{codes};
 

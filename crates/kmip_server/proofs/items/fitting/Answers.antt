@@ -7,5 +7,6 @@ use Rattle.kmip_server.proofs.items.fitting.Goals as goal
 pub returns : goal.returns
 returns g c =
     let whole = c.succeeded-answer.ensures in
-    unfit_answer g.D.Codec.IsSound _ _ _ c.succeeded-answer.result c.new-refusal.result whole.operation (ap (λ id. option_map vec_items id) whole.identifier) whole.says
-    (λ sound. false≢true (c.if-is_sound.ensures.1 sound)) c.new-refusal.ensures.reason _ c.refused.ensures.operation c.refused.ensures.identifier c.refused.ensures.says
+    unfit_answer g.D.Codec.IsSound _ _ _ c.succeeded-answer.result c.new-refusal.result whole.operation
+    (ap (λ id. option_map vec_items id) whole.identifier) whole.says (λ sound. false≢true (c.if-is_sound.ensures.1 sound)) c.new-refusal.ensures.reason _
+    c.refused.ensures.operation c.refused.ensures.identifier c.refused.ensures.says
