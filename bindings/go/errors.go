@@ -17,10 +17,11 @@ var ErrNotUTF8 = errors.New("a text is not UTF-8")
 // ErrContainsItself says that a node can't be encoded because it is in itself.
 var ErrContainsItself = errors.New("a node contains itself")
 
-// A FaultKind is what is wrong with a message, or with an item that is to be written.
+// A FaultKind is what is wrong with a message, with an item that is to be written, or with JSON.
 type FaultKind uint32
 
-// What is wrong with a message; and, of the last four and of UnknownType, WrongLength and InvalidValue, with an item to write.
+// What is wrong with a message; of NotInside to TooLong and of UnknownType, WrongLength and InvalidValue, with an item to write; of the
+// last five and of NoStructure, UnknownType and InvalidValue, with JSON.
 const (
 	Cut           FaultKind = C.KMIP_TTLV_CUT            // the bytes end before the root does, within this item: more may help
 	NoStructure   FaultKind = C.KMIP_TTLV_NO_STRUCTURE   // the root is no structure
@@ -34,6 +35,10 @@ const (
 	LongTag       FaultKind = C.KMIP_TTLV_LONG_TAG       // its tag is 2^24 or more
 	Outside       FaultKind = C.KMIP_TTLV_OUTSIDE        // its value goes past the end of the bytes
 	TooLong       FaultKind = C.KMIP_TTLV_TOO_LONG       // with it a structure has 2^32 bytes or more
+	NotJSON       FaultKind = C.KMIP_TTLV_NOT_JSON       // a token can't stand there, or the text ends too early
+	TooDeep       FaultKind = C.KMIP_TTLV_TOO_DEEP       // JSON that nests more than 127 deep
+	NotItem       FaultKind = C.KMIP_TTLV_NOT_ITEM       // no object of exactly the members tag, type and value
+	NotTag        FaultKind = C.KMIP_TTLV_NOT_TAG        // a tag is not 0x and six hexadecimal digits
 )
 
 var words = map[FaultKind]string{
@@ -49,6 +54,10 @@ var words = map[FaultKind]string{
 	LongTag:       "its tag is no number below 2^24",
 	Outside:       "its value goes past the end of the bytes",
 	TooLong:       "with it a structure takes 2^32 bytes or more",
+	NotJSON:       "not JSON",
+	TooDeep:       "nested more than 127 deep",
+	NotItem:       "an item without exactly tag, type and value",
+	NotTag:        "a tag is not 0x and six hexadecimal digits",
 }
 
 func (kind FaultKind) String() string {
@@ -58,9 +67,9 @@ func (kind FaultKind) String() string {
 	return fmt.Sprintf("unknown fault %d", uint32(kind))
 }
 
-// A MalformedError says that bytes are not one whole message.
+// A MalformedError says that bytes are not one whole message, or that a text is not the JSON of one.
 type MalformedError struct {
-	Offset int // where the bad item or the surplus begins, from the first byte
+	Offset int // where the bad item or the surplus begins, from the first byte; of JSON in the text
 	Kind   FaultKind
 	Items  []Item // those before it, of a call that lists or decodes them
 }

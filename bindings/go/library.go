@@ -1,4 +1,5 @@
-// Package kmipttlv prints, redacts, lists, checks, decodes and encodes TTLV, the encoding of OASIS KMIP, by the C library kmip_ttlv.
+// Package kmipttlv prints, redacts, lists, checks, decodes and encodes TTLV, the encoding of OASIS KMIP, as JSON too, by the C library
+// kmip_ttlv.
 //
 // Offsets and lengths are in bytes. Any call can fail with ErrOutOfMemory. The library keeps nothing of what it is passed, and any
 // number of goroutines may call at a time.
@@ -12,7 +13,10 @@ package kmipttlv
 // #include <kmip_ttlv.h>
 import "C"
 
-import "math"
+import (
+	"errors"
+	"math"
+)
 
 // NoLimit is so much memory that no text is too long.
 const NoLimit = math.MaxInt
@@ -39,6 +43,18 @@ type Diagnostic struct {
 	Text string
 	Read int // how many items the call tried to read
 }
+
+// A Redact says which values ToJSON hides: null stands in their place.
+type Redact uint32
+
+const (
+	RedactNothing Redact = C.KMIP_TTLV_SHOW_ALL
+	RedactSecrets Redact = C.KMIP_TTLV_REDACT_SECRETS // those of secret tags, which can hold a key, data or proof of identity, and of all items in them
+	RedactValues  Redact = C.KMIP_TTLV_REDACT_VALUES  // all but those of enumerations
+)
+
+// ErrBadRedact says that a Redact is none of the three.
+var ErrBadRedact = errors.New("it is none of RedactNothing, RedactSecrets and RedactValues")
 
 // nothing is where an empty slice begins, for calls that take no null pointer.
 var nothing [1]C.uint8_t
@@ -177,6 +193,74 @@ func FromDiag(diagnostic, prefix, names string, limit int) (string, error) {
 		return C.kmip_ttlv_from_diag(from, length, prefixFrom, prefixLength, namesFrom, namesLength, limited(limit), out, room, size, &line)
 	})
 	return string(text), refusal(status, C.kmip_ttlv_fault{}, nil, int(line))
+}
+
+// ToRedactedText returns one whole message as readable text without any value but those of enumerations, and with the names of KMIP's
+// tags. For other bytes it returns a *MalformedError without items: nothing is shown of them.
+func ToRedactedText(message []byte, limit int) (string, error) {
+	from, length := lent(message)
+	var fault C.kmip_ttlv_fault
+	text, status := filled(4*len(message)+256, func(out *C.uint8_t, room C.size_t, size *C.size_t) C.kmip_ttlv_status {
+		return C.kmip_ttlv_to_redacted_text(from, length, limited(limit), out, room, size, &fault)
+	})
+	return string(text), refusal(status, fault, nil, 0)
+}
+
+// ToJSON returns one whole message as JSON (OASIS "KMIP Additional Message Encodings", in hexadecimal forms), in one line without a line
+// feed. For other bytes it returns a *MalformedError without items.
+func ToJSON(message []byte, redact Redact) (string, error) {
+	from, length := lent(message)
+	var fault C.kmip_ttlv_fault
+	text, status := filled(8*len(message)+64, func(out *C.uint8_t, room C.size_t, size *C.size_t) C.kmip_ttlv_status {
+		return C.kmip_ttlv_to_json(from, length, C.uint32_t(redact), out, room, size, &fault)
+	})
+	if status == C.KMIP_TTLV_BAD_ARGUMENT {
+		return "", ErrBadRedact
+	}
+	return string(text), refusal(status, fault, nil, 0)
+}
+
+// FromJSON returns the canonical bytes of the message whose JSON a text is, in the forms that ToJSON has. For another text it returns a
+// *MalformedError without items.
+func FromJSON(json string) ([]byte, error) {
+	from, length := lent([]byte(json))
+	var fault C.kmip_ttlv_fault
+	bytes, status := filled(len(json)/2+64, func(out *C.uint8_t, room C.size_t, size *C.size_t) C.kmip_ttlv_status {
+		return C.kmip_ttlv_from_json(from, length, out, room, size, &fault)
+	})
+	return bytes, refusal(status, fault, nil, 0)
+}
+
+// name returns what a call for names wrote, and whether there is a name.
+func name(call func(out *C.uint8_t, room C.size_t, size *C.size_t) C.kmip_ttlv_status) (string, bool, error) {
+	text, status := filled(64, call)
+	if status == C.KMIP_TTLV_NO_NAME {
+		return "", false, nil
+	}
+	return string(text), status == C.KMIP_TTLV_OK, refusal(status, C.kmip_ttlv_fault{}, nil, 0)
+}
+
+// TagName returns the name that the KMIP specifications give a tag, and whether it has one. The library makes a table for each call: keep
+// what is asked for often.
+func TagName(tag uint32) (string, bool, error) {
+	return name(func(out *C.uint8_t, room C.size_t, size *C.size_t) C.kmip_ttlv_status {
+		return C.kmip_ttlv_tag_name(C.uint32_t(tag), out, room, size)
+	})
+}
+
+// ValueName returns the name that they give a value of the enumeration with this tag, and whether it has one.
+func ValueName(tag, value uint32) (string, bool, error) {
+	return name(func(out *C.uint8_t, room C.size_t, size *C.size_t) C.kmip_ttlv_status {
+		return C.kmip_ttlv_value_name(C.uint32_t(tag), C.uint32_t(value), out, room, size)
+	})
+}
+
+// MaskNames returns the names that they give the bits that are set in a mask with this tag, as "Encrypt | Decrypt", and whether it is the
+// tag of a mask.
+func MaskNames(tag, mask uint32) (string, bool, error) {
+	return name(func(out *C.uint8_t, room C.size_t, size *C.size_t) C.kmip_ttlv_status {
+		return C.kmip_ttlv_mask_names(C.uint32_t(tag), C.uint32_t(mask), out, room, size)
+	})
 }
 
 // Version returns the version of the C library, which ends in "-unproved" if nothing was proved.

@@ -71,7 +71,7 @@ func TestTexts(t *testing.T) {
 	same(t, text(ToDiagChecked(version, "4200")), "69[6Ai6Bi]")
 	lines = text(FromDiag("69[6Ai6Bi]", "4200", "42006A Major", NoLimit))
 	same(t, strings.Contains(lines, "  Tag: Major (0x42006A), Type: Integer (0x02), Data: <redacted>\n"), true)
-	same(t, strings.TrimSuffix(Version(), "-unproved"), "0.1.0")
+	same(t, strings.TrimSuffix(Version(), "-unproved"), "0.2.0")
 	text(ToText(nil, false, NoLimit))
 	text(ToTextNamed([]byte{}, "", true, NoLimit))
 	text(FromDiag("", "", "", NoLimit))
@@ -94,6 +94,56 @@ func TestTextsThatFail(t *testing.T) {
 	_, err = ToDiagChecked(version[:39], "")
 	same(t, err, &MalformedError{24, Cut, nil})
 	same(t, Check(version[:39]).Error(), "at byte 24: the bytes end within the root")
+}
+
+func TestJSON(t *testing.T) {
+	message := good[[]byte](t)(Encode(&Node{0x420023, Structure{{0x4200A1, TextString("p")}, {0x420024, Enumeration(1)}}}))
+	shown := `{"tag":"0x420023","type":"Structure","value":[{"tag":"0x4200A1","type":"TextString","value":%s},` +
+		`{"tag":"0x420024","type":"Enumeration","value":"0x00000001"}]}`
+	text := good[string](t)
+	same(t, text(ToJSON(message, RedactNothing)), fmt.Sprintf(shown, `"p"`))
+	same(t, text(ToJSON(message, RedactSecrets)), fmt.Sprintf(shown, "null"))
+	same(t, text(ToJSON(message, RedactValues)), fmt.Sprintf(shown, "null"))
+	same(t, good[[]byte](t)(FromJSON(text(ToJSON(message, RedactNothing)))), message)
+	_, err := ToJSON(message, 3)
+	same(t, err, ErrBadRedact)
+	_, err = ToJSON(version[:39], RedactValues)
+	same(t, err, &MalformedError{24, Cut, nil})
+	_, err = FromJSON(" {}")
+	same(t, err, &MalformedError{1, NotItem, nil})
+	same(t, err.Error(), "at byte 1: an item without exactly tag, type and value")
+	_, err = FromJSON("\xff")
+	same(t, errors.Is(err, ErrNotUTF8), true)
+}
+
+func TestNames(t *testing.T) {
+	for _, row := range []struct {
+		wanted string
+		is     bool
+		found  func() (string, bool, error)
+	}{
+		{"Key Material", true, func() (string, bool, error) { return TagName(0x420043) }},
+		{"", false, func() (string, bool, error) { return TagName(0x1420043) }},
+		{"Destroy", true, func() (string, bool, error) { return ValueName(0x42005C, 0x14) }},
+		{"", false, func() (string, bool, error) { return ValueName(0x420069, 1) }},
+		{"Encrypt | Decrypt", true, func() (string, bool, error) { return MaskNames(0x42002C, 12) }},
+		{"", true, func() (string, bool, error) { return MaskNames(0x42002C, 0) }},
+		{"", false, func() (string, bool, error) { return MaskNames(0x42005C, 1) }},
+	} {
+		found, is, err := row.found()
+		same(t, []any{found, is, err}, []any{row.wanted, row.is, nil})
+	}
+}
+
+func TestRedactedText(t *testing.T) {
+	rest := ", Type: Integer (0x02), Data: <redacted>"
+	wanted := "Tag: Protocol Version (0x420069), Type: Structure (0x01), Data: \n  Tag: Protocol Version Major (0x42006A)" + rest +
+		"\n  Tag: Protocol Version Minor (0x42006B)" + rest
+	same(t, good[string](t)(ToRedactedText(version, NoLimit)), wanted)
+	_, err := ToRedactedText(version[:39], NoLimit)
+	same(t, err, &MalformedError{24, Cut, nil})
+	_, err = ToRedactedText(version, 16)
+	same(t, errors.Is(err, ErrOutOfMemory), true)
 }
 
 func TestItems(t *testing.T) {

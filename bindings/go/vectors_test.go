@@ -35,7 +35,8 @@ func TestVectors(t *testing.T) {
 // Kinds of faults as the tests call them.
 var kinds = map[FaultKind]string{
 	Cut: "cut", NoStructure: "no_structure", UnknownType: "unknown_type", PartialHeader: "partial_header", WrongLength: "wrong_length",
-	Overlong: "overlong", InvalidValue: "invalid_value", Surplus: "surplus",
+	Overlong: "overlong", InvalidValue: "invalid_value", Surplus: "surplus", TooLong: "too_long", NotJSON: "not_json", TooDeep: "too_deep",
+	NotItem: "not_item", NotTag: "not_tag",
 }
 
 // found returns the number that a row of a test has, and what is wanted, or a text that says what went wrong.
@@ -54,6 +55,20 @@ func found(member string, given []byte, prefix, names string) (int, string) {
 		_, err := ToTextNamed(given, names, false, NoLimit)
 		errors.As(err, &bad)
 		return bad.Line, ""
+	case "printed_json":
+		return plain(ToJSON(given, RedactNothing))
+	case "printed_hidden_json":
+		return plain(ToJSON(given, RedactValues))
+	case "read_json":
+		made, err := FromJSON(string(given))
+		return plain(string(made), err)
+	case "bad_json":
+		var bad *MalformedError
+		_, err := FromJSON(string(given))
+		errors.As(err, &bad)
+		return bad.Offset, kinds[bad.Kind]
+	case "redacted_text":
+		return plain(ToRedactedText(given, NoLimit))
 	case "standard_text":
 		return plain(ToText(given, false, NoLimit))
 	case "text", "closed_text":

@@ -1,4 +1,4 @@
-"""TTLV, the encoding of OASIS KMIP: prints, redacts, lists, checks, decodes and encodes messages.
+"""TTLV, the encoding of OASIS KMIP: prints, redacts, lists, checks, decodes and encodes messages, as JSON too.
 
 `pip install` the folder that this file is in, as `./install` or the build of the C library made it. Or copy this file and
 kmip_ttlv_names.py beside libkmip_ttlv.so; or set KMIP_TTLV_LIBRARY to the path of the library. Importing it raises ImportError if the
@@ -8,18 +8,19 @@ Bytes are passed as `bytes`, `bytearray`, `memoryview`, or anything else with a 
 can raise MemoryError, and TypeError for an argument of another type.
 """
 import ctypes
-import json
+import functools
 import os
 from collections import namedtuple
 from datetime import datetime, timedelta, timezone
 
-from kmip_ttlv_names import SECRET_TAGS, TAGS
+from kmip_ttlv_names import SECRET_TAGS
 
-__all__ = ["check", "decode", "encode", "from_diag", "items", "tag_name", "to_diag", "to_diag_checked", "to_json", "to_text", "version", "write"]
+__all__ = ["check", "decode", "encode", "from_diag", "from_json", "items", "mask_names", "tag_name", "to_diag", "to_diag_checked", "to_json"]
+__all__ += ["to_text", "value_name", "version", "write"]
 __all__ += ["FAULTS", "Fault", "Item", "Node", "BadItem", "Malformed", "BadNames"]
 
 # The version of the library that the calls below are declared for.
-_VERSION = "0.1.0"
+_VERSION = "0.2.0"
 
 
 def _loaded(path):
@@ -35,9 +36,9 @@ def _loaded(path):
 _here = os.path.dirname(os.path.abspath(__file__))
 _library = _loaded(os.environ.get("KMIP_TTLV_LIBRARY") or os.path.join(_here, "libkmip_ttlv.so"))
 
-OK, OUT_OF_MEMORY, NOT_UTF8, NO_ROOM, MALFORMED, BAD_NAMES = range(6)
+OK, OUT_OF_MEMORY, NOT_UTF8, NO_ROOM, MALFORMED, BAD_NAMES, BAD_ARGUMENT, NO_NAME = range(8)
 
-# What is wrong with a message, or with an item to write, by the kind of the fault.
+# What is wrong with a message, with an item to write, or with JSON, by the kind of the fault.
 FAULTS = (
     "whole",
     "the bytes end within the root",
@@ -52,6 +53,10 @@ FAULTS = (
     "its tag is no number below 2^24",
     "its value goes past the end of the bytes",
     "with it a structure takes 2^32 bytes or more",
+    "not JSON",
+    "nested more than 127 deep",
+    "an item without exactly tag, type and value",
+    "a tag is not 0x and six hexadecimal digits",
 )
 
 # offset: of the header, in bytes from the first; depth: the structures around; length: of the value, in bytes
@@ -128,7 +133,8 @@ Fault = namedtuple("Fault", "offset kind")
 
 class Malformed(ValueError):
     """The bytes are not one whole message; `fault` is what is wrong, `items` are the items before it, and `path` the tags of the Structures
-    around it, the outermost first. (Of to_diag_checked both are empty: in malformed bytes those of a key may stand where a tag is expected.)
+    around it, the outermost first. (Of redacted texts both are empty: in malformed bytes those of a key may stand where a tag is expected.)
+    Or a text is not the JSON of a message: then the fault's offset is in bytes of the text, and both are empty.
     """
 
     def __init__(self, fault, found):
@@ -187,7 +193,13 @@ _to_diag = _call("to_diag", _lent, _lent, ctypes.c_bool, _lent, _sizes, _sizes)
 _to_diag_checked = _call("to_diag_checked", _lent, _lent, _lent, _sizes, ctypes.POINTER(_Fault))
 _to_text = _call("to_text", _lent, _lent, ctypes.c_bool, _size, _lent, _sizes, _sizes)
 _to_standard_text = _call("to_standard_text", _lent, ctypes.c_bool, _size, _lent, _sizes)
+_to_redacted_text = _call("to_redacted_text", _lent, _size, _lent, _sizes, ctypes.POINTER(_Fault))
 _from_diag = _call("from_diag", _lent, _lent, _lent, _size, _lent, _sizes, _sizes)
+_to_json = _call("to_json", _lent, ctypes.c_uint32, _lent, _sizes, ctypes.POINTER(_Fault))
+_from_json = _call("from_json", _lent, _lent, _sizes, ctypes.POINTER(_Fault))
+_tag_name = _call("tag_name", ctypes.c_uint32, _lent, _sizes)
+_value_name = _call("value_name", ctypes.c_uint32, ctypes.c_uint32, _lent, _sizes)
+_mask_names = _call("mask_names", ctypes.c_uint32, ctypes.c_uint32, _lent, _sizes)
 _items = _call("items", _lent, ctypes.POINTER(_Item), _size, _sizes, ctypes.POINTER(_Fault))
 _check = _call("check", _lent, ctypes.POINTER(_Fault))
 _write = _call("write", ctypes.POINTER(_Item), _size, _lent, _lent, _sizes, ctypes.POINTER(_BadItem))
@@ -224,17 +236,22 @@ def _limit(limit, usual):
     return min(limit, _SIZES - 1)
 
 
-def _text(call, room, *further):
-    """Returns the text of a call that takes a buffer of `room` bytes, a length and further objects to set."""
+def _filled(call, room, *further):
+    """Returns what a call writes that takes a buffer of `room` bytes, a length and further objects to set."""
     length = _size()
     while True:
         out = ctypes.create_string_buffer(room + 1)
         status = call(out, room, ctypes.byref(length), *(ctypes.byref(it) for it in further))
         if status == OK:
-            return ctypes.string_at(out, length.value).decode("utf-8")
+            return ctypes.string_at(out, length.value)
         if status != NO_ROOM:
             raise _refusal(status, further)
         room = length.value
+
+
+def _text(call, room, *further):
+    """Returns the text that a call writes."""
+    return _filled(call, room, *further).decode("utf-8")
 
 
 def _refusal(status, further=()):
@@ -245,6 +262,8 @@ def _refusal(status, further=()):
         return UnicodeError("a text is not UTF-8")
     if status == MALFORMED:
         return Malformed(Fault(further[0].offset, further[0].kind), [])
+    if status == NO_NAME:
+        return LookupError("there is no name")
     return BadNames(further[0].value)
 
 
@@ -270,9 +289,30 @@ def to_diag_checked(message, prefix=""):
     return _text(lambda *out: _to_diag_checked(message, len(message), prefix, len(prefix), *out), len(message) + 64, fault)
 
 
+@functools.lru_cache(maxsize=4096)
+def _named(call, *numbers):
+    """Returns the name that a call, named without its prefix, has for some numbers, or None. Names are kept: a call makes a table first."""
+    if not all(0 <= number < _NUMBERS for number in numbers):
+        return None
+    try:
+        return _text(lambda *out: globals()[f"_{call}"](*numbers, *out), 64)
+    except LookupError:
+        return None
+
+
 def tag_name(tag):
     """Returns the name that the KMIP specifications give a tag's number, or None."""
-    return TAGS.get(_int(tag, "the tag"))
+    return _named("tag_name", _int(tag, "the tag"))
+
+
+def value_name(tag, value):
+    """Returns the name that they give a value of the Enumeration with this tag, or None."""
+    return _named("value_name", _int(tag, "the tag"), _int(value, "the value"))
+
+
+def mask_names(tag, mask):
+    """Returns the names that they give the bits that are set in a mask with this tag, as "Encrypt | Decrypt"; None if it is the tag of no mask."""
+    return _named("mask_names", _int(tag, "the tag"), _int(mask, "the mask"))
 
 
 def to_text(message, names=None, closed=True, limit=None, redact=False):
@@ -288,24 +328,23 @@ def to_text(message, names=None, closed=True, limit=None, redact=False):
     With closed=False an empty structure stays open as in to_diag, so the text of n empty ones side by side has n * n bytes too.
 
     With redact=True no value is shown but those of Enumerations, in hexadecimal: it is what from_diag says of to_diag_checked, so it raises
-    Malformed, without any item, for bytes that aren't one whole message, and its limit is that of from_diag. Empty structures are closed.
+    Malformed, without any item, for bytes that aren't one whole message. Empty structures are closed.
     """
-    if redact:
-        if not closed:
-            raise ValueError("a redacted text closes empty structures")
-        return from_diag(to_diag_checked(message), names=_standard_names() if names is None else names, limit=limit)
     message = _bytes(message)
     room = 4 * len(message) + 256
+    if redact and not closed:
+        raise ValueError("a redacted text closes empty structures")
+    if redact and names is not None:
+        return from_diag(to_diag_checked(message), names=names, limit=limit)
+    if redact:
+        limit, fault = _limit(limit, 64 * len(message) + (1 << 20)), _Fault()
+        return _text(lambda *out: _to_redacted_text(message, len(message), limit, *out), room, fault)
     if names is None:
         limit = _limit(limit, 64 * len(message) + (1 << 20))
         return _text(lambda *out: _to_standard_text(message, len(message), not closed, limit, *out), room)
     names, line = _utf8(names), _size()
     limit = _limit(limit, 64 * len(message) + 16 * len(names) + (1 << 20))
     return _text(lambda *out: _to_text(message, len(message), names, len(names), not closed, limit, *out), room, line)
-
-
-def _standard_names():
-    return "".join(f"{tag:06X} {name}\n" for tag, name in TAGS.items())
 
 
 def from_diag(diagnostic, prefix="", names="", limit=None):
@@ -384,37 +423,34 @@ def decode(message):
     return root
 
 
-# The names of types in JSON, by their codes.
-_TYPES = (None, "Structure", "Integer", "LongInteger", "BigInteger", "Enumeration", "Boolean", "TextString", "ByteString", "DateTime", "Interval")
-# What JSON needn't escape, and a terminal would take for commands.
-_CONTROLS = {code: f"\\u{code:04x}" for code in range(0x7F, 0xA0)}
-
-
-def _json_value(typ, content):
-    if typ == 6:
-        return "true" if content[-1] else "false"
-    if typ == 7:
-        return json.dumps(content.decode("utf-8"), ensure_ascii=False).translate(_CONTROLS)
-    return f'"{"" if typ == 8 else "0x"}{content.hex().upper()}"'
+# What to_json hides, by its number.
+_HIDDEN = {False: 0, "keys": 1, True: 2}
 
 
 def to_json(message, redact=False):
     """Returns one whole message as the JSON that `ttlv json` prints, in one line: OASIS "KMIP Additional Message Encodings", in hexadecimal forms.
 
-    With redact=True each value but those of Enumerations is null. Raises Malformed if the bytes are not one whole message.
+    With redact=True each value but those of Enumerations is null, with redact="keys" each of a secret tag, and in an item with one, as in
+    `repr` of a Node. Raises Malformed if the bytes are not one whole message.
     """
-    message, parts, opened, is_first = _bytes(message), [], 0, True
-    for it in items(message):
-        parts.append("]}" * (opened - it.depth) + ("" if is_first and it.depth == opened else ","))
-        parts.append(f'{{"tag":"0x{it.tag:06X}","type":"{_TYPES[it.typ]}","value":')
-        is_first, opened = it.typ == 1, it.depth + (it.typ == 1)
-        if is_first:
-            parts.append("[")
-        elif redact and it.typ != 5:
-            parts.append("null}")
-        else:
-            parts.append(_json_value(it.typ, message[it.offset + 8 : it.offset + 8 + it.length]) + "}")
-    return "".join(parts) + "]}" * opened
+    if redact not in _HIDDEN:
+        raise ValueError('what is hidden is neither False, True nor "keys"')
+    message, fault = _bytes(message), _Fault()
+    try:
+        return _text(lambda *out: _to_json(message, len(message), _HIDDEN[redact], *out), 8 * len(message) + 64, fault)
+    except Malformed:
+        items(message)
+        raise
+
+
+def from_json(text):
+    """Returns the canonical bytes of the message whose JSON a text is, in the forms of to_json: from_json(to_json(m)) is m, with zeros for its
+    padding, if no Structure in it is in more than 62 others.
+
+    Raises Malformed if it is the JSON of none; the fault's offset is in bytes of the text in UTF-8.
+    """
+    text, fault = _utf8(text), _Fault()
+    return _filled(lambda *out: _from_json(text, len(text), *out), len(text) // 2 + 64, fault)
 
 
 _FIELDS = tuple(zip(Item._fields, (_SIZES, _SIZES, _NUMBERS, _NUMBERS, _NUMBERS)))

@@ -9,7 +9,13 @@ PROVED(to_diag);
 PROVED(to_diag_checked);
 PROVED(to_text);
 PROVED(to_standard_text);
+PROVED(to_redacted_text);
 PROVED(from_diag);
+PROVED(to_json);
+PROVED(from_json);
+PROVED(tag_name);
+PROVED(value_name);
+PROVED(mask_names);
 PROVED(items);
 PROVED(check);
 PROVED(write);
@@ -80,6 +86,14 @@ kmip_ttlv_status kmip_ttlv_to_standard_text(const uint8_t *bytes, size_t bytes_l
     return rattle_kmip_ttlv_to_standard_text(from(bytes), bytes_len, open_empty, limit, to(out), room, length);
 }
 
+kmip_ttlv_status kmip_ttlv_to_redacted_text(const uint8_t *bytes, size_t bytes_len, size_t limit, uint8_t *out, size_t room,
+                                            size_t *length, kmip_ttlv_fault *fault) {
+    if (is_bad(bytes, bytes_len) || is_bad(out, room)) {
+        return refused_with(length, fault);
+    }
+    return rattle_kmip_ttlv_to_redacted_text(from(bytes), bytes_len, limit, to(out), room, length, fault);
+}
+
 kmip_ttlv_status kmip_ttlv_from_diag(const uint8_t *diagnostic, size_t diagnostic_len, const uint8_t *prefix,
                                      size_t prefix_len, const uint8_t *names, size_t names_len, size_t limit,
                                      uint8_t *out, size_t room, size_t *length, size_t *bad_line) {
@@ -88,6 +102,43 @@ kmip_ttlv_status kmip_ttlv_from_diag(const uint8_t *diagnostic, size_t diagnosti
     }
     return rattle_kmip_ttlv_from_diag(from(diagnostic), diagnostic_len, from(prefix), prefix_len, from(names), names_len, limit,
                                       to(out), room, length, bad_line);
+}
+
+kmip_ttlv_status kmip_ttlv_to_json(const uint8_t *bytes, size_t bytes_len, uint32_t redact, uint8_t *out, size_t room,
+                                   size_t *length, kmip_ttlv_fault *fault) {
+    if (is_bad(bytes, bytes_len) || is_bad(out, room)) {
+        return refused_with(length, fault);
+    }
+    return rattle_kmip_ttlv_to_json(from(bytes), bytes_len, redact, to(out), room, length, fault);
+}
+
+kmip_ttlv_status kmip_ttlv_from_json(const uint8_t *text, size_t text_len, uint8_t *out, size_t room, size_t *length,
+                                     kmip_ttlv_fault *fault) {
+    if (is_bad(text, text_len) || is_bad(out, room)) {
+        return refused_with(length, fault);
+    }
+    return rattle_kmip_ttlv_from_json(from(text), text_len, to(out), room, length, fault);
+}
+
+kmip_ttlv_status kmip_ttlv_tag_name(uint32_t tag, uint8_t *out, size_t room, size_t *length) {
+    if (is_bad(out, room)) {
+        return refused(length, length);
+    }
+    return rattle_kmip_ttlv_tag_name(tag, to(out), room, length);
+}
+
+kmip_ttlv_status kmip_ttlv_value_name(uint32_t tag, uint32_t value, uint8_t *out, size_t room, size_t *length) {
+    if (is_bad(out, room)) {
+        return refused(length, length);
+    }
+    return rattle_kmip_ttlv_value_name(tag, value, to(out), room, length);
+}
+
+kmip_ttlv_status kmip_ttlv_mask_names(uint32_t tag, uint32_t mask, uint8_t *out, size_t room, size_t *length) {
+    if (is_bad(out, room)) {
+        return refused(length, length);
+    }
+    return rattle_kmip_ttlv_mask_names(tag, mask, to(out), room, length);
 }
 
 kmip_ttlv_status kmip_ttlv_items(const uint8_t *bytes, size_t bytes_len, kmip_ttlv_item *items, size_t room, size_t *count,

@@ -16,7 +16,21 @@ typedef struct {
 } list;
 
 /* What a call that fills a buffer was asked for. */
-typedef enum { TO_DIAG, TO_DIAG_CHECKED, TO_TEXT, TO_STANDARD_TEXT, FROM_DIAG, WRITE, VERSION } task;
+typedef enum {
+    TO_DIAG,
+    TO_DIAG_CHECKED,
+    TO_TEXT,
+    TO_STANDARD_TEXT,
+    TO_REDACTED_TEXT,
+    FROM_DIAG,
+    TO_JSON,
+    FROM_JSON,
+    TAG_NAME,
+    VALUE_NAME,
+    MASK_NAMES,
+    WRITE,
+    VERSION
+} task;
 
 typedef struct {
     task task;
@@ -24,6 +38,8 @@ typedef struct {
     list items;
     bool open_empty;
     size_t limit;
+    /* of JSON what is hidden; of a name the tag, and the value or mask */
+    uint32_t numbers[2];
 } asked;
 
 typedef struct {
@@ -92,6 +108,27 @@ static answer call(const asked *it, uint8_t *out, size_t room, size_t *length) {
     case TO_STANDARD_TEXT:
         made.status = kmip_ttlv_to_standard_text(in->bytes, in->length, it->open_empty, it->limit, out, room, length);
         return made;
+    case TO_REDACTED_TEXT:
+        made.status = kmip_ttlv_to_redacted_text(in->bytes, in->length, it->limit, out, room, length, &fault);
+        made.where = fault.offset, made.what = fault.kind;
+        return made;
+    case TO_JSON:
+        made.status = kmip_ttlv_to_json(in->bytes, in->length, it->numbers[0], out, room, length, &fault);
+        made.where = fault.offset, made.what = fault.kind;
+        return made;
+    case FROM_JSON:
+        made.status = kmip_ttlv_from_json(in->bytes, in->length, out, room, length, &fault);
+        made.where = fault.offset, made.what = fault.kind;
+        return made;
+    case TAG_NAME:
+        made.status = kmip_ttlv_tag_name(it->numbers[0], out, room, length);
+        return made;
+    case VALUE_NAME:
+        made.status = kmip_ttlv_value_name(it->numbers[0], it->numbers[1], out, room, length);
+        return made;
+    case MASK_NAMES:
+        made.status = kmip_ttlv_mask_names(it->numbers[0], it->numbers[1], out, room, length);
+        return made;
     case FROM_DIAG:
         made.status = kmip_ttlv_from_diag(in->bytes, in->length, prefix->bytes, prefix->length, names->bytes, names->length, it->limit, out,
                                           room, length, &made.where);
@@ -149,7 +186,7 @@ static jbyteArray answered(JNIEnv *env, asked it, jbyteArray input, jbyteArray p
 }
 
 static asked task_of(task task, jboolean open_empty, jlong limit) {
-    const asked it = {task, {NULL, 0}, {NULL, 0}, {NULL, 0}, {NULL, 0}, open_empty != JNI_FALSE, limit < 0 ? 0 : (size_t)limit};
+    const asked it = {task, {NULL, 0}, {NULL, 0}, {NULL, 0}, {NULL, 0}, open_empty != JNI_FALSE, limit < 0 ? 0 : (size_t)limit, {0, 0}};
     return it;
 }
 
@@ -170,6 +207,30 @@ METHOD(jbyteArray, toText0)
 (JNIEnv *env, jclass of, jbyteArray bytes, jbyteArray names, jboolean open_empty, jlong limit, jlongArray told) {
     UNUSED(of);
     return answered(env, task_of(names == NULL ? TO_STANDARD_TEXT : TO_TEXT, open_empty, limit), bytes, NULL, names, NULL, told);
+}
+
+METHOD(jbyteArray, toRedactedText0)(JNIEnv *env, jclass of, jbyteArray bytes, jlong limit, jlongArray told) {
+    UNUSED(of);
+    return answered(env, task_of(TO_REDACTED_TEXT, JNI_FALSE, limit), bytes, NULL, NULL, NULL, told);
+}
+
+METHOD(jbyteArray, toJson0)(JNIEnv *env, jclass of, jbyteArray bytes, jint redact, jlongArray told) {
+    UNUSED(of);
+    asked it = task_of(TO_JSON, JNI_FALSE, 0);
+    it.numbers[0] = (uint32_t)redact;
+    return answered(env, it, bytes, NULL, NULL, NULL, told);
+}
+
+METHOD(jbyteArray, fromJson0)(JNIEnv *env, jclass of, jbyteArray text, jlongArray told) {
+    UNUSED(of);
+    return answered(env, task_of(FROM_JSON, JNI_FALSE, 0), text, NULL, NULL, NULL, told);
+}
+
+METHOD(jbyteArray, name0)(JNIEnv *env, jclass of, jint which, jint tag, jint number, jlongArray told) {
+    UNUSED(of);
+    asked it = task_of(which == 0 ? TAG_NAME : which == 1 ? VALUE_NAME : MASK_NAMES, JNI_FALSE, 0);
+    it.numbers[0] = (uint32_t)tag, it.numbers[1] = (uint32_t)number;
+    return answered(env, it, NULL, NULL, NULL, NULL, told);
 }
 
 METHOD(jbyteArray, fromDiag0)

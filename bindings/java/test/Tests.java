@@ -9,6 +9,7 @@ import java.util.HexFormat;
 import java.util.List;
 import java.util.Locale;
 import java.util.Objects;
+import java.util.Optional;
 import java.util.Random;
 import java.util.concurrent.atomic.AtomicInteger;
 import java.util.stream.Collectors;
@@ -85,7 +86,7 @@ public final class Tests {
         same(toDiagChecked(VERSION, "4200"), "69[6Ai6Bi]");
         String lines = fromDiag("69[6Ai6Bi]", "4200", "42006A Major", 1 << 20);
         same(lines.contains("  Tag: Major (0x42006A), Type: Integer (0x02), Data: <redacted>\n"), true);
-        same(version().replace("-unproved", ""), "0.1.0");
+        same(version().replace("-unproved", ""), "0.2.0");
         same(toDiag(new byte[0], "", true).text(), toDiag(new byte[0], "4200", false).text());
         same(fromDiag("", "", "", 1 << 20), "");
     }
@@ -108,6 +109,39 @@ public final class Tests {
         for (Call call : List.<Call>of(() -> toDiagChecked(beginning, ""), () -> items(beginning), () -> decode(beginning))) {
             same(refused(MalformedException.class, call), cut);
         }
+    }
+
+    private static void json() throws Exception {
+        Node password = new Node(0x4200A1, new Value.TextString("p")), kind = new Node(0x420024, new Value.Enumeration(1));
+        byte[] message = encode(structure(0x420023, password, kind));
+        String shown = "{\"tag\":\"0x420023\",\"type\":\"Structure\",\"value\":[{\"tag\":\"0x4200A1\",\"type\":\"TextString\",\"value\":%s},"
+                + "{\"tag\":\"0x420024\",\"type\":\"Enumeration\",\"value\":\"0x00000001\"}]}";
+        same(toJson(message, Redact.NOTHING), shown.formatted("\"p\""));
+        same(toJson(message, Redact.SECRETS), shown.formatted("null"));
+        same(toJson(message, Redact.VALUES), shown.formatted("null"));
+        same(digits(fromJson(toJson(message, Redact.NOTHING))), digits(message));
+        same(refused(MalformedException.class, () -> fromJson(" {}")), "at byte 1: an item without exactly tag, type and value");
+        same(refused(MalformedException.class, () -> fromJson("")), "at byte 0: not JSON");
+        same(refused(MalformedException.class, () -> toJson(Arrays.copyOf(VERSION, 39), Redact.VALUES)), "at byte 24: the bytes end within the root");
+        same(refused(IllegalArgumentException.class, () -> fromJson("\ud800")), "a text has half of a surrogate pair");
+    }
+
+    private static void names() {
+        same(tagName(0x420043), Optional.of("Key Material"));
+        same(valueName(0x42005C, 0x14), Optional.of("Destroy"));
+        same(maskNames(0x42002C, 12), Optional.of("Encrypt | Decrypt"));
+        same(maskNames(0x42002C, 0), Optional.of(""));
+        for (Optional<String> none : List.of(tagName(0x540001), tagName(0x1420043), tagName(-1), valueName(0x42005C, -1), maskNames(0x42005C, 1))) {
+            same(none, Optional.empty());
+        }
+    }
+
+    private static void redactedTexts() throws Exception {
+        String rest = ", Type: Integer (0x02), Data: <redacted>", lines = toRedactedText(VERSION, usualLimit(40));
+        same(lines, "Tag: Protocol Version (0x420069), Type: Structure (0x01), Data: \n  Tag: Protocol Version Major (0x42006A)" + rest
+                + "\n  Tag: Protocol Version Minor (0x42006B)" + rest);
+        same(refused(OutOfMemoryException.class, () -> toRedactedText(VERSION, 16)), "out of memory, or the text takes more than its limit");
+        same(refused(MalformedException.class, () -> toRedactedText(Arrays.copyOf(VERSION, 39), 1 << 20)), "at byte 24: the bytes end within the root");
     }
 
     private static void lists() throws Exception {
@@ -310,6 +344,11 @@ public final class Tests {
         return switch (member) {
             case "fault", "items", "cut" -> walked(member, given);
             case "bad_line" -> refused(BadNamesException.class, () -> toText(given, names, false, any)).replaceAll("\\D", "") + " ";
+            case "redacted_text" -> "0 " + toRedactedText(given, any);
+            case "printed_json" -> "0 " + toJson(given, Redact.NOTHING);
+            case "printed_hidden_json" -> "0 " + toJson(given, Redact.VALUES);
+            case "read_json" -> "0 " + new String(fromJson(new String(given, StandardCharsets.UTF_8)), StandardCharsets.ISO_8859_1);
+            case "bad_json" -> unread(new String(given, StandardCharsets.UTF_8));
             case "standard_text" -> "0 " + toText(given, false, any);
             case "text", "closed_text" -> "0 " + toText(given, names, member.equals("text"), any);
             case "diagnostic", "closed_diagnostic" -> {
@@ -326,6 +365,15 @@ public final class Tests {
             }
             default -> throw new IllegalArgumentException(member);
         };
+    }
+
+    /** Where and why a text is not the JSON of a message. */
+    private static String unread(String json) {
+        try {
+            return digits(fromJson(json));
+        } catch (MalformedException why) {
+            return why.offset + " " + why.fault.name().toLowerCase(Locale.ROOT);
+        }
     }
 
     /** The same of the calls that refuse other bytes than one whole message: each has the same fault. */
@@ -352,7 +400,7 @@ public final class Tests {
         };
     }
 
-    /** The JSON of a node: what no call makes, but what says of each value how it was decoded. */
+    /** The JSON of a node, which says of each value how it was decoded. */
     private static String json(Node node) {
         Value value = node.value();
         String hexadecimal = digits(value.content()), shown = "\"0x" + hexadecimal + "\"";
@@ -379,7 +427,7 @@ public final class Tests {
             String[] row = line.split("\t", -1);
             String[] words = {row[4], row[5], row[6]};
             Arrays.setAll(words, at -> new String(decoded(words[at]), StandardCharsets.UTF_8));
-            String wanted = row[2] + " " + (row[1].equals("canonical") ? new String(decoded(row[6]), StandardCharsets.ISO_8859_1) : words[2]);
+            String wanted = row[2] + " " + (List.of("canonical", "read_json").contains(row[1]) ? new String(decoded(row[6]), StandardCharsets.ISO_8859_1) : words[2]);
             values++;
             if (!found(row[1], decoded(row[3]), words[0], words[1]).equals(wanted)) {
                 differ++;
@@ -393,6 +441,9 @@ public final class Tests {
     public static void main(String[] words) throws Exception {
         texts();
         textsThatFail();
+        json();
+        names();
+        redactedTexts();
         lists();
         faults();
         itemsThatCannotBeWritten();

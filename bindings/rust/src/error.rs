@@ -9,9 +9,9 @@ use std::fmt;
 pub enum Error {
     /// Memory ran out, or the text needs more than its limit.
     OutOfMemory,
-    /// The bytes are not one whole message.
+    /// The bytes are not one whole message, or a text is not the JSON of one.
     Malformed {
-        /// The first fault, in document order.
+        /// The first fault, in document order; of JSON its offset is in the text.
         fault: Fault,
         /// The items before it, of a call that lists or decodes them.
         items: Vec<Item>,
@@ -59,6 +59,16 @@ pub enum FaultKind {
     InvalidValue,
     /// More bytes follow the root.
     Surplus,
+    /// A Structure in JSON has 2^32 bytes or more.
+    TooLong,
+    /// It is not JSON: a token can't stand there, or it ends too early.
+    NotJson,
+    /// It is JSON that nests more than 127 deep.
+    TooDeep,
+    /// An item in JSON is no object of exactly the members `tag`, `type` and `value`.
+    NotItem,
+    /// A tag in JSON is not `0x` and six hexadecimal digits.
+    NotTag,
     /// A number that this crate doesn't know, of a later library.
     Other(u32),
 }
@@ -96,6 +106,11 @@ impl From<raw::Fault> for Fault {
             raw::OVERLONG => FaultKind::Overlong,
             raw::INVALID_VALUE => FaultKind::InvalidValue,
             raw::SURPLUS => FaultKind::Surplus,
+            raw::TOO_LONG => FaultKind::TooLong,
+            raw::NOT_JSON => FaultKind::NotJson,
+            raw::TOO_DEEP => FaultKind::TooDeep,
+            raw::NOT_ITEM => FaultKind::NotItem,
+            raw::NOT_TAG => FaultKind::NotTag,
             other => FaultKind::Other(other),
         };
         Fault { offset: found.offset, kind }
@@ -129,6 +144,11 @@ impl fmt::Display for FaultKind {
             FaultKind::Overlong => "the item goes past the end of the structure around",
             FaultKind::InvalidValue => "the content is no value of the type",
             FaultKind::Surplus => "further bytes follow the root",
+            FaultKind::TooLong => "with it a structure takes 2^32 bytes or more",
+            FaultKind::NotJson => "not JSON",
+            FaultKind::TooDeep => "nested more than 127 deep",
+            FaultKind::NotItem => "an item without exactly tag, type and value",
+            FaultKind::NotTag => "a tag is not 0x and six hexadecimal digits",
             FaultKind::Other(_) => "unknown fault",
         })
     }

@@ -1,4 +1,4 @@
-//! TTLV, the encoding of OASIS KMIP: prints, redacts, lists, checks, decodes and encodes messages, by the C library kmip_ttlv.
+//! TTLV, the encoding of OASIS KMIP: prints, redacts, lists, checks, decodes and encodes messages, as JSON too, by the C library kmip_ttlv.
 //!
 //! Offsets and lengths are in bytes. Every call can fail with [`Error::OutOfMemory`].
 //!
@@ -26,6 +26,17 @@ pub struct Diagnostic {
     pub read: usize,
 }
 
+/// Which values [`to_json`] hides: `null` stands in their place.
+#[derive(Clone, Copy, Debug, PartialEq, Eq, Hash)]
+pub enum Redact {
+    /// None.
+    Nothing,
+    /// Those of secret tags, whose items can hold a key, data to encrypt or decrypt, or proof of identity, and of all items in them.
+    Secrets,
+    /// All but those of Enumerations.
+    Values,
+}
+
 /// What is enough memory for the text of a message, or of a diagnostic, of so many bytes that doesn't nest deep.
 pub fn usual_limit(length: usize) -> usize {
     length.saturating_mul(512).saturating_add(1 << 20)
@@ -35,6 +46,14 @@ pub fn usual_limit(length: usize) -> usize {
 fn plain(status: u32) -> Error {
     debug_assert_eq!(status, raw::OUT_OF_MEMORY);
     Error::OutOfMemory
+}
+
+/// The error of a status that has a fault, if that is what it says.
+fn faulty(status: u32, fault: raw::Fault) -> Error {
+    match status {
+        raw::MALFORMED => Error::Malformed { fault: fault.into(), items: Vec::new() },
+        status => plain(status),
+    }
 }
 
 /// Calls with a buffer of `room` bytes, and with one as large as is asked for, and returns what was written.
@@ -67,8 +86,7 @@ pub fn check(bytes: &[u8]) -> Result<(), Error> {
     // SAFETY: the pointer and the length are those of a slice, whose pointer is never null, and `fault` is a place of its own.
     match unsafe { raw::kmip_ttlv_check(bytes.as_ptr(), bytes.len(), &mut fault) } {
         raw::OK => Ok(()),
-        raw::MALFORMED => Err(Error::Malformed { fault: fault.into(), items: Vec::new() }),
-        status => Err(plain(status)),
+        status => Err(faulty(status, fault)),
     }
 }
 
@@ -132,10 +150,7 @@ pub fn to_diag_checked(bytes: &[u8], prefix: &str) -> Result<String, Error> {
     let made = text(bytes.len() + 64, |out, room, length| unsafe {
         raw::kmip_ttlv_to_diag_checked(bytes.as_ptr(), bytes.len(), prefix.as_ptr(), prefix.len(), out, room, length, &mut fault)
     });
-    made.map_err(|status| match status {
-        raw::MALFORMED => Error::Malformed { fault: fault.into(), items: Vec::new() },
-        status => plain(status),
-    })
+    made.map_err(|status| faulty(status, fault))
 }
 
 /// Prints any bytes as readable text with every value, and the names of KMIP's tags. Texts keep their control characters: escape them
@@ -182,6 +197,92 @@ pub fn from_diag(diagnostic: &str, prefix: &str, names: &str, limit: usize) -> R
         raw::kmip_ttlv_from_diag(text, text_len, prefix_from, prefix_len, table, names.len(), limit, out, room, length, &mut line)
     });
     made.map_err(|status| if status == raw::BAD_NAMES { Error::BadNames { line } } else { plain(status) })
+}
+
+/// Prints one whole message as readable text without any value but those of Enumerations, and with the names of KMIP's tags.
+///
+/// # Errors
+///
+/// `Malformed`, without items, for any other bytes: nothing is shown of them. `OutOfMemory`, also if the text takes more than `limit`.
+pub fn to_redacted_text(bytes: &[u8], limit: usize) -> Result<String, Error> {
+    let mut fault = raw::Fault::default();
+    // SAFETY: as in `write`.
+    let made = text(4 * bytes.len() + 256, |out, room, length| unsafe {
+        raw::kmip_ttlv_to_redacted_text(bytes.as_ptr(), bytes.len(), limit, out, room, length, &mut fault)
+    });
+    made.map_err(|status| faulty(status, fault))
+}
+
+/// Prints one whole message as JSON (OASIS "KMIP Additional Message Encodings", in hexadecimal forms), in one line without a line feed.
+///
+/// # Errors
+///
+/// `Malformed`, without items, for any other bytes.
+pub fn to_json(bytes: &[u8], redact: Redact) -> Result<String, Error> {
+    let mut fault = raw::Fault::default();
+    let hidden = match redact {
+        Redact::Nothing => raw::SHOW_ALL,
+        Redact::Secrets => raw::REDACT_SECRETS,
+        Redact::Values => raw::REDACT_VALUES,
+    };
+    // SAFETY: as in `write`.
+    let made = text(8 * bytes.len() + 64, |out, room, length| unsafe {
+        raw::kmip_ttlv_to_json(bytes.as_ptr(), bytes.len(), hidden, out, room, length, &mut fault)
+    });
+    made.map_err(|status| faulty(status, fault))
+}
+
+/// Reads a message from JSON, in the forms that [`to_json`] prints, and returns its canonical bytes.
+///
+/// # Errors
+///
+/// `Malformed`, without items, for any other text; the fault's offset is in the text.
+pub fn from_json(json: &str) -> Result<Vec<u8>, Error> {
+    let mut fault = raw::Fault::default();
+    // SAFETY: as in `write`.
+    let made = filled(json.len() / 2 + 64, |out, room, length| unsafe {
+        raw::kmip_ttlv_from_json(json.as_ptr(), json.len(), out, room, length, &mut fault)
+    });
+    made.map_err(|status| faulty(status, fault))
+}
+
+/// What a call for names wrote, if there is a name.
+fn name(made: Result<String, u32>) -> Result<Option<String>, Error> {
+    match made {
+        Ok(name) => Ok(Some(name)),
+        Err(raw::NO_NAME) => Ok(None),
+        Err(status) => Err(plain(status)),
+    }
+}
+
+/// The name that the KMIP specifications give a tag, if any. The library makes a table for each call: keep what is asked for often.
+///
+/// # Errors
+///
+/// None but `OutOfMemory`.
+pub fn tag_name(tag: u32) -> Result<Option<String>, Error> {
+    // SAFETY: as in `write`.
+    name(text(64, |out, room, length| unsafe { raw::kmip_ttlv_tag_name(tag, out, room, length) }))
+}
+
+/// The name that they give a value of the Enumeration with this tag, if any.
+///
+/// # Errors
+///
+/// None but `OutOfMemory`.
+pub fn value_name(tag: u32, value: u32) -> Result<Option<String>, Error> {
+    // SAFETY: as in `write`.
+    name(text(64, |out, room, length| unsafe { raw::kmip_ttlv_value_name(tag, value, out, room, length) }))
+}
+
+/// The names that they give the bits that are set in a mask with this tag, as `Encrypt | Decrypt`; none if it is the tag of no mask.
+///
+/// # Errors
+///
+/// None but `OutOfMemory`.
+pub fn mask_names(tag: u32, mask: u32) -> Result<Option<String>, Error> {
+    // SAFETY: as in `write`.
+    name(text(256, |out, room, length| unsafe { raw::kmip_ttlv_mask_names(tag, mask, out, room, length) }))
 }
 
 /// The version of the C library: that of this crate, and `-unproved` behind it if nothing was proved.

@@ -39,6 +39,7 @@ pub const OUT_OF_MEMORY: u32 = 1;
 pub const NO_ROOM: u32 = 3;
 pub const MALFORMED: u32 = 4;
 pub const BAD_NAMES: u32 = 5;
+pub const NO_NAME: u32 = 7;
 
 pub const CUT: u32 = 1;
 pub const NO_STRUCTURE: u32 = 2;
@@ -52,6 +53,14 @@ pub const NOT_INSIDE: u32 = 9;
 pub const LONG_TAG: u32 = 10;
 pub const OUTSIDE: u32 = 11;
 pub const TOO_LONG: u32 = 12;
+pub const NOT_JSON: u32 = 13;
+pub const TOO_DEEP: u32 = 14;
+pub const NOT_ITEM: u32 = 15;
+pub const NOT_TAG: u32 = 16;
+
+pub const SHOW_ALL: u32 = 0;
+pub const REDACT_SECRETS: u32 = 1;
+pub const REDACT_VALUES: u32 = 2;
 
 pub const STRUCTURE: u32 = 1;
 pub const INTEGER: u32 = 2;
@@ -74,9 +83,18 @@ extern "C" {
         out: *mut c_uchar, room: usize, length: *mut usize) -> u32;
     pub fn kmip_ttlv_to_text(bytes: *const c_uchar, bytes_len: usize, names: *const c_uchar, names_len: usize,
         open_empty: bool, limit: usize, out: *mut c_uchar, room: usize, length: *mut usize, bad_line: *mut usize) -> u32;
+    pub fn kmip_ttlv_to_redacted_text(bytes: *const c_uchar, bytes_len: usize, limit: usize, out: *mut c_uchar, room: usize,
+        length: *mut usize, fault: *mut Fault) -> u32;
     pub fn kmip_ttlv_from_diag(diagnostic: *const c_uchar, diagnostic_len: usize, prefix: *const c_uchar,
         prefix_len: usize, names: *const c_uchar, names_len: usize, limit: usize, out: *mut c_uchar, room: usize,
         length: *mut usize, bad_line: *mut usize) -> u32;
+    pub fn kmip_ttlv_to_json(bytes: *const c_uchar, bytes_len: usize, redact: u32, out: *mut c_uchar, room: usize,
+        length: *mut usize, fault: *mut Fault) -> u32;
+    pub fn kmip_ttlv_from_json(text: *const c_uchar, text_len: usize, out: *mut c_uchar, room: usize, length: *mut usize,
+        fault: *mut Fault) -> u32;
+    pub fn kmip_ttlv_tag_name(tag: u32, out: *mut c_uchar, room: usize, length: *mut usize) -> u32;
+    pub fn kmip_ttlv_value_name(tag: u32, value: u32, out: *mut c_uchar, room: usize, length: *mut usize) -> u32;
+    pub fn kmip_ttlv_mask_names(tag: u32, mask: u32, out: *mut c_uchar, room: usize, length: *mut usize) -> u32;
     pub fn kmip_ttlv_items(bytes: *const c_uchar, bytes_len: usize, items: *mut Item, room: usize, count: *mut usize,
         fault: *mut Fault) -> u32;
     pub fn kmip_ttlv_check(bytes: *const c_uchar, bytes_len: usize, fault: *mut Fault) -> u32;

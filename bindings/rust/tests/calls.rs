@@ -60,6 +60,50 @@ fn texts_that_fail() {
 }
 
 #[test]
+fn json() {
+    let begins = r#"{"tag":"0x420023","type":"Structure","value":["#;
+    let shown = |password: &str, kind: &str| {
+        let secret = format!(r#"{{"tag":"0x4200A1","type":"TextString","value":{password}}}"#);
+        format!(r#"{begins}{secret},{{"tag":"0x420024","type":"Enumeration","value":{kind}}}]}}"#)
+    };
+    let parts = vec![Node::new(0x4200A1, Value::TextString("p".into())), Node::new(0x420024, Value::Enumeration(1))];
+    let message = encode(&Node::new(0x420023, Value::Structure(parts))).unwrap();
+    let rows = [(Redact::Nothing, "\"p\""), (Redact::Secrets, "null"), (Redact::Values, "null")];
+    for (redact, password) in rows {
+        assert_eq!(to_json(&message, redact), Ok(shown(password, "\"0x00000001\"")));
+    }
+    assert_eq!(from_json(&to_json(&message, Redact::Nothing).unwrap()), Ok(message.clone()));
+    assert_eq!(to_json(&message[..39], Redact::Values).map(|_| ()), check(&message[..39]));
+    for (text, offset, kind) in
+        [("", 0, FaultKind::NotJson), (" {}", 1, FaultKind::NotItem), (&begins.repeat(64), 63 * 46 + 45, FaultKind::TooDeep)]
+    {
+        assert_eq!(from_json(text), Err(Error::Malformed { fault: Fault { offset, kind }, items: vec![] }));
+    }
+}
+
+#[test]
+fn names() {
+    assert_eq!(tag_name(0x420043).unwrap().as_deref(), Some("Key Material"));
+    assert_eq!(value_name(0x42005C, 0x14).unwrap().as_deref(), Some("Destroy"));
+    assert_eq!(mask_names(0x42002C, 12).unwrap().as_deref(), Some("Encrypt | Decrypt"));
+    assert_eq!(mask_names(0x42002C, 0).unwrap().as_deref(), Some(""));
+    for none in [tag_name(0x540001), tag_name(0x1420043), value_name(0x42005C, 0xFFFF), value_name(0x420069, 1), mask_names(0x42005C, 1)] {
+        assert_eq!(none, Ok(None));
+    }
+}
+
+#[test]
+fn redacted_texts() {
+    let text = to_redacted_text(&version_message(), LIMIT).unwrap();
+    assert!(
+        text.starts_with("Tag: Protocol Version (0x420069), Type: Structure (0x01), Data: \n  Tag: Protocol Version Major (0x42006A), ")
+    );
+    assert!(text.ends_with(", Type: Integer (0x02), Data: <redacted>"));
+    assert_eq!(to_redacted_text(&version_message()[..39], LIMIT).map(|_| ()), check(&version_message()[..39]));
+    assert_eq!(to_redacted_text(&version_message(), 16), Err(Error::OutOfMemory));
+}
+
+#[test]
 fn lists_of_items() {
     let message = version_message();
     let found = items(&message).unwrap();

@@ -23,6 +23,11 @@ fn kind_of(fault: Fault) -> &'static str {
         FaultKind::Overlong => "overlong",
         FaultKind::InvalidValue => "invalid_value",
         FaultKind::Surplus => "surplus",
+        FaultKind::TooLong => "too_long",
+        FaultKind::NotJson => "not_json",
+        FaultKind::TooDeep => "too_deep",
+        FaultKind::NotItem => "not_item",
+        FaultKind::NotTag => "not_tag",
         _ => "other",
     }
 }
@@ -55,6 +60,14 @@ fn found(member: &str, bytes: &[u8], prefix: &str, names: &str) -> (usize, Vec<u
             Err(Error::BadNames { line }) => (line, vec![]),
             _ => (0, vec![]),
         },
+        "printed_json" => (0, to_json(bytes, Redact::Nothing).unwrap().into()),
+        "printed_hidden_json" => (0, to_json(bytes, Redact::Values).unwrap().into()),
+        "read_json" => (0, from_json(std::str::from_utf8(bytes).unwrap()).unwrap()),
+        "bad_json" => match from_json(std::str::from_utf8(bytes).unwrap()) {
+            Err(Error::Malformed { fault, .. }) => (fault.offset, kind_of(fault).into()),
+            _ => (0, vec![]),
+        },
+        "redacted_text" => (0, to_redacted_text(bytes, LIMIT).unwrap().into()),
         "standard_text" => (0, to_text(bytes, false, LIMIT).unwrap().into()),
         "text" | "closed_text" => (0, to_text_named(bytes, names, member == "text", LIMIT).unwrap().into()),
         "diagnostic" | "closed_diagnostic" => diagnostic(member == "diagnostic"),
@@ -69,7 +82,7 @@ fn found(member: &str, bytes: &[u8], prefix: &str, names: &str) -> (usize, Vec<u
     }
 }
 
-/// The JSON of a node: what no call makes, but what says of each value how it was decoded.
+/// The JSON of a node, which says of each value how it was decoded.
 fn json(node: &Node) -> String {
     let hexadecimal = |bytes: &[u8]| bytes.iter().map(|it| format!("{it:02X}")).collect::<String>();
     let (typ, value) = match &node.value {

@@ -10,7 +10,13 @@ PROVED(to_diag);
 PROVED(to_diag_checked);
 PROVED(to_text);
 PROVED(to_standard_text);
+PROVED(to_redacted_text);
 PROVED(from_diag);
+PROVED(to_json);
+PROVED(from_json);
+PROVED(tag_name);
+PROVED(value_name);
+PROVED(mask_names);
 PROVED(items);
 PROVED(check);
 PROVED(write);
@@ -20,7 +26,7 @@ PROVED(version);
 static uint8_t block[8];
 static kmip_ttlv_item list[2];
 static bool is_null;
-enum { LENGTH = 3, LIMIT = 77 };
+enum { LENGTH = 3, LIMIT = 77, NUMBER = 5, VALUE = 6 };
 
 /* The places that are set, in whose stead nothing may come. */
 static size_t set[2];
@@ -61,6 +67,33 @@ kmip_ttlv_status rattle_kmip_ttlv_to_standard_text(const uint8_t *bytes, size_t 
     return answer(is_block(bytes, bytes_len, 0) && open_empty != is_null && limit == LIMIT && is_block(out, room, 3) && length == set);
 }
 
+kmip_ttlv_status rattle_kmip_ttlv_to_redacted_text(const uint8_t *bytes, size_t bytes_len, size_t limit, uint8_t *out, size_t room,
+                                                   size_t *length, kmip_ttlv_fault *where) {
+    return answer(is_block(bytes, bytes_len, 0) && limit == LIMIT && is_block(out, room, 3) && length == set && where == &fault);
+}
+
+kmip_ttlv_status rattle_kmip_ttlv_to_json(const uint8_t *bytes, size_t bytes_len, uint32_t redact, uint8_t *out, size_t room,
+                                          size_t *length, kmip_ttlv_fault *where) {
+    return answer(is_block(bytes, bytes_len, 0) && redact == NUMBER && is_block(out, room, 3) && length == set && where == &fault);
+}
+
+kmip_ttlv_status rattle_kmip_ttlv_from_json(const uint8_t *text, size_t text_len, uint8_t *out, size_t room, size_t *length,
+                                            kmip_ttlv_fault *where) {
+    return answer(is_block(text, text_len, 0) && is_block(out, room, 3) && length == set && where == &fault);
+}
+
+kmip_ttlv_status rattle_kmip_ttlv_tag_name(uint32_t tag, uint8_t *out, size_t room, size_t *length) {
+    return answer(tag == NUMBER && is_block(out, room, 3) && length == set);
+}
+
+kmip_ttlv_status rattle_kmip_ttlv_value_name(uint32_t tag, uint32_t value, uint8_t *out, size_t room, size_t *length) {
+    return answer(tag == NUMBER && value == VALUE && is_block(out, room, 3) && length == set);
+}
+
+kmip_ttlv_status rattle_kmip_ttlv_mask_names(uint32_t tag, uint32_t mask, uint8_t *out, size_t room, size_t *length) {
+    return answer(tag == NUMBER && mask == VALUE && is_block(out, room, 3) && length == set);
+}
+
 kmip_ttlv_status rattle_kmip_ttlv_from_diag(const uint8_t *diagnostic, size_t diagnostic_len, const uint8_t *prefix, size_t prefix_len,
                                             const uint8_t *names, size_t names_len, size_t limit, uint8_t *out, size_t room,
                                             size_t *length, size_t *bad_line) {
@@ -98,6 +131,12 @@ static int tried(void) {
         kmip_ttlv_to_diag_checked(bytes, n, prefix, n, out, n, set, &fault),
         kmip_ttlv_to_text(bytes, n, names, n, open, LIMIT, out, n, set, set + 1),
         kmip_ttlv_to_standard_text(bytes, n, open, LIMIT, out, n, set),
+        kmip_ttlv_to_redacted_text(bytes, n, LIMIT, out, n, set, &fault),
+        kmip_ttlv_to_json(bytes, n, NUMBER, out, n, set, &fault),
+        kmip_ttlv_from_json(bytes, n, out, n, set, &fault),
+        kmip_ttlv_tag_name(NUMBER, out, n, set),
+        kmip_ttlv_value_name(NUMBER, VALUE, out, n, set),
+        kmip_ttlv_mask_names(NUMBER, VALUE, out, n, set),
         kmip_ttlv_from_diag(bytes, n, prefix, n, names, n, LIMIT, out, n, set, set + 1),
         kmip_ttlv_items(bytes, n, items, n, set, &fault),
         kmip_ttlv_check(bytes, n, &fault),

@@ -34,12 +34,18 @@ def arms(text, words, kind):
     return {capitals(name): int(number) for name, number in re.findall(rf"{kind}::(\w+) => (\d+)", after(text, words))}
 
 
-def numbers_of_sources(status, items, writing, types):
-    """All names with a number: statuses, types, what is wrong with a message or an item."""
-    found = {name: int(number) for name, number in re.findall(r"pub const (\w+): u32 = (\d+);", status)}
+# What is wrong with JSON, where the header has another name for it.
+OF_JSON = {"NOT_STRUCTURE": "NO_STRUCTURE", "MEMBERS": "NOT_ITEM", "TAG": "NOT_TAG", "TYP": "UNKNOWN_TYPE", "VALUE": "INVALID_VALUE"}
+
+
+def numbers_of_sources(status, items, writing, json, types):
+    """All names with a number: statuses, what is hidden, types, what is wrong with a message, an item or JSON."""
+    found = {name: int(number) for name, number in re.findall(r"pub const (\w+): u32 = (\d+);", status + json)}
     none = [re.search(r"None => \w+ \{ \w+: 0, kind: (\d+) \}", text) for text in (items, writing)]
     parts = [arms(types, "pub fn code(", "TtlvType"), arms(items, "fn kind_of(", "FaultKind")]
     parts += [arms(writing, "fn kind_of(", "BadKind"), *({"WHOLE": int(it[1])} for it in none)]
+    of_json = arms(json, "fn kind_of_member(", "BadMember") | arms(json.replace(" { .. }", ""), "fn kind_of(", "JsonError")
+    parts += [{OF_JSON.get(name, name): number for name, number in of_json.items() if name != "OUT_OF_MEMORY"}]
     for part in parts:
         for name, number in part.items():
             if found.setdefault(name, number) != number:
@@ -76,7 +82,7 @@ def arguments(words):
 
 def in_python(words):
     """How the module declares these arguments: a pointer to bytes and their length are one."""
-    kinds = {"bool": "ctypes.c_bool", "size_t": "_size", "size_t *": "_sizes"}
+    kinds = {"bool": "ctypes.c_bool", "uint32_t": "ctypes.c_uint32", "size_t": "_size", "size_t *": "_sizes"}
     for name, kind, _ in words:
         if name.endswith("_len") or name == "room" and listed == "_lent":
             continue
@@ -93,16 +99,14 @@ def declared(text, pattern, split):
 
 def main():
     header, module, rust = text_of("include/kmip_ttlv.h"), text_of("../../bindings/python/kmip_ttlv.py"), text_of("../../bindings/rust/src/raw.rs")
-    status, items, writing, calls = (text_of(f"src/{it}.rt") for it in ("status", "items", "writing", "calls"))
+    status, items, writing, json, calls, names = (text_of(f"src/{it}.rt") for it in ("status", "items", "writing", "json_text", "calls", "names"))
     wrong = []
 
     def same(what, got, wanted):
         if got != wanted:
             wrong.append(f"{what}: {got}, in the sources {wanted}")
 
-    # that of front.c comes behind those of the sources
-    numbers = {"BAD_ARGUMENT": len(re.findall(r"pub const (\w+): u32", status))}
-    numbers |= dict(numbers_of_sources(status, items, writing, text_of("../kmip_ttlv_types/src/typ.rt")))
+    numbers = dict(numbers_of_sources(status, items, writing, json, text_of("../kmip_ttlv_types/src/typ.rt")))
     of_header = {name: int(number) for name, number in re.findall(r"#define KMIP_TTLV_(\w+) (\d+)u\n", header)}
     for name in sorted({*numbers, *of_header}):
         same(f"header: {name}", of_header.get(name), numbers.get(name))
@@ -118,7 +122,7 @@ def main():
         same(f"raw.rs: {name}", of_rust.get(name), numbers.get(name))
     same("Cargo.toml: version", re.search(r'\nversion = "(.*)"', text_of("../../bindings/rust/Cargo.toml"))[1], version)
 
-    exported = dict(re.findall(r'pub extern "C" fn kmip_ttlv_(\w+)\(([^)]*)\)', calls + items + writing))
+    exported = dict(re.findall(r'pub extern "C" fn kmip_ttlv_(\w+)\(([^)]*)\)', calls + items + writing + json + names))
     wanted = {name: list(arguments(" ".join(words.split()))) for name, words in exported.items()}
     of_header = dict(declared(header, r"kmip_ttlv_status kmip_ttlv_(\w+)\(([^)]*)\);", r"(.*?)(\w+)"))
     same("header: calls", sorted(of_header), sorted(wanted))

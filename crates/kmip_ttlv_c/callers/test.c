@@ -94,9 +94,23 @@ static const char LINES[] = "Tag: Protocol Version (0x420069), Type: Structure (
                             "  Tag: Major (0x42006A), Type: Integer (0x02), Data: <redacted>\n"
                             "  Tag: 0x42006B, Type: Integer (0x02), Data: <redacted>";
 
+static const char REDACTED_TEXT[] = "Tag: Protocol Version (0x420069), Type: Structure (0x01), Data: \n"
+                                    "  Tag: Protocol Version Major (0x42006A), Type: Integer (0x02), Data: <redacted>\n"
+                                    "  Tag: Protocol Version Minor (0x42006B), Type: Integer (0x02), Data: <redacted>";
+#define ROOT "{\"tag\":\"0x420069\",\"type\":\"Structure\",\"value\":["
+#define MAJOR "{\"tag\":\"0x42006A\",\"type\":\"Integer\",\"value\":"
+#define MINOR "{\"tag\":\"0x42006B\",\"type\":\"Integer\",\"value\":"
+static const char JSON[] = ROOT MAJOR "\"0x00000001\"}," MINOR "\"0x00000000\"}]}";
+static const char HIDDEN_JSON[] = ROOT MAJOR "null}," MINOR "null}]}";
+
+/* The tags of an Enumeration and of a mask. */
+enum { OPERATION = 0x42005C, USAGE_MASK = 0x42002C };
+
 /* The calls that make a text of the worked message, each with the expected text. */
-enum { TO_DIAG, TO_DIAG_CHECKED, TO_TEXT, TO_STANDARD_TEXT, FROM_DIAG, GET_VERSION, CALLS };
-static const char *const TEXTS[CALLS] = {DIAGNOSTIC, DIAGNOSTIC, TEXT, STANDARD_TEXT, LINES, KMIP_TTLV_VERSION};
+enum { TO_DIAG, TO_DIAG_CHECKED, TO_TEXT, TO_STANDARD_TEXT, TO_REDACTED_TEXT, FROM_DIAG };
+enum { TO_JSON = FROM_DIAG + 1, TO_HIDDEN_JSON, TAG_NAME, VALUE_NAME, MASK_NAMES, GET_VERSION, CALLS };
+static const char *const TEXTS[CALLS] = {DIAGNOSTIC, DIAGNOSTIC, TEXT, STANDARD_TEXT, REDACTED_TEXT, LINES, JSON, HIDDEN_JSON,
+                                         "Key", "Destroy", "Encrypt | Decrypt", KMIP_TTLV_VERSION};
 
 /* The status of a call that also sets `*other`: the table of names has no bad line, a diagnostic has three items. */
 static kmip_ttlv_status with(kmip_ttlv_status status, size_t other, size_t wanted) {
@@ -121,6 +135,22 @@ static kmip_ttlv_status call_within(int which, size_t limit, uint8_t *out, size_
         return with(status, other, 0);
     case TO_STANDARD_TEXT:
         return kmip_ttlv_to_standard_text(VERSION, sizeof VERSION, false, limit, out, room, length);
+    case TO_REDACTED_TEXT:
+        status = kmip_ttlv_to_redacted_text(VERSION, sizeof VERSION, limit, out, room, length, &fault);
+        HOLD(fault.kind == KMIP_TTLV_WHOLE && fault.offset == 0);
+        return status;
+    case TO_JSON:
+    case TO_HIDDEN_JSON:
+        status = kmip_ttlv_to_json(VERSION, sizeof VERSION, which == TO_JSON ? KMIP_TTLV_SHOW_ALL : KMIP_TTLV_REDACT_VALUES, out, room,
+                                   length, &fault);
+        HOLD(fault.kind == KMIP_TTLV_WHOLE && fault.offset == 0);
+        return status;
+    case TAG_NAME:
+        return kmip_ttlv_tag_name(0x42003F, out, room, length);
+    case VALUE_NAME:
+        return kmip_ttlv_value_name(OPERATION, 0x14, out, room, length);
+    case MASK_NAMES:
+        return kmip_ttlv_mask_names(USAGE_MASK, 0x8000000C, out, room, length);
     case FROM_DIAG:
         status = kmip_ttlv_from_diag((const uint8_t *)DIAGNOSTIC, sizeof DIAGNOSTIC - 1, PREFIX, 4, NAMES, sizeof NAMES - 1,
                                      limit, out, room, length, &other);
@@ -213,6 +243,22 @@ static void memory(void) {
     left = -1;
     HOLD(kmip_ttlv_check(NESTED, sizeof NESTED, &fault) == KMIP_TTLV_OK);
     HOLD(kmip_ttlv_items(NESTED, sizeof NESTED, items, 3, &count, &fault) == KMIP_TTLV_OK && count == 3);
+    /* JSON is read into bytes, and a bad line needs memory too */
+    for (int is_bad = 0; is_bad < 2; is_bad++) {
+        const size_t size = sizeof JSON - 1 - (size_t)is_bad;
+        kmip_ttlv_status status = KMIP_TTLV_OUT_OF_MEMORY;
+        for (long n = 0; n < 400 && status == KMIP_TTLV_OUT_OF_MEMORY; n++) {
+            uint8_t out[64];
+            size_t length = 99;
+            left = n;
+            status = kmip_ttlv_from_json((const uint8_t *)JSON, size, out, sizeof out, &length, &fault);
+            left = -1;
+            HOLD(blocks == 0 && length == (status == KMIP_TTLV_OK ? 40 : 0));
+            HOLD((fault.kind == KMIP_TTLV_NOT_JSON) == (status == KMIP_TTLV_MALFORMED));
+            HOLD(n > 0 || status == KMIP_TTLV_OUT_OF_MEMORY);
+        }
+        HOLD(status == (is_bad ? KMIP_TTLV_MALFORMED : KMIP_TTLV_OK));
+    }
 }
 
 /* Blocks are as large as asked for, and keep what is in them when they move: a sanitizer sees one that is shorter. */
@@ -320,6 +366,15 @@ static void null_arguments(void) {
     HOLD(is_text(out, length, "ERROR: cannot read the item at byte 0"));
     HOLD(kmip_ttlv_to_standard_text(NULL, 0, false, ANY, NULL, 0, &other) == KMIP_TTLV_NO_ROOM && other == length);
     HOLD(kmip_ttlv_from_diag(NULL, 0, NULL, 0, NULL, 0, ANY, NULL, 0, &length, &other) == KMIP_TTLV_OK && length == 0 && other == 0);
+    HOLD(kmip_ttlv_to_redacted_text(NULL, 0, ANY, NULL, 0, &length, &fault) == KMIP_TTLV_MALFORMED && fault.kind == KMIP_TTLV_CUT);
+    HOLD(kmip_ttlv_to_redacted_text(VERSION, 40, ANY, NULL, 0, &length, &fault) == KMIP_TTLV_NO_ROOM && length == sizeof REDACTED_TEXT - 1);
+    HOLD(kmip_ttlv_to_json(NULL, 0, 0, NULL, 0, &length, &fault) == KMIP_TTLV_MALFORMED && fault.kind == KMIP_TTLV_CUT);
+    HOLD(kmip_ttlv_to_json(VERSION, 40, 0, NULL, 0, &length, &fault) == KMIP_TTLV_NO_ROOM && length == sizeof JSON - 1);
+    HOLD(kmip_ttlv_from_json(NULL, 0, NULL, 0, &length, &fault) == KMIP_TTLV_MALFORMED && fault.kind == KMIP_TTLV_NOT_JSON);
+    HOLD(kmip_ttlv_from_json((const uint8_t *)JSON, sizeof JSON - 1, NULL, 0, &length, &fault) == KMIP_TTLV_NO_ROOM && length == 40);
+    HOLD(kmip_ttlv_tag_name(OPERATION, NULL, 0, &length) == KMIP_TTLV_NO_ROOM && length == strlen("Operation"));
+    HOLD(kmip_ttlv_value_name(OPERATION, 1, NULL, 0, &length) == KMIP_TTLV_NO_ROOM && length == strlen("Create"));
+    HOLD(kmip_ttlv_mask_names(USAGE_MASK, 0, NULL, 0, &length) == KMIP_TTLV_OK && length == 0);
     HOLD(kmip_ttlv_items(NULL, 0, NULL, 0, &other, &fault) == KMIP_TTLV_MALFORMED && other == 0 && fault.kind == KMIP_TTLV_CUT);
     HOLD(kmip_ttlv_items(VERSION, 40, NULL, 0, &other, &fault) == KMIP_TTLV_NO_ROOM && other == 3 && fault.kind == KMIP_TTLV_WHOLE);
     HOLD(kmip_ttlv_check(NULL, 0, &fault) == KMIP_TTLV_MALFORMED && fault.kind == KMIP_TTLV_CUT && fault.offset == 0);
@@ -365,6 +420,23 @@ static void bad_argument(given bad) {
         status = kmip_ttlv_from_diag(it[0].at, it[0].length, it[1].at, it[1].length, it[2].at, it[2].length, ANY, to, it[3].length,
                                      &length, &other);
         HOLD(is_none(status, length, other));
+        length = 99, fault.kind = 9;
+        status = kmip_ttlv_to_redacted_text(it[0].at, it[0].length, ANY, to, it[3].length, &length, &fault);
+        HOLD((!has_bytes && !has_out) || is_none(status, length, fault.offset + fault.kind));
+        length = 99, fault.kind = 9;
+        status = kmip_ttlv_to_json(it[0].at, it[0].length, 0, to, it[3].length, &length, &fault);
+        HOLD((!has_bytes && !has_out) || is_none(status, length, fault.offset + fault.kind));
+        length = 99, fault.kind = 9;
+        status = kmip_ttlv_from_json(it[0].at, it[0].length, to, it[3].length, &length, &fault);
+        HOLD((!has_bytes && !has_out) || is_none(status, length, fault.offset + fault.kind));
+        length = other = 99;
+        status = kmip_ttlv_tag_name(OPERATION, to, it[3].length, &length);
+        HOLD(!has_out || is_none(status, length, 0));
+        status = kmip_ttlv_value_name(OPERATION, 1, to, it[3].length, &other);
+        HOLD(!has_out || is_none(status, other, 0));
+        other = 99;
+        status = kmip_ttlv_mask_names(USAGE_MASK, 1, to, it[3].length, &other);
+        HOLD(!has_out || is_none(status, other, 0));
         length = 99;
         status = kmip_ttlv_version(to, it[3].length, &length);
         HOLD(!has_out || is_none(status, length, 0));
@@ -399,6 +471,65 @@ static void bad_arguments(void) {
     for (size_t i = 0; i < sizeof bad / sizeof *bad; i++) {
         bad_argument(bad[i]);
         bad_list(bad[i], &item);
+    }
+}
+
+/* JSON that is no message's: where and why; and numbers that hide nothing, or have no name. */
+static void no_json(void) {
+    static const struct {
+        const char *text;
+        size_t offset;
+        uint32_t kind;
+    } rows[] = {
+        {"", 0, KMIP_TTLV_NOT_JSON},
+        {ROOT "]} 1", sizeof ROOT - 1 + 3, KMIP_TTLV_NOT_JSON},
+        {" 12", 1, KMIP_TTLV_NOT_ITEM},
+        {ROOT "[]]}", sizeof ROOT - 1, KMIP_TTLV_NOT_ITEM},
+        {"{\"tag\":\"420069\",\"type\":\"Structure\",\"value\":[]}", 0, KMIP_TTLV_NOT_TAG},
+        {ROOT "{\"tag\":\"0x42006A\",\"type\":\"integer\",\"value\":[]}]}", sizeof ROOT - 1, KMIP_TTLV_UNKNOWN_TYPE},
+        {ROOT MAJOR "\"0x0001\"}]}", sizeof ROOT - 1, KMIP_TTLV_INVALID_VALUE},
+        {MAJOR "\"0x00000001\"}", 0, KMIP_TTLV_NO_STRUCTURE},
+    };
+    uint8_t out[64];
+    size_t length = 99;
+    kmip_ttlv_fault fault = {9, 9};
+    for (size_t row = 0; row < sizeof rows / sizeof *rows; row++) {
+        const char *text = rows[row].text;
+        length = 99;
+        HOLD(kmip_ttlv_from_json((const uint8_t *)text, strlen(text), out, 64, &length, &fault) == KMIP_TTLV_MALFORMED && length == 0);
+        HOLD(fault.offset == rows[row].offset && fault.kind == rows[row].kind);
+    }
+    char deep[128];
+    memset(deep, '[', sizeof deep);
+    HOLD(kmip_ttlv_from_json((const uint8_t *)deep, 128, out, 64, &length, &fault) == KMIP_TTLV_MALFORMED);
+    HOLD(fault.offset == 127 && fault.kind == KMIP_TTLV_TOO_DEEP);
+    HOLD(kmip_ttlv_from_json((const uint8_t *)JSON, sizeof JSON - 1, out, 39, &length, &fault) == KMIP_TTLV_NO_ROOM && length == 40);
+    HOLD(kmip_ttlv_from_json((const uint8_t *)JSON, sizeof JSON - 1, out, 40, &length, &fault) == KMIP_TTLV_OK && length == 40);
+    HOLD(memcmp(out, VERSION, 40) == 0 && fault.kind == KMIP_TTLV_WHOLE && fault.offset == 0);
+    static const uint8_t bad[] = {0xFF};
+    fault.kind = 9;
+    HOLD(kmip_ttlv_from_json(bad, 1, out, 64, &length, &fault) == KMIP_TTLV_NOT_UTF8 && length == 0 && fault.kind == KMIP_TTLV_WHOLE);
+    static const uint32_t none[] = {3, 0xFFFFFFFF};
+    for (int i = 0; i < 2; i++) {
+        fault.kind = 9, length = 99;
+        const kmip_ttlv_status status = kmip_ttlv_to_json(VERSION, 40, none[i], out, 64, &length, &fault);
+        HOLD(is_none(status, length, fault.offset + fault.kind));
+    }
+}
+
+/* Names: none of another number, whatever its lowest three bytes are. */
+static void no_names(void) {
+    static const uint32_t rows[][2] = {{OPERATION, 0xFFFFFF}, {0x420069, 1}, {0x1000000 + OPERATION, 1}, {0, 0}, {0xFFFFFFFF, 0xFFFFFFFF}};
+    uint8_t out[64];
+    for (size_t row = 0; row < sizeof rows / sizeof *rows; row++) {
+        const uint32_t tag = rows[row][0], value = rows[row][1];
+        size_t length = 99;
+        const bool has_name = kmip_ttlv_tag_name(tag, out, 64, &length) == KMIP_TTLV_OK;
+        HOLD(has_name == (tag == OPERATION || tag == 0x420069) && (has_name || length == 0));
+        length = 99;
+        HOLD(kmip_ttlv_value_name(tag, value, out, 64, &length) == KMIP_TTLV_NO_NAME && length == 0);
+        length = 99;
+        HOLD(kmip_ttlv_mask_names(tag, value, out, 64, &length) == KMIP_TTLV_NO_NAME && length == 0);
     }
 }
 
@@ -516,9 +647,9 @@ static void writing(void) {
     left = -1;
 }
 
-/* A checked diagnostic: of a message that is cut, or has a byte too many, nothing but the fault, whatever room there is. */
+/* What is shown of one whole message alone: of one that is cut, or has a byte too many, nothing but the fault, whatever room there is. */
 static void checked(void) {
-    uint8_t message[41], out[64];
+    uint8_t message[41], out[512];
     memcpy(message, VERSION, 40);
     message[40] = 0;
     for (size_t size = 0; size <= 41; size++) {
@@ -529,7 +660,28 @@ static void checked(void) {
         HOLD(status == kmip_ttlv_check(message, size, &wanted) && status == (size == 40 ? KMIP_TTLV_OK : KMIP_TTLV_MALFORMED));
         HOLD(fault.kind == wanted.kind && fault.offset == wanted.offset);
         HOLD(size == 40 ? is_text(out, length, DIAGNOSTIC) : length == 0 && out[0] == '.' && memcmp(out, out + 1, sizeof out - 1) == 0);
+        for (int redact = -1; redact < 3; redact++) {
+            const kmip_ttlv_fault unset = {9, 9};
+            fault = unset, length = 99;
+            memset(out, '.', sizeof out);
+            status = redact < 0 ? kmip_ttlv_to_redacted_text(message, size, ANY, out, sizeof out, &length, &fault)
+                                : kmip_ttlv_to_json(message, size, (uint32_t)redact, out, sizeof out, &length, &fault);
+            HOLD(status == (size == 40 ? KMIP_TTLV_OK : KMIP_TTLV_MALFORMED) && fault.kind == wanted.kind && fault.offset == wanted.offset);
+            const char *text = redact < 0 ? REDACTED_TEXT : redact == 2 ? HIDDEN_JSON : JSON;
+            HOLD(size == 40 ? is_text(out, length, text) : length == 0 && out[0] == '.' && memcmp(out, out + 1, sizeof out - 1) == 0);
+        }
     }
+    /* a password is secret, and what is in a credential's value */
+    static const uint8_t secret[] = {0x42, 0, 0x23, 1, 0, 0, 0, 40, 0x42, 0, 0xA1, 7, 0, 0, 0, 1, 'p', 0, 0, 0, 0, 0, 0, 0,
+                                     0x42, 0, 0x25, 1, 0, 0, 0, 16, 0x42, 0, 0x24, 5, 0, 0, 0, 4, 0,   0, 0, 1, 0, 0, 0, 0};
+    static const char shown[] = "{\"tag\":\"0x420023\",\"type\":\"Structure\",\"value\":["
+                                "{\"tag\":\"0x4200A1\",\"type\":\"TextString\",\"value\":null},"
+                                "{\"tag\":\"0x420025\",\"type\":\"Structure\",\"value\":["
+                                "{\"tag\":\"0x420024\",\"type\":\"Enumeration\",\"value\":null}]}]}";
+    kmip_ttlv_fault fault;
+    size_t length = 99;
+    HOLD(kmip_ttlv_to_json(secret, sizeof secret, KMIP_TTLV_REDACT_SECRETS, out, sizeof out, &length, &fault) == KMIP_TTLV_OK);
+    HOLD(is_text(out, length, shown));
 }
 
 /* Hostile bytes: the worked message with bits flipped, cut anywhere. Each block is as long as what is lent, so that a
@@ -568,6 +720,13 @@ static void hostile(void) {
             HOLD(kmip_ttlv_from_diag(out, length, PREFIX, 4, NAMES, 0, ANY, lines, sizeof lines, &shown, &line) ==
                  KMIP_TTLV_OK);
         }
+        uint8_t json[1024], again[64];
+        size_t read = 0;
+        HOLD(kmip_ttlv_to_json(bytes, size, KMIP_TTLV_SHOW_ALL, json, sizeof json, &length, &same) ==
+             (walk == KMIP_TTLV_MALFORMED ? KMIP_TTLV_MALFORMED : KMIP_TTLV_OK));
+        if (length > 0) {
+            HOLD(kmip_ttlv_from_json(json, length, again, sizeof again, &read, &same) == KMIP_TTLV_OK && read == size);
+        }
         status = kmip_ttlv_to_text(bytes, size, NAMES, 0, true, ANY, out, room, &length, &line);
         HOLD(status == (length > room ? KMIP_TTLV_NO_ROOM : KMIP_TTLV_OK) && out[room] == 0x77);
         free(items);
@@ -586,6 +745,8 @@ int main(void) {
     null_arguments();
     bad_arguments();
     refusals();
+    no_json();
+    no_names();
     walks();
     checked();
     writing();

@@ -22,8 +22,8 @@ DESTROY = bytes.fromhex(
     "000042000D0200000004000000010000000042000F010000004842005C05000000040000001400000000420079010000003042009407"
     "0000002466633838333364652D373064322D346563652D623036332D66656465336133633539666500000000"
 )
-# the standard's table of tags
-TAGS = os.path.join(os.path.dirname(os.path.abspath(__file__)), "../../../data/kmip_tags.tsv")
+# the standard's tables of tags, and of the values of Enumerations and masks
+TAGS, VALUES = (os.path.join(os.path.dirname(os.path.abspath(__file__)), f"../../../data/kmip_{it}.tsv") for it in ("tags", "enumerations"))
 NAMES = "# two tags\n420069 Protocol Version\n42006A Major\n"
 # two empty structures in a third
 EMPTY = bytes.fromhex("420078010000001042007901000000004200690100000000")
@@ -103,11 +103,18 @@ class Texts(unittest.TestCase):
             "to_diag_checked": lambda: kmip_ttlv.to_diag_checked(VERSION),
             "to_text": lambda: kmip_ttlv.to_text(VERSION, NAMES),
             "to_standard_text": lambda: kmip_ttlv.to_text(VERSION),
+            "to_redacted_text": lambda: kmip_ttlv.to_text(VERSION, redact=True),
             "from_diag": lambda: kmip_ttlv.from_diag("69[]"),
+            "to_json": lambda: kmip_ttlv.to_json(VERSION),
+            "from_json": lambda: kmip_ttlv.from_json(kmip_ttlv.to_json(VERSION)),
+            "tag_name": lambda: kmip_ttlv.tag_name(0x420043),
+            "value_name": lambda: kmip_ttlv.value_name(0x420028, 3),
+            "mask_names": lambda: kmip_ttlv.mask_names(0x42002C, 12),
             "items": lambda: kmip_ttlv.items(VERSION),
             "check": lambda: kmip_ttlv.check(VERSION),
         }
         for name, call in calls.items():
+            kmip_ttlv._named.cache_clear()
             with mock.patch.object(kmip_ttlv, "_" + name, lambda *_: kmip_ttlv.OUT_OF_MEMORY):
                 self.assertRaises(MemoryError, call)
             call()
@@ -167,6 +174,51 @@ class Texts(unittest.TestCase):
         depth = 20_000
         self.assertEqual(kmip_ttlv.to_json(nested(depth)), '{"tag":"0x420020","type":"Structure","value":[' * depth + "]}" * depth)
 
+    def test_redacted_json(self):
+        """Secrets: what a secret tag has, and what is in an item with such a tag; values: all but those of Enumerations."""
+        login = kmip_ttlv.Node(0x420025, 1, [kmip_ttlv.Node(0x420099, 7, "Fred"), kmip_ttlv.Node(0x420024, 5, 1)])
+        name, key = kmip_ttlv.Node(0x420094, 7, "id"), kmip_ttlv.Node(0x420043, 8, b"\1\2")
+        message = kmip_ttlv.encode(kmip_ttlv.Node(0x420023, 1, [login, name, key, kmip_ttlv.Node(0x420028, 5, 3)]))
+        rows = (
+            (False, '"Fred"', '"0x00000001"', '"id"', '"0102"'),
+            ("keys", "null", "null", '"id"', "null"),
+            (True, "null", '"0x00000001"', "null", "null"),
+        )
+        for redact, *values in rows:
+            self.assertEqual(
+                kmip_ttlv.to_json(message, redact=redact),
+                '{"tag":"0x420023","type":"Structure","value":[{"tag":"0x420025","type":"Structure","value":['
+                '{"tag":"0x420099","type":"TextString","value":%s},{"tag":"0x420024","type":"Enumeration","value":%s}]},'
+                '{"tag":"0x420094","type":"TextString","value":%s},{"tag":"0x420043","type":"ByteString","value":%s},'
+                '{"tag":"0x420028","type":"Enumeration","value":"0x00000003"}]}' % tuple(values),
+            )
+        for wrong in ("values", 3, None):
+            self.assertRaises(ValueError, kmip_ttlv.to_json, message, redact=wrong)
+
+    def test_from_json(self):
+        """What to_json printed, in other spellings too; and where another text is wrong."""
+        for message in (VERSION, DESTROY, EMPTY, EMPTY[16:], nested(63)):
+            self.assertEqual(kmip_ttlv.from_json(kmip_ttlv.to_json(message)), message)
+        self.assertEqual(kmip_ttlv.from_json('\n{"value" : [ ], "type":"Structure","tag":"0x42006a"}\n'), bytes.fromhex("42006A0100000000"))
+        begins, leaf = '{"tag":"0x420069","type":"Structure","value":[', '{"tag":"0x42006A","type":"Integer","value":"0x00000001"}'
+        rows = (
+            ("", 0, 13, "not JSON"),
+            ("\u20ac", 0, 13, "not JSON"),
+            (begins + leaf, len(begins + leaf), 13, "not JSON"),
+            (begins * 64, 63 * len(begins) + len(begins) - 1, 14, "nested more than 127 deep"),
+            (begins + '"\u20ac", ' + leaf + "]}", len(begins), 15, "an item without exactly tag, type and value"),
+            (begins + leaf.replace("0x42006A", "42006A") + "]}", len(begins), 16, "a tag is not 0x and six hexadecimal digits"),
+            (begins + leaf.replace("Integer", "Number") + "]}", len(begins), 3, "unknown type"),
+            (begins + leaf.replace("00000001", "0001") + "]}", len(begins), 7, "the content is no value of the type"),
+            (" " + leaf, 1, 2, "the root is no Structure"),
+        )
+        for text, offset, kind, words in rows:
+            with self.assertRaises(kmip_ttlv.Malformed) as refused:
+                kmip_ttlv.from_json(text)
+            self.assertEqual((refused.exception.fault, str(refused.exception)), ((offset, kind), f"at byte {offset}: {words}"))
+        self.assertRaises(TypeError, kmip_ttlv.from_json, b"{}")
+        self.assertRaises(UnicodeEncodeError, kmip_ttlv.from_json, "\ud800")
+
     def test_tag_names(self):
         """Those that the library's texts show, of each tag of KMIP and beyond."""
         for tag in [*range(0x420000, 0x420200), 0, 0xFFFFFF]:
@@ -175,11 +227,34 @@ class Texts(unittest.TestCase):
             text = kmip_ttlv.to_text(tag.to_bytes(3, "big") + b"\1" + bytes(4))
             self.assertEqual(text, f"Tag: {shown}, Type: Structure (0x01), Data:\n".replace("0x000000", "0x0000"))
         self.assertEqual((kmip_ttlv.tag_name(0x420043), kmip_ttlv.tag_name(0x540001)), ("Key Material", None))
+        for tag in (1 << 24, 0x1420043, 1 << 32, (1 << 32) + 0x420043, -1):
+            self.assertIsNone(kmip_ttlv.tag_name(tag))
         for wrong in ("420043", None, 1.5, True):
             self.assertRaises(TypeError, kmip_ttlv.tag_name, wrong)
 
+    def test_value_names(self):
+        """Those of the standard's table: of an Enumeration's values, and of a mask's bits."""
+        values, bits = {}, {}
+        with open(TAGS, encoding="utf-8") as rows:
+            kinds = {row[0]: row[2] for row in (it.split("\t") for it in rows if it[0] != "#")}
+        with open(VALUES, encoding="utf-8") as rows:
+            for tag, value, name in (it.rstrip("\n").split("\t") for it in rows if it[0] != "#"):
+                (values if "Enumeration" in kinds[tag] else bits)[int(tag, 16), int(value, 16)] = name
+        self.assertEqual((len(values) > 700, len(bits) > 40), (True, True))
+        for (tag, value), name in values.items():
+            self.assertEqual((kmip_ttlv.value_name(tag, value), kmip_ttlv.mask_names(tag, value)), (name, None))
+        for tag in {tag for tag, _ in bits}:
+            names = [name for (of, _), name in bits.items() if of == tag]
+            self.assertEqual(kmip_ttlv.mask_names(tag, (1 << 32) - 1), " | ".join(names))
+            self.assertIsNone(kmip_ttlv.value_name(tag, 1))
+        self.assertEqual([kmip_ttlv.mask_names(0x42002C, it) for it in (0, 4, 12, 1 << 31 | 8)], ["", "Encrypt", "Encrypt | Decrypt", "Decrypt"])
+        for tag, value in ((0x42005C, 0xFFFFFF), (0x42005C, (1 << 32) + 1), (0x42005C, -1), (0x420069, 1), (0x142005C, 1), (-1, 1)):
+            self.assertIsNone(kmip_ttlv.value_name(tag, value))
+        self.assertRaises(TypeError, kmip_ttlv.value_name, 0x42005C, "1")
+        self.assertRaises(TypeError, kmip_ttlv.mask_names, None, 1)
+
     def test_version(self):
-        self.assertEqual(kmip_ttlv.version().removesuffix("-unproved"), "0.1.0")
+        self.assertEqual(kmip_ttlv.version().removesuffix("-unproved"), "0.2.0")
 
 
 class Walks(unittest.TestCase):
@@ -223,7 +298,8 @@ class Walks(unittest.TestCase):
                 kmip_ttlv.to_diag_checked(message)
             self.assertEqual((str(refused.exception), refused.exception.path), (f"at byte {offset}: {words}", ()))
         more = ("no structure before it contains it", "its tag is no number below 2^24", "its value goes past the end of the bytes")
-        more += ("with it a structure takes 2^32 bytes or more",)
+        more += ("with it a structure takes 2^32 bytes or more", "not JSON", "nested more than 127 deep")
+        more += ("an item without exactly tag, type and value", "a tag is not 0x and six hexadecimal digits")
         self.assertEqual(kmip_ttlv.FAULTS, ("whole", *(words for _, _, _, words in rows), *more))
 
     def test_paths_of_faults(self):

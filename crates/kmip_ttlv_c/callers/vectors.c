@@ -29,6 +29,11 @@ static const char *const KINDS[] = {
     [KMIP_TTLV_OVERLONG] = "overlong",
     [KMIP_TTLV_INVALID_VALUE] = "invalid_value",
     [KMIP_TTLV_SURPLUS] = "surplus",
+    [KMIP_TTLV_TOO_LONG] = "too_long",
+    [KMIP_TTLV_NOT_JSON] = "not_json",
+    [KMIP_TTLV_TOO_DEEP] = "too_deep",
+    [KMIP_TTLV_NOT_ITEM] = "not_item",
+    [KMIP_TTLV_NOT_TAG] = "not_tag",
 };
 
 static block room_for(size_t length) {
@@ -84,12 +89,20 @@ static kmip_ttlv_status made(const row *it, uint8_t *out, size_t room, size_t *l
     if (is(it, "text") || is(it, "closed_text") || is(it, "bad_line")) {
         return kmip_ttlv_to_text(in->bytes, in->length, names->bytes, names->length, is(it, "text"), SIZE_MAX, out, room, length, number);
     }
-    if (is(it, "checked_diagnostic")) {
+    if (is(it, "printed_json") || is(it, "printed_hidden_json")) {
+        const uint32_t redact = is(it, "printed_json") ? KMIP_TTLV_SHOW_ALL : KMIP_TTLV_REDACT_VALUES;
+        status = kmip_ttlv_to_json(in->bytes, in->length, redact, out, room, length, &fault);
+    } else if (is(it, "read_json")) {
+        status = kmip_ttlv_from_json(in->bytes, in->length, out, room, length, &fault);
+    } else if (is(it, "redacted_text")) {
+        status = kmip_ttlv_to_redacted_text(in->bytes, in->length, SIZE_MAX, out, room, length, &fault);
+    } else if (is(it, "checked_diagnostic")) {
         status = kmip_ttlv_to_diag_checked(in->bytes, in->length, prefix->bytes, prefix->length, out, room, length, &fault);
-        *number = fault.offset + fault.kind;
-        return status;
+    } else {
+        return kmip_ttlv_to_diag(in->bytes, in->length, prefix->bytes, prefix->length, is(it, "diagnostic"), out, room, length, number);
     }
-    return kmip_ttlv_to_diag(in->bytes, in->length, prefix->bytes, prefix->length, is(it, "diagnostic"), out, room, length, number);
+    *number = fault.offset + fault.kind;
+    return status;
 }
 
 static bool is_made(const row *it) {
@@ -103,6 +116,21 @@ static bool is_made(const row *it) {
     free(small.bytes);
     free(out.bytes);
     return same;
+}
+
+/* Whether a kind of fault has this name. */
+static bool is_named(uint32_t kind, const block *name) {
+    const char *found = kind < sizeof KINDS / sizeof *KINDS && KINDS[kind] != NULL ? KINDS[kind] : "";
+    return strlen(found) == name->length && memcmp(found, name->bytes, name->length) == 0;
+}
+
+/* Whether a text is no message's JSON, where and why the row says. */
+static bool is_unread(const row *it) {
+    kmip_ttlv_fault fault = {9, 9};
+    size_t length = 99;
+    uint8_t none;
+    const kmip_ttlv_status status = kmip_ttlv_from_json(it->input.bytes, it->input.length, &none, 0, &length, &fault);
+    return status == KMIP_TTLV_MALFORMED && length == 0 && fault.offset == it->number && is_named(fault.kind, &it->wanted);
 }
 
 /* Whether the three calls that check a message have the fault, or, of a row of items, the list has their number. */
@@ -120,8 +148,7 @@ static bool is_walked(const row *it) {
     if (is(it, "items")) {
         return same && count == it->number;
     }
-    const char *kind = checked.kind <= KMIP_TTLV_SURPLUS ? KINDS[checked.kind] : "";
-    return same && checked.offset == it->number && strlen(kind) == it->wanted.length && memcmp(kind, it->wanted.bytes, strlen(kind)) == 0;
+    return same && checked.offset == it->number && is_named(checked.kind, &it->wanted);
 }
 
 /* Whether a beginning of a message is cut, and its diagnostic ends so, which has less than twice their length. */
@@ -150,7 +177,10 @@ static bool try_line(char *test) {
     char *wanted = next(names);
     next(wanted);
     row it = {member, strtoul(number, NULL, 10), decoded(input), decoded(prefix), decoded(names), decoded(wanted)};
-    const bool same = is(&it, "cut") ? is_cut(&it) : is(&it, "fault") || is(&it, "items") ? is_walked(&it) : is_made(&it);
+    const bool same = is(&it, "cut")                         ? is_cut(&it)
+                      : is(&it, "bad_json")                  ? is_unread(&it)
+                      : is(&it, "fault") || is(&it, "items") ? is_walked(&it)
+                                                             : is_made(&it);
     if (!same) {
         printf("%s: %s: differs\n", test, member);
     }

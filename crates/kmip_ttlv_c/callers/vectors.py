@@ -5,7 +5,7 @@ for callers in other languages: what the calls of C are tried with, and the JSON
 
 FOLDER is one that the build of the library made. A row is a line: the test, the member and a number, and in hexadecimal the input, a
 prefix of tags, a table of names and what is wanted, with tabs between.
-No call takes JSON, so in its place are the nodes that it says: what its bytes are decoded as, and what is encoded as them.
+With --nodes the JSON stands for the nodes that a message is decoded as, which each language prints itself.
 
 Each value that differs is a line. The last line is 'vectors: N values, M differ', and the status 0 if M is 0 and N isn't.
 """
@@ -17,8 +17,15 @@ from datetime import datetime, timezone
 
 import kmip_ttlv
 
-DATA = os.path.join(os.path.dirname(os.path.abspath(__file__)), "../../vectors/data/*.json")
+HERE = os.path.dirname(os.path.abspath(__file__))
+DATA, TAGS = os.path.join(HERE, "../../vectors/data/*.json"), os.path.join(HERE, "../../../data/kmip_tags.tsv")
 KINDS = ("whole", "cut", "no_structure", "unknown_type", "partial_header", "wrong_length", "overlong", "invalid_value", "surplus")
+KINDS += (None, None, None, "too_long", "not_json", "too_deep", "not_item", "not_tag")
+# what the tests say of JSON that is none
+WORDS = {"not JSON": "not_json", "nested more than 127 deep": "too_deep"}
+WORDS |= {"an item without exactly tag, type and value": "not_item", "a tag is not 0x and six hexadecimal digits": "not_tag"}
+WORDS |= {"the name of a type is unknown": "unknown_type", "a value is none of its type": "invalid_value"}
+WORDS |= {"the root is no Structure": "no_structure", "a length has more than four bytes": "too_long"}
 TYPES = (None, "Structure", "Integer", "LongInteger", "BigInteger", "Enumeration", "Boolean", "TextString", "ByteString", "DateTime", "Interval")
 
 
@@ -48,6 +55,18 @@ def rows_of(test):
             yield "checked_diagnostic", 0, message, shown["prefix"], "", shown["text"].encode()
     if "canonical" in test:
         yield "canonical", 0, message, "", "", bytes.fromhex(test["canonical"])
+    for member in ("json", "hidden_json"):
+        if member in test:
+            yield f"printed_{member}", 0, message, "", "", test[member].encode()
+
+
+def json_rows_of(test):
+    """The same of JSON: the bytes that it is read as, or where and why it is none."""
+    if "bytes" in test:
+        yield "read_json", 0, test["json"].encode(), "", "", bytes.fromhex(test["bytes"])
+    if "error" in test:
+        offset, words = test["error"].removeprefix("byte ").split(": ", 1)
+        yield "bad_json", int(offset), test["json"].encode(), "", "", WORDS[words].encode()
 
 
 def named_rows_of(test):
@@ -65,11 +84,14 @@ def rows():
     for name, test in tests("messages"):
         for row in rows_of(test):
             yield name, *row
+    for name, message, lines in redacted(standard_names()):
+        yield name, "redacted_text", 0, message, "", "", lines.encode()
     for name, test in tests("diagnostics"):
         yield name, "lines", 0, test["diagnostic"].encode(), test["prefix"], "", test["lines"].encode()
-    for name, test in tests("names"):
-        for row in named_rows_of(test):
-            yield name, *row
+    for kind, made in (("names", named_rows_of), ("jsons", json_rows_of)):
+        for name, test in tests(kind):
+            for row in made(test):
+                yield name, *row
 
 
 def node_rows():
@@ -85,12 +107,27 @@ def bad_line_of(given, names):
         return refused.line
 
 
+def fault_in(text):
+    try:
+        kmip_ttlv.from_json(text)
+    except kmip_ttlv.Malformed as refused:
+        return refused.fault.offset, KINDS[refused.fault.kind].encode()
+
+
 def found_of(member, given, prefix, names):
     """What the module makes of the input of a row: the number and what is wanted."""
     if member == "lines":
         return 0, kmip_ttlv.from_diag(given.decode(), prefix, names).encode()
     if member == "bad_line":
         return bad_line_of(given, names), b""
+    if member == "redacted_text":
+        return 0, kmip_ttlv.to_text(given, redact=True).encode()
+    if member == "bad_json":
+        return fault_in(given.decode())
+    if member == "read_json":
+        return 0, kmip_ttlv.from_json(given.decode())
+    if member.startswith("printed_"):
+        return 0, kmip_ttlv.to_json(given, redact=member == "printed_hidden_json").encode()
     if member == "canonical":
         return 0, kmip_ttlv.write(kmip_ttlv.items(given), given)
     if member == "cut":
@@ -134,25 +171,28 @@ def node_of(item):
     return kmip_ttlv.Node(int(item["tag"], 16), typ, value)
 
 
-def redacted_of(node, depth=0):
+def standard_names():
+    """The names of the standard's tags, by their numbers."""
+    with open(TAGS, encoding="utf-8") as it:
+        return {int(row.split("\t")[0], 16): row.split("\t")[1] for row in it if row[0] != "#"}
+
+
+def redacted_of(node, names, depth=0):
     """The lines of nodes' diagnostic that is read back: no value is shown but those of Enumerations."""
     tag, typ, value = node
     shown = "" if typ == 1 else f"{value:X}" if typ == 5 else "<redacted>"
-    lines = [f"{'  ' * depth}Tag: 0x{tag:04X}, Type: {TYPES[typ]} (0x{typ:02X}), Data: {shown}"]
-    return lines + [line for it in (value if typ == 1 else ()) for line in redacted_of(it, depth + 1)]
+    named = f"{names[tag]} (0x{tag:04X})" if tag in names else f"0x{tag:04X}"
+    lines = [f"{'  ' * depth}Tag: {named}, Type: {TYPES[typ]} (0x{typ:02X}), Data: {shown}"]
+    return lines + [line for it in (value if typ == 1 else ()) for line in redacted_of(it, names, depth + 1)]
 
 
-def printed():
-    """What is printed of each whole message whose JSON is known: the test's name, what it is, what the module makes of it, and what is wanted."""
+def redacted(names):
+    """The lines of each whole message whose JSON is known: the test's name, the message and the lines."""
     for name, test in tests("messages"):
         if "json" in test:
-            message = bytes.fromhex(test["bytes"])
             # nothing follows an empty structure at the end
-            lines = "\n".join(redacted_of(node_of(json.loads(test["json"])))).rstrip(" ")
-            yield name, "json", kmip_ttlv.to_json(message), test["json"]
-            yield name, "redacted text", kmip_ttlv.to_text(message, "", redact=True), lines
-            if "hidden_json" in test:
-                yield name, "hidden_json", kmip_ttlv.to_json(message, redact=True), test["hidden_json"]
+            lines = "\n".join(redacted_of(node_of(json.loads(test["json"])), names)).rstrip(" ")
+            yield name, bytes.fromhex(test["bytes"]), lines
 
 
 def nodes():
@@ -205,8 +245,8 @@ def main(words):
         tally.try_row(*row)
     for test, node, message in nodes():
         tally.try_nodes(test, node, message)
-    for row in printed():
-        tally.compare(*row)
+    for name, message, lines in redacted({}):
+        tally.compare(name, "redacted text without names", kmip_ttlv.to_text(message, "", redact=True), lines)
     print(f"vectors: {tally.values} values, {tally.differ} differ")
     return 0 if tally.values and not tally.differ else 1
 

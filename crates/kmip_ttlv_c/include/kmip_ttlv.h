@@ -1,4 +1,4 @@
-/* TTLV, the encoding of OASIS KMIP 1.0 (section 9.1): prints, redacts, lists, checks and writes messages.
+/* TTLV, the encoding of OASIS KMIP 1.0 (section 9.1): prints, redacts, lists, checks and writes messages, as JSON too.
  *
  * Every call returns a status. It keeps none of its arguments, has no state of its own, and frees all memory that it
  * allocates before it returns, so any number of threads may be in calls at a time. Lengths and offsets are in bytes, counts
@@ -30,7 +30,7 @@
  * can't be read a diagnostic ends with "ERR" and a readable text with a line "ERROR: .."; after an item that goes past the end
  * of its structure both end with "ERROR: TTLV structure content exceeds the structure length.". What follows a first structure
  * is not shown, and no text says that it is there. So call `kmip_ttlv_check` first, which says whether bytes are one whole
- * message; or for a log kmip_ttlv_to_diag_checked, which shows nothing of other bytes.
+ * message; or for a log kmip_ttlv_to_diag_checked or kmip_ttlv_to_redacted_text, which show nothing of other bytes.
  *
  * Memory comes from malloc, realloc and free. A program that links the static library can replace them by defining
  * kmip_ttlv_malloc, kmip_ttlv_realloc and kmip_ttlv_free, all three of them, with the same meaning. If the program calls
@@ -50,7 +50,7 @@ extern "C" {
 #endif
 
 /* The version of this header. */
-#define KMIP_TTLV_VERSION "0.1.0"
+#define KMIP_TTLV_VERSION "0.2.0"
 
 typedef uint32_t kmip_ttlv_status;
 
@@ -62,12 +62,14 @@ typedef uint32_t kmip_ttlv_status;
 #define KMIP_TTLV_NOT_UTF8 2u
 /* The buffer or the list is too small; `*length` or `*count` is the size that it needs. */
 #define KMIP_TTLV_NO_ROOM 3u
-/* The bytes are not one whole message; or an item can't be written. */
+/* The bytes are not one whole message, or a text is not the JSON of one; or an item can't be written. */
 #define KMIP_TTLV_MALFORMED 4u
 /* A line of a table of names can't be parsed; `*bad_line` is its number. */
 #define KMIP_TTLV_BAD_NAMES 5u
-/* A length or a room is more than PTRDIFF_MAX bytes, or isn't 0 and its pointer is null. */
+/* A length or a room is more than PTRDIFF_MAX bytes, or isn't 0 and its pointer is null; or `redact` is more than 2. */
 #define KMIP_TTLV_BAD_ARGUMENT 6u
+/* The KMIP specifications have no name for it. */
+#define KMIP_TTLV_NO_NAME 7u
 
 /* An item of a message. */
 typedef struct {
@@ -134,6 +136,24 @@ typedef struct {
 /* With it, an enclosing structure has 2^32 bytes of content or more (or all items take 2^64 or more). */
 #define KMIP_TTLV_TOO_LONG 12u
 
+/* What is wrong with JSON (kmip_ttlv_from_json), besides NO_STRUCTURE, UNKNOWN_TYPE, INVALID_VALUE and TOO_LONG. */
+
+/* It is not JSON: the offset is where the first token begins that can't stand there, or the text's length if it ends too early. */
+#define KMIP_TTLV_NOT_JSON 13u
+/* It nests more than 127 deep: the offset is that of the first bracket that does. */
+#define KMIP_TTLV_TOO_DEEP 14u
+/* An item is no object of exactly the members `tag`, `type` and `value`. */
+#define KMIP_TTLV_NOT_ITEM 15u
+/* A tag is not `0x` and six hexadecimal digits. */
+#define KMIP_TTLV_NOT_TAG 16u
+
+/* What kmip_ttlv_to_json hides. */
+#define KMIP_TTLV_SHOW_ALL 0u
+/* The values of secret tags, whose items can hold a key, data to encrypt or decrypt, or proof of identity, and of all items in them. */
+#define KMIP_TTLV_REDACT_SECRETS 1u
+/* All values but those of Enumerations. */
+#define KMIP_TTLV_REDACT_VALUES 2u
+
 /* Writes the redacted diagnostic of any bytes. For a well-formed message it shows each item's tag and type, the values of
  * enumerations, and no other value; in malformed bytes, key bytes may sit where a tag is expected, and are then shown.
  *
@@ -173,6 +193,14 @@ kmip_ttlv_status kmip_ttlv_to_text(const uint8_t *bytes, size_t bytes_len, const
 kmip_ttlv_status kmip_ttlv_to_standard_text(const uint8_t *bytes, size_t bytes_len, bool open_empty, size_t limit,
                                             uint8_t *out, size_t room, size_t *length);
 
+/* Writes bytes that are one whole message as readable text without any value but those of Enumerations, which are in hexadecimal, and
+ * nothing of any others: the lines of kmip_ttlv_from_diag for its checked diagnostic, with the names of tags of the KMIP specifications.
+ *
+ * `limit` is as in kmip_ttlv_to_standard_text. MALFORMED and `*fault` are as in kmip_ttlv_to_diag_checked. NO_ROOM: `out`.
+ * OUT_OF_MEMORY. */
+kmip_ttlv_status kmip_ttlv_to_redacted_text(const uint8_t *bytes, size_t bytes_len, size_t limit, uint8_t *out, size_t room,
+                                            size_t *length, kmip_ttlv_fault *fault);
+
 /* Reads a diagnostic under a prefix back as lines: the tag and type of each item, the values of enumerations, and
  * "<redacted>" in place of any other value. Reading stops where the text is no diagnostic; the lines up to there are written.
  *
@@ -183,6 +211,42 @@ kmip_ttlv_status kmip_ttlv_to_standard_text(const uint8_t *bytes, size_t bytes_l
 kmip_ttlv_status kmip_ttlv_from_diag(const uint8_t *diagnostic, size_t diagnostic_len, const uint8_t *prefix,
                                      size_t prefix_len, const uint8_t *names, size_t names_len, size_t limit,
                                      uint8_t *out, size_t room, size_t *length, size_t *bad_line);
+
+/* Writes bytes that are one whole message as JSON (OASIS "KMIP Additional Message Encodings", in hexadecimal forms), and nothing of any
+ * others: the line that the tool's `ttlv json` prints, without its line feed. `null` stands for a value that `redact` hides,
+ * KMIP_TTLV_SHOW_ALL to KMIP_TTLV_REDACT_VALUES.
+ *
+ * BAD_ARGUMENT: `redact` too. MALFORMED and `*fault` are as in kmip_ttlv_to_diag_checked. NO_ROOM: `out`. OUT_OF_MEMORY. */
+kmip_ttlv_status kmip_ttlv_to_json(const uint8_t *bytes, size_t bytes_len, uint32_t redact, uint8_t *out, size_t room,
+                                   size_t *length, kmip_ttlv_fault *fault);
+
+/* Writes the canonical bytes of the message whose JSON a text is, in the forms that kmip_ttlv_to_json writes. White space around
+ * tokens, members in any order and digits of either case are read too; of a member that stands twice the last counts. It takes up to
+ * two and a half times the text's length of memory.
+ *
+ * MALFORMED: it is the JSON of none; `fault->kind` is NOT_JSON, TOO_DEEP, or what is wrong with the first wrong item, and `fault->offset`
+ * where that is, in bytes from the text's first. With any other status its kind is KMIP_TTLV_WHOLE. NOT_UTF8: the text. NO_ROOM: `out`.
+ * OUT_OF_MEMORY. */
+kmip_ttlv_status kmip_ttlv_from_json(const uint8_t *text, size_t text_len, uint8_t *out, size_t room, size_t *length,
+                                     kmip_ttlv_fault *fault);
+
+/* Writes the name that the KMIP specifications give a tag.
+ *
+ * Each of the calls for names reads a table first, of up to 64 KiB, which takes some tens of microseconds: keep what is asked for often.
+ *
+ * NO_NAME: they have none for this number. NO_ROOM: `out`. OUT_OF_MEMORY. */
+kmip_ttlv_status kmip_ttlv_tag_name(uint32_t tag, uint8_t *out, size_t room, size_t *length);
+
+/* Writes the name of a value of the Enumeration with this tag.
+ *
+ * NO_NAME: there is no such Enumeration, or it has no such value. NO_ROOM: `out`. OUT_OF_MEMORY. */
+kmip_ttlv_status kmip_ttlv_value_name(uint32_t tag, uint32_t value, uint8_t *out, size_t room, size_t *length);
+
+/* Writes the names of the bits that are set in a mask with this tag, from the lowest on, as `Encrypt | Decrypt`. Bits without a name are
+ * left out.
+ *
+ * NO_NAME: there is no mask with this tag. NO_ROOM: `out`. OUT_OF_MEMORY. */
+kmip_ttlv_status kmip_ttlv_mask_names(uint32_t tag, uint32_t mask, uint8_t *out, size_t room, size_t *length);
 
 /* Lists the items of a message in document order, each before those in it, up to the first fault.
  *

@@ -1,6 +1,9 @@
 -- What the calls that make a text return, and why they fail.
-use Rattle.std.specs.Prelude.{◌≡◌, ℕ, Bool, true, ◌+◌, ◌/◌, ◌≤◌, List, length, Option, Some, None}
-use Rattle.std.specs.Str.{IsUtf8}
+use Rattle.std.specs.Prelude.{◌≡◌, ℕ, Bool, true, ◌+◌, ◌/◌, ◌≤◌, List, [], length, Option, Some, None}
+use Rattle.std.specs.Str.{IsUtf8, trim_end}
+use Rattle.kmip_ttlv_types.specs.Trees.{Tree, IsTreeText, IsStructure}
+use Rattle.kmip_ttlv_util.specs.Outlines.{outline_of, diag}
+use Rattle.kmip_ttlv_util.specs.Lines.{tag_part}
 use Rattle.kmip_ttlv_util.specs.Traces.{trace}
 use Rattle.kmip_ttlv_util.specs.Diagnostics.{hostile}
 use Rattle.kmip_ttlv_util.specs.PrintResults.{IsExact}
@@ -9,8 +12,9 @@ use Rattle.kmip_ttlv_items.specs.declared.found.Fault.{Fault}
 use Rattle.kmip_ttlv_items.specs.ItemWalks.{Judges}
 use Rattle.kmip_ttlv_util.specs.Pretty.{IsPrinted, IsPretty}
 use Rattle.kmip_ttlv_util.specs.Undiag.{undiag}
-use Rattle.kmip_ttlv_util.specs.ReadBack.{ReadsLongest, IsReadBack}
+use Rattle.kmip_ttlv_util.specs.ReadBack.{ReadsLongest, IsReadBack, lines}
 use Rattle.kmip_ttlv_names.specs.NameTables.{names_of, bad_line}
+use Rattle.kmip_ttlv_names.specs.declared.standard.TheConstants.{STANDARD_TAGS}
 use Rattle.kmip_ttlv_c.specs.declared.status.TheConstants.{OUT_OF_MEMORY, NOT_UTF8, MALFORMED, BAD_NAMES}
 use Rattle.kmip_ttlv_c.specs.declared.items.KmipTtlvFault.{KmipTtlvFault}
 use Rattle.kmip_ttlv_c.specs.LentItems.{c_fault}
@@ -59,6 +63,20 @@ pub record IsReadLines (table prefix diagnostic : List ℕ) (line : ℕ) (text :
   pub diagnostic_is : IsUtf8 diagnostic
   pub lines : IsReadBackAs (names_of table) prefix diagnostic text
 
+-- bytes are one whole well-formed message, and these are its lines with the standard's names and without any value but those of Enumerations:
+-- what the diagnostic of its outline is read back as
+pub record ShowsRedacted (bytes text : List ℕ) : Type 0 where
+  pub message : Tree
+  pub whole : IsTreeText message bytes
+  pub root : IsStructure message
+  pub read : IsReadBackAs (names_of STANDARD_TAGS.now) [] (diag [] (outline_of message)) text
+  pub lines : text ≡ trim_end (lines (tag_part (names_of STANDARD_TAGS.now)) 0 (outline_of message))
+
+-- the text is those lines, and there is no fault
+pub record IsRedactedText (bytes : List ℕ) (fault : KmipTtlvFault) (text : List ℕ) : Type 0 where
+  pub shows : ShowsRedacted bytes text
+  pub no_fault : fault ≡ c_fault None
+
 -- the text is the version
 abbrev pub IsVersion : List ℕ → List ℕ → Type 0
 IsVersion version text = text ≡ version
@@ -79,6 +97,16 @@ pub data CheckedFails (prefix bytes : List ℕ) (fault : KmipTtlvFault) (status 
       → CheckedFails prefix bytes fault status
   no_memory : IsUtf8 prefix → status ≡ OUT_OF_MEMORY → fault ≡ c_fault None → CheckedFails prefix bytes fault status
   no_prefix : status ≡ NOT_UTF8 → (IsUtf8 prefix → ⊥) → fault ≡ c_fault None → CheckedFails prefix bytes fault status
+
+-- a redacted text fails if the bytes are not one whole message, and then the first fault is set; or when out of memory
+pub data RedactingFails (bytes : List ℕ) (fault : KmipTtlvFault) (status : ℕ) : Type 0 where
+  no_message :
+      (found : Fault)
+      → Judges bytes (Some found)
+      → status ≡ MALFORMED
+      → fault ≡ c_fault (Some found)
+      → RedactingFails bytes fault status
+  no_memory : status ≡ OUT_OF_MEMORY → fault ≡ c_fault None → RedactingFails bytes fault status
 
 -- a table of names fails when out of memory, if it is not UTF-8, or at its first bad line
 pub data NamesFail (table : List ℕ) (line status : ℕ) : Type 0 where

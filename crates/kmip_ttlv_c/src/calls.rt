@@ -7,6 +7,7 @@ ghost use Rattle.kmip_ttlv_c.specs.Buffers.{AnswersText};
 ghost use Rattle.kmip_ttlv_c.specs.Calls.{IsDiagnostic, PrefixFails, IsTable, IsReadable, IsNamedText, NamesFail};
 ghost use Rattle.kmip_ttlv_util.specs.CheckedDiagnostics.{ShowsMessage, ShowsNothing};
 ghost use Rattle.kmip_ttlv_c.specs.Calls.{IsCheckedDiagnostic, CheckedFails};
+ghost use Rattle.kmip_ttlv_c.specs.Calls.{ShowsRedacted, IsRedactedText, RedactingFails};
 ghost use Rattle.kmip_ttlv_c.specs.Calls.{StandardFails, IsReadLines, ReadingFails, IsVersion, NeverFails};
 
 use crate::buffer::offer;
@@ -19,7 +20,7 @@ use std::alloc::{AllocError, Allocator, Global};
 use std::str;
 
 /// The version that `kmip_ttlv_version` writes and the header has as `KMIP_TTLV_VERSION`.
-pub const VERSION: &str = "0.1.0";
+pub const VERSION: &str = "0.2.0";
 
 /// The diagnostic under a prefix, and how many items it tried to read.
 fn diagnostic(
@@ -62,7 +63,11 @@ pub extern "C" fn kmip_ttlv_to_diag(
 }
 
 /// The diagnostic under a prefix of one whole message, whose empty structures are closed.
-fn checked_diagnostic(alloc: Global, prefix: &str, bytes: &[u8]) -> Result<String, CheckedError>
+fn checked_diagnostic<A: Allocator + Copy>(
+    alloc: A,
+    prefix: &str,
+    bytes: &[u8],
+) -> Result<String<A>, CheckedError>
     ensures ok { IfOk result (λ r. ShowsMessage prefix.now true bytes.now (string_bytes r)) }
     ensures err { IfErr result (λ e. ShowsNothing bytes.now e) }
 {
@@ -205,6 +210,45 @@ pub extern "C" fn kmip_ttlv_from_diag(
     };
     let Ok(text) = read_back_named(&memory, prefix, &names, diagnostic) else {
         return OUT_OF_MEMORY;
+    };
+    offer(text.as_bytes(), out, length)
+}
+
+/// The redacted lines of one whole message, with the names of the KMIP specifications.
+fn redacted_lines<A: Allocator + Copy>(alloc: A, bytes: &[u8]) -> Result<String<A>, CheckedError>
+    ensures ok { IfOk result (λ r. ShowsRedacted bytes.now (string_bytes r)) }
+    ensures err { IfErr result (λ e. ShowsNothing bytes.now e) }
+{
+    let diagnostic = checked_diagnostic(alloc, "", bytes)?;
+    let Ok(names) = standard_names(alloc) else {
+        return Err(CheckedError::OutOfMemory);
+    };
+    Ok(read_back_named(alloc, "", &names, diagnostic.as_str())?)
+}
+
+/// Writes the redacted lines of one whole message, with the names of the KMIP specifications; of other bytes it writes
+/// nothing, and sets the first fault.
+#[unsafe(no_mangle)]
+pub extern "C" fn kmip_ttlv_to_redacted_text(
+    alloc: Global,
+    bytes: &[u8],
+    limit: usize,
+    out: &mut [u8],
+    length: &mut usize,
+    fault: &mut KmipTtlvFault,
+) -> u32
+    ensures { AnswersText (IsRedactedText bytes.now fault.new) (RedactingFails bytes.now fault.new) result length.new out.old out.new }
+{
+    *length = 0;
+    *fault = fault_of(None);
+    let memory = BoundedAllocator::new(alloc, limit);
+    let text = match redacted_lines(&memory, bytes) {
+        Ok(text) => text,
+        Err(CheckedError::OutOfMemory) => return OUT_OF_MEMORY,
+        Err(CheckedError::Malformed(found)) => {
+            *fault = fault_of(Some(found));
+            return MALFORMED;
+        }
     };
     offer(text.as_bytes(), out, length)
 }

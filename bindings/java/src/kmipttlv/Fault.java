@@ -1,6 +1,6 @@
 package kmipttlv;
 
-/** What is wrong with a message, or with an item that is to be written. The order is that of the library's numbers, from 1. */
+/** What is wrong with a message, with an item that is to be written, or with JSON. The order is that of the library's numbers, from 1. */
 public enum Fault {
     /** The bytes end before the root does, within this item: more may help. */
     CUT("the bytes end within the root"),
@@ -25,7 +25,15 @@ public enum Fault {
     /** Its value goes past the end of the bytes. */
     OUTSIDE("its value goes past the end of the bytes"),
     /** With it a Structure has 2^32 bytes or more. */
-    TOO_LONG("with it a structure takes 2^32 bytes or more");
+    TOO_LONG("with it a structure takes 2^32 bytes or more"),
+    /** It is not JSON: a token can't stand there, or it ends too early. */
+    NOT_JSON("not JSON"),
+    /** It is JSON that nests more than 127 deep. */
+    TOO_DEEP("nested more than 127 deep"),
+    /** An item in JSON is no object of exactly the members tag, type and value. */
+    NOT_ITEM("an item without exactly tag, type and value"),
+    /** A tag in JSON is not 0x and six hexadecimal digits. */
+    NOT_TAG("a tag is not 0x and six hexadecimal digits");
 
     /** What is wrong, in words. */
     public final String words;

@@ -12,9 +12,10 @@ import java.util.Deque;
 import java.util.Iterator;
 import java.util.List;
 import java.util.Objects;
+import java.util.Optional;
 
 /**
- * TTLV, the encoding of OASIS KMIP: prints, redacts, lists, checks, decodes and encodes messages, by the C library kmip_ttlv.
+ * TTLV, the encoding of OASIS KMIP: prints, redacts, lists, checks, decodes and encodes messages, as JSON too, by the C library kmip_ttlv.
  *
  * <p>Offsets and lengths are in bytes. Each call can throw OutOfMemoryException, and NullPointerException for null, and any number of threads
  * may be in calls at a time. A text that is passed and has half of a surrogate pair is an IllegalArgumentException.
@@ -27,7 +28,7 @@ import java.util.Objects;
  * {@code java.library.path}.
  */
 public final class KmipTtlv {
-    private static final int OK = 0, OUT_OF_MEMORY = 1, MALFORMED = 4, BAD_NAMES = 5;
+    private static final int OK = 0, OUT_OF_MEMORY = 1, MALFORMED = 4, BAD_NAMES = 5, NO_NAME = 7;
 
     static {
         String path = System.getProperty("kmipttlv.library");
@@ -45,6 +46,14 @@ public final class KmipTtlv {
     private static native byte[] toDiagChecked0(byte[] bytes, byte[] prefix, long[] told);
 
     private static native byte[] toText0(byte[] bytes, byte[] names, boolean openEmpty, long limit, long[] told);
+
+    private static native byte[] toRedactedText0(byte[] bytes, long limit, long[] told);
+
+    private static native byte[] toJson0(byte[] bytes, int redact, long[] told);
+
+    private static native byte[] fromJson0(byte[] text, long[] told);
+
+    private static native byte[] name0(int which, int tag, int number, long[] told);
 
     private static native byte[] fromDiag0(byte[] diagnostic, byte[] prefix, byte[] names, long limit, long[] told);
 
@@ -87,16 +96,22 @@ public final class KmipTtlv {
         return new MalformedException(told[1], Fault.of(told[2]), items);
     }
 
-    /** Returns if bytes are one whole message; else throws MalformedException, without items. */
-    public static void check(byte[] message) throws MalformedException {
-        long[] told = new long[3];
-        check0(Objects.requireNonNull(message), told);
+    /** What a call made that has a fault, without items, for what it refuses. */
+    private static byte[] sound(byte[] made, long[] told) throws MalformedException {
         if (told[0] == MALFORMED) {
             throw malformed(told, List.of());
         }
         if (told[0] != OK) {
             throw new OutOfMemoryException();
         }
+        return made;
+    }
+
+    /** Returns if bytes are one whole message; else throws MalformedException, without items. */
+    public static void check(byte[] message) throws MalformedException {
+        long[] told = new long[3];
+        check0(Objects.requireNonNull(message), told);
+        sound(null, told);
     }
 
     /** The items of one whole message in document order; for other bytes MalformedException, with the items before the first fault. */
@@ -154,11 +169,7 @@ public final class KmipTtlv {
     /** The redacted diagnostic of one whole message; for other bytes MalformedException, without items: nothing is shown of them. */
     public static String toDiagChecked(byte[] message, String prefix) throws MalformedException {
         long[] told = new long[3];
-        byte[] made = toDiagChecked0(Objects.requireNonNull(message), utf8(prefix), told);
-        if (told[0] == MALFORMED) {
-            throw malformed(told, List.of());
-        }
-        return text(made, told);
+        return new String(sound(toDiagChecked0(Objects.requireNonNull(message), utf8(prefix), told), told), StandardCharsets.UTF_8);
     }
 
     /**
@@ -183,6 +194,52 @@ public final class KmipTtlv {
     public static String fromDiag(String diagnostic, String prefix, String names, long limit) {
         long[] told = new long[3];
         return text(fromDiag0(utf8(diagnostic), utf8(prefix), utf8(names), limit, told), told);
+    }
+
+    /**
+     * One whole message as readable text without any value but those of Enumerations, and with the names of KMIP's tags; for other bytes
+     * MalformedException, without items: nothing is shown of them.
+     */
+    public static String toRedactedText(byte[] message, long limit) throws MalformedException {
+        long[] told = new long[3];
+        return new String(sound(toRedactedText0(Objects.requireNonNull(message), limit, told), told), StandardCharsets.UTF_8);
+    }
+
+    /**
+     * One whole message as JSON (OASIS "KMIP Additional Message Encodings", in hexadecimal forms), in one line without a line feed; for other
+     * bytes MalformedException, without items.
+     */
+    public static String toJson(byte[] message, Redact redact) throws MalformedException {
+        long[] told = new long[3];
+        return new String(sound(toJson0(Objects.requireNonNull(message), redact.ordinal(), told), told), StandardCharsets.UTF_8);
+    }
+
+    /** The canonical bytes of the message whose JSON a text is, in the forms of {@link #toJson}; for another text MalformedException. */
+    public static byte[] fromJson(String json) throws MalformedException {
+        long[] told = new long[3];
+        return sound(fromJson0(utf8(json), told), told);
+    }
+
+    /** A name of a tag (0), of its value (1) or of the bits of its mask (2). */
+    private static Optional<String> name(int which, int tag, int number) {
+        long[] told = new long[3];
+        byte[] made = name0(which, tag, number, told);
+        return told[0] == NO_NAME ? Optional.empty() : Optional.of(text(made, told));
+    }
+
+    /** The name that the KMIP specifications give a tag. The library makes a table for each call: keep what is asked for often. */
+    public static Optional<String> tagName(int tag) {
+        return name(0, tag, 0);
+    }
+
+    /** The name that they give a value of the Enumeration with this tag. */
+    public static Optional<String> valueName(int tag, int value) {
+        return name(1, tag, value);
+    }
+
+    /** The names that they give the bits that are set in a mask with this tag, as {@code Encrypt | Decrypt}; none if it is the tag of no mask. */
+    public static Optional<String> maskNames(int tag, int mask) {
+        return name(2, tag, mask);
     }
 
     /** The version of the C library, which ends in "-unproved" if nothing was proved. */

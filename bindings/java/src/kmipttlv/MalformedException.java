@@ -2,10 +2,10 @@ package kmipttlv;
 
 import java.util.List;
 
-/** Bytes are not one whole message. */
+/** Bytes are not one whole message, or a text is not the JSON of one. */
 public final class MalformedException extends Exception {
     private static final long serialVersionUID = 1;
-    /** Where the bad item or the surplus begins, in bytes from the first. */
+    /** Where the bad item or the surplus begins, in bytes from the first; of JSON in bytes of the text in UTF-8. */
     public final long offset;
     /** What is wrong there. */
     public final Fault fault;
