@@ -135,7 +135,7 @@ func decodedAs(member string, given []byte) (string, error) {
 	return string(written), err
 }
 
-// json returns the JSON of a node: what no call makes, but what says of each value how it was decoded.
+// json returns the JSON of a node, which says of each value how it was decoded.
 func json(node *Node) string {
 	if node == nil {
 		return ""
