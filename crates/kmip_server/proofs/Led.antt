@@ -1,7 +1,9 @@
 -- Messages are answered one after the other.
 use Rattle.std.proofs.Common.{◌≡◌, ℕ, Bool, List, [], ◌∷◌, ◌++◌, Option, Result, Err, refl, subst}
+use Rattle.std.specs.declared.vec.Vec.{Vec}
 use Rattle.kmip_ttlv_base.specs.declared.error.Error.{Error}
 use Rattle.kmip_messages.specs.declared.envelope.RequestEnvelope.{RequestEnvelope}
+use Rattle.kmip_server.specs.declared.reply.NoReply.{NoReply}
 use Rattle.kmip_server.specs.declared.serve.End.{End}
 use Rattle.kmip_server.specs.declared.serve.ServeError.{ServeError}
 use Rattle.kmip_server.specs.declared.serve.ServeError.TheVariants as errors
@@ -22,7 +24,7 @@ pub led_on : {S : Type 0} (Next : S → S → Type 0) (first here next : S) → 
 led_on Next first here next led turn = record { answered = led.answered ++ next ∷ []; leads = leads_on Next first led.answered here next led.leads turn }
 
 module _ {H A : Type 0} (answers : List ℕ → Result (RequestEnvelope A) (Error A) → Type 0)
-    (Sends : H → Result (RequestEnvelope A) (Error A) → List ℕ → H → Type 0) (can_fail : Bool) where
+    (Sends : H → Result (RequestEnvelope A) (Error A) → Result (Vec ℕ A) (NoReply A) → H → Type 0) (can_fail : Bool) where
   -- a message that isn't answered is the last
   pub stops_last : (limit : Option ℕ) (old : At H) (error : ServeError A) (new : At H) → Stops answers Sends can_fail limit old error new
       → IsLast answers Sends can_fail limit (Err error) old new

@@ -1,5 +1,6 @@
 -- What is refused as a whole.
 use Rattle.std.proofs.Common.{◌≡◌, ◌∙◌, ℕ, Result, Err, subst, sym}
+use Rattle.std.specs.declared.alloc.AllocError.{AllocError}
 use Rattle.kmip_ttlv_base.specs.declared.error.Error.{Error}
 use Rattle.kmip_headers.specs.declared.header.ProtocolVersion.{ProtocolVersion}
 use Rattle.kmip_messages.specs.declared.envelope.RequestEnvelope.{RequestEnvelope}
@@ -32,8 +33,8 @@ refuses_as version version' reason reason' response versions reasons r = record 
 }
 
 -- what was read is no request
-pub refuses_read : {H A : Type 0} (Replies : H → RequestEnvelope A → Reply A → H → Type 0) (declaration : H → Declaration) (limit : ℕ) (old : H)
-    (read : Result (RequestEnvelope A) (Error A)) (e : Error A) (reply : Reply A) (new : H) → read ≡ Err e
+pub refuses_read : {H A : Type 0} (Replies : H → RequestEnvelope A → Result (Reply A) AllocError → H → Type 0) (declaration : H → Declaration)
+    (limit : ℕ) (old : H) (read : Result (RequestEnvelope A) (Error A)) (e : Error A) (reply : Result (Reply A) AllocError) (new : H) → read ≡ Err e
     → RepliesToRead Replies declaration limit old (Err e) reply new → RepliesToRead Replies declaration limit old read reply new
 refuses_read {A = A} Replies declaration limit old read e reply new is refuses =
     let P : Result (RequestEnvelope A) (Error A) → Type 0 = λ r. RepliesToRead Replies declaration limit old r reply new in

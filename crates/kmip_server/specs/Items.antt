@@ -122,6 +122,10 @@ pub record Answers {H A : Type 0} (Done : H → RequestEnvelopeItem A → Result
   pub done : Done old item outcome new
   pub answered : IsAnswerTo IsSound item.operation (identifier_of item) outcome answer
 
+-- From old an item has no answer, since memory ran out, and leads to new: nothing was done of it, or all of it
+abbrev pub IsUnanswered : {H A : Type 0} → (H → RequestEnvelopeItem A → Result (ResponsePayload A) Refusal → H → Type 0) → H → RequestEnvelopeItem A → H → Type 0
+IsUnanswered {A = A} Done old item new = (new ≡ old) ⊎ ((outcome : Result (ResponsePayload A) Refusal) × Done old item outcome new)
+
 -- no item is done behind this answer: it failed, and the batch stops at the first that does
 abbrev pub ends : {A : Type 0} → Bool → ResponseItem A → Bool
 ends stops answer = if stops then nat_eq answer.result_status.number 1 else false

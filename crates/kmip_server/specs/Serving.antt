@@ -1,17 +1,18 @@
 -- Messages that come from a reader, and what goes to a writer and to a log.
 use Rattle.std.specs.Prelude.{◌≡◌, ◌⊎◌, Bool, true, false, ℕ, List, [], ◌∷◌, Option, Some, None, Result, Ok, Err, codes}
 use Rattle.std.specs.Io.KnownBytes.{Appends}
+use Rattle.std.specs.declared.vec.Vec.{Vec}
 use Rattle.kmip_ttlv_types.specs.Streams.{AppendsFront}
 use Rattle.kmip_ttlv_base.specs.declared.error.Error.{Error}
 use Rattle.kmip_ttlv_base.specs.Errors.{Kind, io_error, exceeds_limit, malformed, mismatch, out_of_memory, length_overflow, kind_of, view_of_kind}
 use Rattle.kmip_ttlv_de.specs.StreamMessages.{Ends, Leaves}
 use Rattle.kmip_messages.specs.declared.envelope.RequestEnvelope.{RequestEnvelope}
+use Rattle.kmip_server.specs.declared.reply.NoReply.{NoReply}
 use Rattle.kmip_server.specs.declared.serve.End.{End}
 use Rattle.kmip_server.specs.declared.serve.End.TheVariants.{Input, Lost}
 use Rattle.kmip_server.specs.declared.serve.ServeError.{ServeError}
 use Rattle.kmip_server.specs.declared.serve.ServeError.TheVariants as errors
 use Rattle.kmip_server.specs.Logs.{IsLine}
-use Rattle.kmip_server.specs.Replies.{KeepsUnread}
 
 -- a server's handler, and what was written and logged, as far as that is known
 pub record Desk (H : Type 0) : Type 0 where
@@ -66,30 +67,30 @@ IsSentTo bytes old (Ok done) new = Appends old new bytes
 IsSentTo bytes old (Err (errors.Writer e)) new = AppendsFront old new bytes
 IsSentTo bytes old (Err e) new = ⊥
 
-module _ {H A : Type 0} (Sends : H → Result (RequestEnvelope A) (Error A) → List ℕ → H → Type 0) where
+module _ {H A : Type 0} (Sends : H → Result (RequestEnvelope A) (Error A) → Result (Vec ℕ A) (NoReply A) → H → Type 0) where
   -- a message has these bytes as its response, and both have their lines in the log
-  pub record IsLogged (old : Desk H) (read : Result (RequestEnvelope A) (Error A)) (came bytes : List ℕ) (new : Desk H) : Type 0 where
-    pub sends : Sends old.handler read bytes new.handler
+  pub record IsLogged (old : Desk H) (read : Result (RequestEnvelope A) (Error A)) (came : List ℕ) (bytes : Vec ℕ A) (new : Desk H) : Type 0 where
+    pub sends : Sends old.handler read (Ok bytes) new.handler
     pub between : Option (List ℕ)
     pub asked : Logs (codes "> ") came old.logged between
-    pub answered : Logs (codes "< ") bytes between new.logged
+    pub answered : Logs (codes "< ") bytes.items between new.logged
 
   -- a message is answered: its response is written, and nothing else
   pub record IsAnswered (old : Desk H) (read : Result (RequestEnvelope A) (Error A)) (came : List ℕ) (new : Desk H) : Type 0 where
-    pub bytes : List ℕ
+    pub bytes : Vec ℕ A
     pub logged : IsLogged old read came bytes new
-    pub writes : Appends old.written new.written bytes
+    pub writes : Appends old.written new.written bytes.items
 
   -- the writer fails: at most a beginning of the response is written
   pub record IsCutShort (old : Desk H) (read : Result (RequestEnvelope A) (Error A)) (came : List ℕ) (new : Desk H) : Type 0 where
-    pub bytes : List ℕ
+    pub bytes : Vec ℕ A
     pub logged : IsLogged old read came bytes new
-    pub writes : AppendsFront old.written new.written bytes
+    pub writes : AppendsFront old.written new.written bytes.items
 
-  -- there is no response: nothing is written, and what is no request has reached no handler
-  pub record HasNoReply (old : Desk H) (read : Result (RequestEnvelope A) (Error A)) (came : List ℕ) (new : Desk H) : Type 0 where
+  -- there is no response: nothing is written
+  pub record HasNoReply (old : Desk H) (read : Result (RequestEnvelope A) (Error A)) (came : List ℕ) (why : NoReply A) (new : Desk H) : Type 0 where
     pub asked : Logs (codes "> ") came old.logged new.logged
-    pub kept : KeepsUnread old.handler read new.handler
+    pub sends : Sends old.handler read (Err why) new.handler
     pub unwritten : new.written ≡ old.written
 
   -- the log fails at the line of the request, of which nothing is done, or at that of the response: nothing is written
@@ -99,17 +100,17 @@ module _ {H A : Type 0} (Sends : H → Result (RequestEnvelope A) (Error A) → 
     pub unwritten : new.written ≡ old.written
 
   pub record LosesAnswered (old : Desk H) (read : Result (RequestEnvelope A) (Error A)) (came : List ℕ) (new : Desk H) : Type 0 where
-    pub bytes : List ℕ
-    pub sends : Sends old.handler read bytes new.handler
+    pub bytes : Vec ℕ A
+    pub sends : Sends old.handler read (Ok bytes) new.handler
     pub between : Option (List ℕ)
     pub asked : Logs (codes "> ") came old.logged between
-    pub answered : LogsFront (codes "< ") bytes between new.logged
+    pub answered : LogsFront (codes "< ") bytes.items between new.logged
     pub unwritten : new.written ≡ old.written
 
   -- why a message is not answered, and what was done till then
   abbrev pub Breaks : Desk H → Result (RequestEnvelope A) (Error A) → List ℕ → ServeError A → Desk H → Type 0
   Breaks old read came (errors.Writer e) new = IsCutShort old read came new
-  Breaks old read came (errors.NoReply e) new = HasNoReply old read came new
+  Breaks old read came (errors.NoReply e) new = HasNoReply old read came e new
   Breaks old read came (errors.Log e) new = LosesAsked old came new ⊎ LosesAnswered old read came new
   Breaks old read came errors.Count new = ⊥
 
@@ -129,7 +130,7 @@ Leads Next first [] here = here ≡ first
 Leads Next first (mid ∷ mids) here = Next first mid × Leads Next mid mids here
 
 module _ {H A : Type 0} (answers : List ℕ → Result (RequestEnvelope A) (Error A) → Type 0)
-    (Sends : H → Result (RequestEnvelope A) (Error A) → List ℕ → H → Type 0) (can_fail : Bool) (limit : Option ℕ) where
+    (Sends : H → Result (RequestEnvelope A) (Error A) → Result (Vec ℕ A) (NoReply A) → H → Type 0) (can_fail : Bool) (limit : Option ℕ) where
   -- One message: what is read of the stream, and no byte more; its one answer; and whether the serving ends
   pub record Turns (old : At H) (end : Option End) (new : At H) : Type 0 where
     pub read : Result (RequestEnvelope A) (Error A)

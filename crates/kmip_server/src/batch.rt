@@ -1,8 +1,8 @@
 //! A batch: its items are done one after the other, each is answered, and an item that fails may end it.
 
-ghost use Rattle.std.specs.Prelude.{◌≡◌, IfOk};
-ghost use Rattle.kmip_server.specs.Batches.{AreAnswers};
-ghost use Rattle.kmip_server.specs.Items.{Answers, IsDone, ends};
+ghost use Rattle.std.specs.Prelude.{◌≡◌, IfOk, OnErr};
+ghost use Rattle.kmip_server.specs.Batches.{AreAnswers, BreaksOff};
+ghost use Rattle.kmip_server.specs.Items.{Answers, IsDone, IsUnanswered, ends};
 
 use crate::codec::Codec;
 use crate::handler::Handler;
@@ -19,15 +19,18 @@ fn is_last<A: Allocator>(stops: bool, answer: &ResponseItem<A>) -> bool
 }
 
 /// Does the items of a batch in their order, and answers each. If the batch stops at errors, none is done behind the first that fails,
-/// and none is answered (KMIP 1.0, section 6.13). The only error is out of memory: some of the items may be done then.
+/// and none is answered (KMIP 1.0, section 6.13). The only error is out of memory: it breaks off at one item then, which is done at most
+/// once; those before it are done, none of them ended the batch, and none behind it is done.
 pub fn answer_items<D: Codec<A>, H: Handler<A>, A: Allocator + Copy>(
     handler: &mut H,
     alloc: A,
     stops: bool,
     items: Vec<RequestEnvelopeItem<A>, A>,
 ) -> Result<Vec<ResponseItem<A>, A>, AllocError>
-    ensures { IfOk result (λ answers. AreAnswers (Answers (IsDone H.Does H.declaration D.ReadsItem) D.IsSound) (ends stops)
+    ensures answered { IfOk result (λ answers. AreAnswers (Answers (IsDone H.Does H.declaration D.ReadsItem) D.IsSound) (ends stops)
         handler.old items.items answers.items handler.new) }
+    ensures breaks_off { OnErr result (BreaksOff (Answers (IsDone H.Does H.declaration D.ReadsItem) D.IsSound)
+        (IsUnanswered (IsDone H.Does H.declaration D.ReadsItem)) (ends stops) handler.old items.items handler.new) }
 {
     let mut answers = Vec::new(alloc);
     for item in items {

@@ -1,9 +1,9 @@
 //! One item of a batch: whether its operation is there, what it asks for, and its answer.
 
-ghost use Rattle.std.specs.Prelude.{◌≡◌, IfOk, Ok, option_map, string_bytes, vec_items, None, Some};
+ghost use Rattle.std.specs.Prelude.{◌≡◌, IfOk, Ok, OnErr, option_map, string_bytes, vec_items, None, Some};
 ghost use Rattle.kmip_server.specs.Abilities.{AnswersQuery, AnswersVersions, declaration_of};
 ghost use Rattle.kmip_server.specs.Refusals.{reason_of};
-ghost use Rattle.kmip_server.specs.Items.{Answers, IsAnswerTo, IsDone, Performs, SaysDone, SaysRefused, Follows, is_critical, identifier_of, reason_for};
+ghost use Rattle.kmip_server.specs.Items.{Answers, IsAnswerTo, IsDone, IsUnanswered, Performs, SaysDone, SaysRefused, Follows, is_critical, identifier_of, reason_for};
 
 use crate::abilities::{Abilities, common_versions, is_among, list_abilities};
 use crate::codec::Codec;
@@ -224,13 +224,15 @@ pub fn answer_of<D: Codec<A>, A: Allocator + Copy>(
 ///
 /// An operation that the handler doesn't declare is refused with Operation Not Supported, an item that can't be decoded with Invalid
 /// Message, and one with a critical extension with Feature Not Supported (KMIP 1.0, section 11.1): the handler sees none of them. A
-/// payload that isn't sound, as one of another operation, is a General Failure. The only error is out of memory.
+/// payload that isn't sound, as one of another operation, is a General Failure. The only error is out of memory: then nothing is done of
+/// the item, or it is done, and only its answer couldn't be made.
 pub fn answer<D: Codec<A>, H: Handler<A>, A: Allocator + Copy>(
     handler: &mut H,
     alloc: A,
     item: RequestEnvelopeItem<A>,
 ) -> Result<ResponseItem<A>, AllocError>
-    ensures { IfOk result (λ answer. Answers (IsDone H.Does H.declaration D.ReadsItem) D.IsSound handler.old item answer handler.new) }
+    ensures answered { IfOk result (λ answer. Answers (IsDone H.Does H.declaration D.ReadsItem) D.IsSound handler.old item answer handler.new) }
+    ensures unanswered { OnErr result (IsUnanswered (IsDone H.Does H.declaration D.ReadsItem) handler.old item handler.new) }
 {
     let operation = item.operation;
     let id = copied(alloc, &item.unique_batch_item_id)?;

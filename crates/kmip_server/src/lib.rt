@@ -11,9 +11,11 @@
 //! let end = serve::<Kmip, _, _, _, _, _>(&mut handler, &budget, limits, &mut reader, &mut writer, &mut log);
 //! ```
 //!
-//! What is not promised: that a request is handled once if its client sends it again; which items were done if memory ran out, or there
-//! was no response; that the time is right. The items of a request whose response is larger than allowed are done, though the response is
-//! a refusal.
+//! If memory runs out, the items of a request are done up to one of them: in their order, each at most once, none behind one that ends the
+//! batch, and none at all of a request that is refused. That is so whether the client learns it from a General Failure or gets no response.
+//!
+//! What is not promised: that a request is handled once if its client sends it again; that the time is right. The items of a request whose
+//! response is larger than allowed are done, though the response is a refusal.
 #![tactic(auto)]
 
 pub mod abilities;

@@ -1,10 +1,10 @@
 //! A whole request, and its response.
 
-ghost use Rattle.std.specs.Prelude.{◌≡◌, ◌≤◌, ◌<◌, ◌^◌, Bool, IfOk, Result, length, pos};
+ghost use Rattle.std.specs.Prelude.{◌≡◌, ◌≤◌, ◌<◌, ◌^◌, IfOk, Result, pos};
 ghost use Rattle.kmip_headers.specs.declared.header.RequestHeader.{RequestHeader};
 ghost use Rattle.kmip_server.specs.declared.refusal.Refusal.{Refusal};
-ghost use Rattle.kmip_server.specs.Items.{Answers, IsDone};
-ghost use Rattle.kmip_server.specs.Messages.{HeaderIs, IsResponse, Refuses, Replies, RepliesTo, RespondsBy, Terms, best, limit_for};
+ghost use Rattle.kmip_server.specs.Items.{IsDone};
+ghost use Rattle.kmip_server.specs.Messages.{HeaderIs, IsResponse, Refuses, Replies, RepliesTo, Responds, best, limit_for};
 ghost use Rattle.kmip_server.specs.Refusals.{reason_of};
 
 use crate::abilities::speaks;
@@ -103,8 +103,7 @@ fn respond_by<D: Codec<A>, H: Handler<A>, A: Allocator + Copy>(
     header: &RequestHeader<A>,
     items: Vec<RequestEnvelopeItem<A>, A>,
 ) -> Result<Response<A>, AllocError>
-    ensures { IfOk result (λ response. (judged : Result Bool Refusal) × Terms header.now (length items.items) judged
-        × RespondsBy H.Admits (Answers (IsDone H.Does H.declaration D.ReadsItem) D.IsSound) version header.now judged handler.old items.items response handler.new) }
+    ensures { Responds H.Admits (IsDone H.Does H.declaration D.ReadsItem) D.IsSound version header.now handler.old items.items handler.new result }
 {
     let stops = match terms(header, items.len()) {
         Ok(stops) => stops,
@@ -129,9 +128,9 @@ fn reply_to<D: Codec<A>, H: Handler<A>, A: Allocator + Copy>(
     limit: u32,
 ) -> Result<Reply<A>, AllocError>
     ensures within { IfOk result (λ reply. reply.limit ≤ limit) }
-    ensures replies { IfOk result (λ reply. (header : Result (RequestHeader A) Refusal)
-        × HeaderIs (D.ReadsHeader request.header) header
-        × RepliesTo H.Admits (Answers (IsDone H.Does H.declaration D.ReadsItem) D.IsSound) request.header.version limit header handler.old request.items.items reply handler.new) }
+    ensures replies { (header : Result (RequestHeader A) Refusal) × HeaderIs (D.ReadsHeader request.header) header
+        × RepliesTo H.Admits (IsDone H.Does H.declaration D.ReadsItem) D.IsSound request.header.version limit header
+        handler.old request.items.items result handler.new }
 {
     let RequestEnvelope { header, items } = request;
     let version = header.version;
@@ -155,7 +154,8 @@ fn reply_to<D: Codec<A>, H: Handler<A>, A: Allocator + Copy>(
 /// Message), if its Batch Error Continuation Option is Undo or none of the standard's (Feature Not Supported), or if the handler
 /// doesn't admit it (Authentication Not Successful). Otherwise its items are answered as `answer_items` does.
 ///
-/// The only error is out of memory: some of the items may be done then.
+/// The only error is out of memory. What is said of a refusal is true then, too: none of the items is done. Of a request that is not refused
+/// some may be, as `answer_items` says.
 pub fn respond<D: Codec<A>, H: Handler<A>, A: Allocator + Copy>(
     handler: &mut H,
     alloc: A,
@@ -163,9 +163,8 @@ pub fn respond<D: Codec<A>, H: Handler<A>, A: Allocator + Copy>(
     limit: u32,
 ) -> Result<Reply<A>, AllocError>
     ensures within { IfOk result (λ reply. reply.limit ≤ limit) }
-    ensures replies { IfOk result (λ reply. Replies H.Admits (Answers (IsDone H.Does H.declaration D.ReadsItem) D.IsSound)
-        D.ReadsHeader
-        H.declaration limit handler.old request reply handler.new) }
+    ensures replies { Replies H.Admits (IsDone H.Does H.declaration D.ReadsItem) D.IsSound D.ReadsHeader H.declaration limit
+        handler.old request result handler.new }
 {
     if speaks(handler.abilities().versions, request.header.version) {
         return reply_to::<D, H, A>(handler, alloc, request, limit);

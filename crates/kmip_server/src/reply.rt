@@ -1,10 +1,10 @@
 //! The bytes of a reply, which are never more than client and server allow.
 
-ghost use Rattle.std.specs.Prelude.{◌≤◌, IfOk, OnErr, length};
-ghost use Rattle.kmip_server.specs.Items.{Answers, IsDone};
+ghost use Rattle.std.specs.Prelude.{◌≤◌, IfOk, length};
+ghost use Rattle.kmip_server.specs.Items.{IsDone};
 ghost use Rattle.kmip_server.specs.Messages.{Replies};
 ghost use Rattle.kmip_server.specs.Refusals.{reason_of};
-ghost use Rattle.kmip_server.specs.Replies.{Fits, IsRefusalWithin, IsSent, KeepsUnread, RepliesToRead, Sends};
+ghost use Rattle.kmip_server.specs.Replies.{Fits, IsSent, RepliesToRead, Sends, SendsRefusal};
 
 use crate::codec::Codec;
 use crate::handler::Handler;
@@ -21,14 +21,18 @@ use std::alloc::{AllocError, Allocator, Global};
 /// Why there is no reply to send.
 #[derive(Drop)]
 pub enum NoReply<A: Allocator = Global> {
-    /// The response can't be encoded: memory ran out, also for the refusal that says so, or it has more than 2^32 - 1 bytes.
+    /// The response, or the refusal in its place, can't be encoded: memory ran out, or it has more than 2^32 - 1 bytes.
     Encoding(Error<A>),
-    /// The limit has no room for the refusal that says so.
+    /// The limit has no room for the refusal that stands in the place of a response.
     NoRoom,
 }
 
 /// Memory ran out.
 impl<A: Allocator> From<AllocError> for NoReply<A> {
+    ghost use Rattle.kmip_server.specs.Replies.{IsForMemory};
+
+    ghost from_gives = { λ _ why. IsForMemory why };
+
     fn from(error: AllocError) -> NoReply<A> {
         NoReply::Encoding(Error::from(error))
     }
@@ -36,6 +40,11 @@ impl<A: Allocator> From<AllocError> for NoReply<A> {
 
 /// A response can't be encoded.
 impl<A: Allocator> From<Error<A>> for NoReply<A> {
+    ghost use Rattle.std.specs.Prelude.{◌≡◌};
+    ghost use Rattle.kmip_server.specs.declared.reply.NoReply.TheVariants.{Encoding};
+
+    ghost from_gives = { λ e why. why ≡ Encoding e };
+
     fn from(error: Error<A>) -> NoReply<A> {
         NoReply::Encoding(error)
     }
@@ -47,7 +56,7 @@ fn fitted<D: Codec<A>, A: Allocator + Copy>(
     response: &Response<A>,
     limit: u32,
 ) -> Result<Option<Vec<u8, A>>, Error<A>>
-    ensures { IfOk result (Fits (D.stated response.now) limit) }
+    ensures { Fits (D.stated response.now) limit result }
 {
     let bytes = D::encode(alloc, response)?;
     if bytes.len() <= limit as usize {
@@ -66,7 +75,7 @@ fn refusal_bytes<D: Codec<A>, A: Allocator + Copy>(
     limit: u32,
 ) -> Result<Vec<u8, A>, NoReply<A>>
     ensures within { IfOk result (λ bytes. length bytes.items ≤ limit) }
-    ensures refusal { IfOk result (λ bytes. IsRefusalWithin D.stated version (reason_of refusal) limit bytes.items) }
+    ensures refusal { SendsRefusal D.stated version (reason_of refusal) limit result }
 {
     let response = refuse(alloc, version, time, refusal)?;
     let bytes = fitted::<D, A>(alloc, &response, limit)?;
@@ -82,7 +91,7 @@ fn sent<D: Codec<A>, A: Allocator + Copy>(
     reply: &Reply<A>,
 ) -> Result<Vec<u8, A>, NoReply<A>>
     ensures within { IfOk result (λ bytes. length bytes.items ≤ reply.now.limit) }
-    ensures sent { IfOk result (λ bytes. IsSent D.stated reply.now bytes.items) }
+    ensures sent { IsSent D.stated reply.now result }
 {
     let bytes = fitted::<D, A>(alloc, &reply.response, reply.limit)?;
     match bytes {
@@ -112,10 +121,8 @@ fn reply<D: Codec<A>, H: Handler<A>, A: Allocator + Copy>(
     limit: u32,
 ) -> Result<Reply<A>, AllocError>
     ensures within { IfOk result (λ reply. reply.limit ≤ limit) }
-    ensures kept { OnErr result (KeepsUnread handler.old read handler.new) }
-    ensures replies { IfOk result (λ reply. RepliesToRead (Replies H.Admits (Answers (IsDone H.Does H.declaration D.ReadsItem) D.IsSound)
-        D.ReadsHeader
-        H.declaration limit) H.declaration limit handler.old read reply handler.new) }
+    ensures replies { RepliesToRead (Replies H.Admits (IsDone H.Does H.declaration D.ReadsItem) D.IsSound D.ReadsHeader H.declaration limit)
+        H.declaration limit handler.old read result handler.new }
 {
     match read {
         Ok(request) => respond::<D, H, A>(handler, alloc, request, limit),
@@ -131,7 +138,8 @@ fn reply<D: Codec<A>, H: Handler<A>, A: Allocator + Copy>(
 /// Message) or the response would be larger than allowed (Response Too Large, KMIP 1.0, section 11.1; its items are done all the same).
 /// They are never more than the limit, and where the request's header can be decoded never more than its Maximum Response Size.
 ///
-/// If memory runs out, they are a General Failure; of a request some of the items may be done then.
+/// If memory runs out before there is a response, they are a General Failure, and of the request a part may be done, as `respond` says. An
+/// error says why nothing can be sent: either such a part is done, or all that belongs to the response.
 pub fn reply_bytes<D: Codec<A>, H: Handler<A>, A: Allocator + Copy>(
     handler: &mut H,
     alloc: A,
@@ -139,16 +147,11 @@ pub fn reply_bytes<D: Codec<A>, H: Handler<A>, A: Allocator + Copy>(
     limit: u32,
 ) -> Result<Vec<u8, A>, NoReply<A>>
     ensures within { IfOk result (λ bytes. length bytes.items ≤ limit) }
-    ensures kept { OnErr result (KeepsUnread handler.old read handler.new) }
-    ensures sends { IfOk result (λ bytes. Sends D.stated (Replies H.Admits (Answers (IsDone H.Does H.declaration D.ReadsItem) D.IsSound)
-        D.ReadsHeader
-        H.declaration limit) H.declaration limit handler.old read bytes.items handler.new) }
+    ensures sends { Sends D.stated (Replies H.Admits (IsDone H.Does H.declaration D.ReadsItem) D.IsSound D.ReadsHeader H.declaration limit)
+        H.declaration limit handler.old read result handler.new }
 {
     match reply::<D, H, A>(handler, alloc, read, limit) {
-        Ok(reply) => {
-            let bytes = sent::<D, A>(alloc, &reply)?;
-            Ok(bytes)
-        }
+        Ok(reply) => sent::<D, A>(alloc, &reply),
         Err(error) => {
             let version = best(handler.abilities().versions);
             refusal_bytes::<D, A>(alloc, version, handler.now(), Refusal::from(error), limit)

@@ -3,7 +3,7 @@
 ghost use Rattle.std.specs.Prelude.{◌≡◌, Some, OnErr, OnOk, is_some, true};
 ghost use Rattle.kmip_ttlv_base.specs.Errors.{kind_of, view_of_kind};
 ghost use Rattle.kmip_ttlv_de.specs.Settings.{KeepsSettings, settings_of};
-ghost use Rattle.kmip_server.specs.Items.{Answers, IsDone};
+ghost use Rattle.kmip_server.specs.Items.{IsDone};
 ghost use Rattle.kmip_server.specs.Messages.{Replies};
 ghost use Rattle.kmip_server.specs.Replies.{Sends};
 ghost use Rattle.kmip_server.specs.Serving.{HandlesMessage, IsDealtWith, IsNoted, IsSentTo, Logs, LogsFront, Serves, end_behind, is_cut_by, is_silent};
@@ -124,7 +124,7 @@ fn answer_read<D: Codec<A>, H: Handler<A>, W: Sink, L: Sink, A: Allocator + Copy
     writer: &mut W,
     log: &mut L,
 ) -> Result<(), ServeError<A>>
-    ensures { IsDealtWith (Sends D.stated (Replies H.Admits (Answers (IsDone H.Does H.declaration D.ReadsItem) D.IsSound)
+    ensures { IsDealtWith (Sends D.stated (Replies H.Admits (IsDone H.Does H.declaration D.ReadsItem) D.IsSound
         D.ReadsHeader H.declaration limit) H.declaration limit)
         record { handler = handler.old; written = W.emitted writer.old; logged = L.emitted log.old } read came.now result
         record { handler = handler.new; written = W.emitted writer.new; logged = L.emitted log.new } }
@@ -163,7 +163,7 @@ fn serve_one<D: Codec<A>, H: Handler<A>, S: Source, W: Sink, L: Sink, A: Allocat
     requires { is_some (settings_of config.old).reused ≡ true }
     ensures config { KeepsSettings (settings_of config.old) (settings_of config.new) }
     ensures handles { HandlesMessage D.ReadsRequest (Sends D.stated (Replies H.Admits
-        (Answers (IsDone H.Does H.declaration D.ReadsItem) D.IsSound) D.ReadsHeader H.declaration limit) H.declaration limit)
+        (IsDone H.Does H.declaration D.ReadsItem) D.IsSound D.ReadsHeader H.declaration limit) H.declaration limit)
         S.can_fail (settings_of config.old).limit
         record { left = S.left reader.old; desk = record { handler = handler.old; written = W.emitted writer.old; logged = L.emitted log.old } } result
         record { left = S.left reader.new; desk = record { handler = handler.new; written = W.emitted writer.new; logged = L.emitted log.new } } }
@@ -202,7 +202,7 @@ pub fn serve<D: Codec<A>, H: Handler<A>, S: Source, W: Sink, L: Sink, A: Allocat
     log: &mut L,
 ) -> Result<End, ServeError<A>>
     ensures { Serves D.ReadsRequest (Sends D.stated (Replies H.Admits
-        (Answers (IsDone H.Does H.declaration D.ReadsItem) D.IsSound) D.ReadsHeader H.declaration limits.response) H.declaration limits.response)
+        (IsDone H.Does H.declaration D.ReadsItem) D.IsSound D.ReadsHeader H.declaration limits.response) H.declaration limits.response)
         S.can_fail (Some limits.request)
         record { left = S.left reader.old; desk = record { handler = handler.old; written = W.emitted writer.old; logged = L.emitted log.old } } result
         record { left = S.left reader.new; desk = record { handler = handler.new; written = W.emitted writer.new; logged = L.emitted log.new } } }

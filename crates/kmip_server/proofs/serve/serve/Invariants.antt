@@ -1,7 +1,7 @@
 use Rattle.std.proofs.Common.{◌≡◌, None, Some, true}
 use Rattle.std.specs.Prelude.{is_some}
 use Rattle.kmip_ttlv_de.specs.Settings.{settings_of}
-use Rattle.kmip_server.specs.Items.{Answers, IsDone}
+use Rattle.kmip_server.specs.Items.{IsDone}
 use Rattle.kmip_server.specs.Messages.{Replies}
 use Rattle.kmip_server.specs.Replies.{Sends}
 use Rattle.kmip_server.specs.Serving.{Turns}
@@ -20,7 +20,7 @@ invariant-messages g l =
       limit : (settings_of l.config).limit ≡ Some l.limits.request;
       buffer : is_some (settings_of l.config).reused ≡ true;
       led : IsLed (λ old new. Turns codec.ReadsRequest (Sends codec.stated (Replies handler.Admits
-          (Answers (IsDone handler.Does handler.declaration codec.ReadsItem) codec.IsSound)
+          (IsDone handler.Does handler.declaration codec.ReadsItem) codec.IsSound
           codec.ReadsHeader handler.declaration l.limits.response) handler.declaration l.limits.response)
           source.can_fail (Some l.limits.request) old None new)
           record { left = source.left l.fn.reader; desk = record { handler = l.fn.handler; written = written l.fn.writer; logged = logged l.fn.log } }
