@@ -1,0 +1,6 @@
+mod Levels
+mod Naming
+mod Reading
+mod Referring
+mod Seeking
+mod Told
