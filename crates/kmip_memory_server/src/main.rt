@@ -1,34 +1,21 @@
 //! A server of KMIP 1.0 to 1.4 that keeps keys in memory: requests come on standard input, responses go to standard output, and the log,
 //! which shows no value, to standard error. `socat` or `stunnel` gives it TLS.
 //!
-//! `server` is what is done of one item. `making` has Create and Register, `showing` Get, Get Attributes and Get Attribute List, `finding`
-//! Locate, `living` Activate, Revoke and Destroy; `about` is what is known of an object, and `attributes` the same as attributes.
-//! `kmip_memory_store` keeps the objects, and `kmip_server` does the rest.
+//! `server` is what is done of one item, and `making` has Create and Register. `kmip_operations` has the other operations on objects, and
+//! `kmip_server` does the rest.
 #![tactic(auto)]
 
-mod about;
-mod attributes;
-mod finding;
-mod living;
 mod making;
 mod server;
-mod showing;
 
 use crate::server::Server;
 use clap::builder::ValueParser;
 use clap::{Arg, Command, Error};
-use kmip_server::codec::Kmip;
-use kmip_server::serve::{Limits, serve};
+use kmip_operations::system::serve_streams;
 use kmip_ttlv::memory::{BoundedAllocator, Wiping};
 use std::alloc::Global;
 use std::process::ExitCode;
 use std::{env, io};
-
-/// The most bytes of a request, and of a response.
-const LIMITS: Limits = Limits {
-    request: 65_536,
-    response: 65_536,
-};
 
 /// How much memory a message may take, with its response, in bytes.
 const MESSAGE: usize = 4_194_304;
@@ -77,15 +64,7 @@ fn run(rt: HostRuntime, time: Option<i64>) -> u8 {
     let objects = BoundedAllocator::new(Wiping::new(rt.alloc()), OBJECTS);
     let messages = BoundedAllocator::new(Wiping::new(rt.alloc()), MESSAGE);
     let mut server = Server::new(rt, &objects, time);
-    let (mut input, mut output, mut log) = (rt.stdin(), rt.stdout(), rt.stderr());
-    match serve::<Kmip, _, _, _, _, _>(
-        &mut server,
-        &messages,
-        LIMITS,
-        &mut input,
-        &mut output,
-        &mut log,
-    ) {
+    match serve_streams(rt, &messages, &mut server) {
         Ok(_) => 0,
         Err(_) => FAILED,
     }

@@ -1,23 +1,22 @@
-//! Create and Register (KMIP 1.0, sections 4.1 and 4.3).
+//! Register, and which keys Create makes (KMIP 1.0, sections 4.1 and 4.3).
 
-ghost use Rattle.std.specs.Prelude.{◌≡◌, Some, IfOk, MatchResult};
-ghost use Rattle.kmip_memory_server.specs.Answers.{bytes_of_block, bytes_of_object};
-ghost use Rattle.kmip_memory_server.specs.Effects.{Adds, Makes, OneComes, SameObjects};
+ghost use Rattle.std.specs.Prelude.{◌≡◌, Some, IfOk};
+ghost use Rattle.kmip_memory_server.specs.Effects.{Adds, MakesOne, bytes_of_object};
+ghost use Rattle.kmip_operations.specs.Answers.{bytes_of_block};
 
-use crate::about::About;
-use crate::server::{Server, identifier};
+use crate::server::Server;
 use kmip_messages::key::{KeyBlock, KeyMaterial, KeyValue};
 use kmip_messages::object::ManagedObject;
 use kmip_messages::request_payload::{CreateRequest, RegisterRequest};
 use kmip_messages::response::result_reason;
-use kmip_messages::response_payload::{CreateResponse, RegisterResponse, ResponsePayload};
-use kmip_messages::template::TemplateAttribute;
+use kmip_messages::response_payload::{RegisterResponse, ResponsePayload};
 use kmip_messages::values::{
     CryptographicAlgorithm, ObjectType, cryptographic_algorithm, object_type,
 };
+use kmip_operations::about::About;
+use kmip_operations::system::random_bytes;
 use kmip_server::refusal::Refusal;
-use kmip_ttlv::Kept;
-use std::alloc::{AllocError, Allocator};
+use std::alloc::Allocator;
 
 // A field that isn't good.
 fn bad(message: &'static str) -> Refusal {
@@ -125,45 +124,6 @@ fn object<'k, K: Allocator, A: Allocator>(
 }
 
 impl<K: Allocator + Copy> Server<K> {
-    // What a client says of an object that comes.
-    fn about<A: Allocator>(
-        &self,
-        object_type: ObjectType,
-        template: &Option<TemplateAttribute<A>>,
-        others: [&Option<Kept<A>>; 2],
-    ) -> Result<About<K>, Refusal> {
-        if others[0].is_some() || others[1].is_some() {
-            return Err(lacking("the server has no attributes by tags"));
-        }
-        let mut about = About::new(self.alloc, object_type);
-        if let Some(template) = template {
-            about.template(self.alloc, template)?;
-        }
-        Ok(about)
-    }
-
-    // Keeps an object, unless another has one of its names (KMIP 1.0, section 3.2).
-    fn keep(&mut self, about: About<K>, material: Vec<u8, K>) -> Result<(), Refusal>
-        ensures { MatchResult result (λ _. OneComes (Some material.items) self.old self.new) (λ _. SameObjects self.old self.new) }
-    {
-        for id in 0..self.store.count() {
-            if let Some(object) = self.store.get(id)
-                && about.names.iter().any(|name| object.about.is_named(name))
-            {
-                return Err(bad("an object has this name"));
-            }
-        }
-        let now = self.seconds();
-        let id = self.store.add(about, material, now)?;
-        self.last = Some(id);
-        Ok(())
-    }
-
-    // The identifier of the object that comes next.
-    fn coming<A: Allocator>(&self, alloc: A) -> Result<String<A>, AllocError> {
-        identifier(alloc, self.store.count())
-    }
-
     /// Makes a symmetric key of random bytes. Refused with Invalid Field if the server makes no such key, with Cryptographic Failure if
     /// there are no random bytes (KMIP 1.0, section 11.2).
     pub fn create<A: Allocator + Copy>(
@@ -171,26 +131,14 @@ impl<K: Allocator + Copy> Server<K> {
         alloc: A,
         asked: &CreateRequest<A>,
     ) -> Result<ResponsePayload<A>, Refusal>
-        ensures { Makes self.old result self.new }
+        ensures { MakesOne self.old.objects result self.new.objects }
     {
-        self.last = None;
-        let others = [&asked.attributes_by_tag, &asked.protection_storage_masks];
-        let about = self.about(asked.object_type, &asked.template_attribute, others)?;
-        if asked.object_type != object_type::SYMMETRIC_KEY {
-            return Err(bad("only symmetric keys are made"));
-        }
-        if about.usage_mask.is_none() {
-            return Err(bad("there is no Cryptographic Usage Mask"));
-        }
-        let mut key = vec![in self.alloc; 0u8; size(&about)?]?;
-        self.fill(key.as_mut_slice())?;
-        let unique_identifier = self.coming(alloc)?;
-        self.keep(about, key)?;
-        Ok(ResponsePayload::Create(CreateResponse {
-            object_type: asked.object_type,
-            unique_identifier,
-            template_attribute: None,
-        }))
+        self.objects.last = None;
+        let about = self.objects.wanted(asked)?;
+        let key = random_bytes(self.objects.alloc, &self.rt, size(&about)?)?;
+        let now = self.seconds();
+        let made = self.objects.create(alloc, about, key, now)?;
+        Ok(made)
     }
 
     /// Keeps an object of a client. Refused with Invalid Field if it isn't of the type that is named, or its attributes aren't its own,
@@ -200,11 +148,13 @@ impl<K: Allocator + Copy> Server<K> {
         alloc: A,
         asked: &RegisterRequest<A>,
     ) -> Result<ResponsePayload<A>, Refusal>
-        ensures { Adds asked.now self.old result self.new }
+        ensures { Adds asked.now self.old.objects result self.new.objects }
     {
-        self.last = None;
-        let others = [&asked.attributes_by_tag, &asked.protection_storage_masks];
-        let mut about = self.about(asked.object_type, &asked.template_attribute, others)?;
+        self.objects.last = None;
+        let by_tags = [&asked.attributes_by_tag, &asked.protection_storage_masks];
+        let mut about = self
+            .objects
+            .describe(asked.object_type, &asked.template_attribute, by_tags)?;
         let Some(given) = asked.object() else {
             return Err(bad("there is no object, or more than one"));
         };
@@ -212,9 +162,9 @@ impl<K: Allocator + Copy> Server<K> {
         if object_type != asked.object_type {
             return Err(bad("the object is not of the type that is named"));
         }
-        let material = bytes.to_vec(self.alloc)?;
-        let unique_identifier = self.coming(alloc)?;
-        self.keep(about, material)?;
+        let material = bytes.to_vec(self.objects.alloc)?;
+        let now = self.seconds();
+        let unique_identifier = self.objects.keep(alloc, about, material, now)?;
         Ok(ResponsePayload::Register(RegisterResponse {
             unique_identifier,
             template_attribute: None,

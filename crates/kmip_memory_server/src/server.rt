@@ -1,24 +1,19 @@
 //! What the server has, and what it does of one item.
 
-ghost use Rattle.std.specs.Prelude.{◌≡◌, Some, IfOk, codes};
-ghost use Rattle.kmip_memory_store.specs.Objects.{at};
+ghost use Rattle.std.specs.Prelude.{codes};
 
-use crate::about::About;
-use crate::living::revoking;
-use kmip_memory_store::object::{Object, Step};
-use kmip_memory_store::store::Store;
 use kmip_messages::header::{Operation, ProtocolVersion, RequestHeader, operation};
 use kmip_messages::request_payload::RequestPayload;
 use kmip_messages::response::result_reason;
 use kmip_messages::response_payload::ResponsePayload;
 use kmip_messages::values::{ObjectType, object_type};
+use kmip_operations::objects::Objects;
+use kmip_operations::system::seconds;
 use kmip_server::abilities::Abilities;
 use kmip_server::handler::Handler;
 use kmip_server::refusal::Refusal;
 use kmip_ttlv::reader::DateTime;
-use std::alloc::{AllocError, Allocator};
-use std::random::RandomSource;
-use std::time::SystemTime;
+use std::alloc::Allocator;
 
 const VERSIONS: [ProtocolVersion; 5] = [
     ProtocolVersion { major: 1, minor: 4 },
@@ -53,28 +48,12 @@ const OBJECT_TYPES: [ObjectType; 5] = [
 /// A server of keys in memory.
 #[derive(Drop)]
 pub struct Server<K: Allocator> {
-    rt: HostRuntime,
+    /// Where random bytes come from.
+    pub rt: HostRuntime,
     // The time, if it doesn't go by the clock.
     time: Option<i64>,
-    /// Where objects have their memory.
-    pub alloc: K,
     /// The objects.
-    pub store: Store<About<K>, K>,
-    /// The ID Placeholder: the object that an item of this request made, registered or located last (KMIP 1.0, section 4).
-    pub last: Option<usize>,
-}
-
-/// The Unique Identifier of an object: its number, from 1, as a text.
-pub fn identifier<A: Allocator>(alloc: A, id: usize) -> Result<String<A>, AllocError> {
-    format!(in alloc; "{}", id.saturating_add(1))
-}
-
-// The object of a Unique Identifier: a number from 1, of which there is one text.
-fn numbered(name: &str) -> Option<usize> {
-    match name.as_bytes() {
-        [b'1'..=b'9', ..] => name.parse::<usize>().ok()?.checked_sub(1),
-        _ => None,
-    }
+    pub objects: Objects<K>,
 }
 
 impl<K: Allocator + Copy> Server<K> {
@@ -83,55 +62,13 @@ impl<K: Allocator + Copy> Server<K> {
         Server {
             rt,
             time,
-            alloc,
-            store: Store::new(alloc),
-            last: None,
+            objects: Objects::new(alloc),
         }
     }
 
     /// The time in seconds since 1970; 0 if the clock fails.
     pub fn seconds(&self) -> i64 {
-        if let Some(time) = self.time {
-            return time;
-        }
-        let Ok(now) = SystemTime::now(&self.rt) else {
-            return 0;
-        };
-        match now.duration_since(SystemTime::UNIX_EPOCH) {
-            Ok(since) => i64::try_from(since.as_secs()).unwrap_or(0),
-            Err(_) => 0,
-        }
-    }
-
-    /// Fills bytes from the system's source of random numbers. Refused with Cryptographic Failure if that fails.
-    pub fn fill(&self, bytes: &mut [u8]) -> Result<(), Refusal> {
-        match self.rt.fill_bytes(bytes) {
-            Ok(()) => Ok(()),
-            Err(_) => Err(Refusal::new(
-                result_reason::CRYPTOGRAPHIC_FAILURE,
-                "there are no random bytes",
-            )),
-        }
-    }
-
-    /// The object that an item is about: that of its Unique Identifier, or without one that of the ID Placeholder. Refused with Item Not
-    /// Found if there is none.
-    pub fn object<A: Allocator>(
-        &self,
-        name: &Option<String<A>>,
-    ) -> Result<(usize, &Object<About<K>, K>), Refusal>
-        ensures { IfOk result (λ found. at self.now.store found.0 ≡ Some found.1.now) }
-    {
-        let id = match name {
-            Some(name) => numbered(name.as_str()),
-            None => self.last,
-        };
-        if let Some(id) = id
-            && let Some(object) = self.store.get(id)
-        {
-            return Ok((id, object));
-        }
-        Err(Refusal::new(result_reason::ITEM_NOT_FOUND, "there is no such object"))
+        seconds(&self.rt, self.time)
     }
 }
 
@@ -141,7 +78,7 @@ impl<K: Allocator + Copy, A: Allocator + Copy> Handler<A> for Server<K> {
 
     ghost declaration = { λ _. record { versions = VERSIONS; operations = OPERATIONS; object_types = OBJECT_TYPES; vendor = codes "Sieveebony" } };
 
-    ghost Does = { λ old _ asked result new. Handles old asked result new };
+    ghost Does = { λ old _ asked result new. Handles old.objects asked result new.objects };
 
     fn abilities(&self) -> Abilities {
         Abilities {
@@ -158,7 +95,7 @@ impl<K: Allocator + Copy, A: Allocator + Copy> Handler<A> for Server<K> {
 
     // It can't check who its credentials say that a client is: that is for TLS.
     fn admits(&mut self, header: &RequestHeader<A>) -> bool {
-        self.last = None;
+        self.objects.last = None;
         header.authentication.is_none()
     }
 
@@ -168,25 +105,19 @@ impl<K: Allocator + Copy, A: Allocator + Copy> Handler<A> for Server<K> {
         _operation: Operation,
         asked: &RequestPayload<A>,
     ) -> Result<ResponsePayload<A>, Refusal> {
+        let now = self.seconds();
         match asked {
             RequestPayload::Create(asked) => self.create(alloc, asked),
             RequestPayload::Register(asked) => self.register(alloc, asked),
-            RequestPayload::Locate(asked) => self.locate(alloc, asked),
-            RequestPayload::Get(asked) => self.get(alloc, asked),
-            RequestPayload::GetAttributes(asked) => self.get_attributes(alloc, asked),
-            RequestPayload::GetAttributeList(asked) => self.get_attribute_list(alloc, asked),
-            RequestPayload::Activate(asked) => {
-                let done = self.take(alloc, &asked.unique_identifier, Step::Activate)?;
-                Ok(ResponsePayload::Activate(done))
+            RequestPayload::Locate(asked) => self.objects.locate(alloc, asked),
+            RequestPayload::Get(asked) => self.objects.get(alloc, asked),
+            RequestPayload::GetAttributes(asked) => self.objects.get_attributes(alloc, asked),
+            RequestPayload::GetAttributeList(asked) => {
+                self.objects.get_attribute_list(alloc, asked)
             }
-            RequestPayload::Revoke(asked) => {
-                let done = self.take(alloc, &asked.unique_identifier, revoking(asked)?)?;
-                Ok(ResponsePayload::Revoke(done))
-            }
-            RequestPayload::Destroy(asked) => {
-                let done = self.take(alloc, &asked.unique_identifier, Step::Destroy)?;
-                Ok(ResponsePayload::Destroy(done))
-            }
+            RequestPayload::Activate(asked) => self.objects.activate(alloc, asked, now),
+            RequestPayload::Revoke(asked) => self.objects.revoke(alloc, asked, now),
+            RequestPayload::Destroy(asked) => self.objects.destroy(alloc, asked, now),
             _ => Err(Refusal::new(
                 result_reason::OPERATION_NOT_SUPPORTED,
                 "the server does not have this operation",

@@ -36,6 +36,7 @@ impl<T: Drop, A: Allocator> Store<T, A> {
     pub fn add(&mut self, about: T, material: Vec<u8, A>, now: i64) -> Result<usize, AllocError>
         ensures comes { IfOk result (λ id. Comes (object_born about material now) id self.old self.new) }
         ensures count { IfOk result (λ id. id + 1 ≡ length (objects_of self.new)) }
+        ensures next { IfOk result (λ id. id ≡ length (objects_of self.old)) }
         ensures kept { OnErr result (objects_of self.new ≡ objects_of self.old) }
     {
         let id = self.objects.len();

@@ -1,5 +1,6 @@
+use Rattle.std.proofs.Common.{None}
+use Rattle.kmip_memory_server.proofs.Placeholder.{creates_again}
 use Rattle.kmip_memory_server.proofs.server.Server.create.Goals as goal
 
 pub returns : goal.returns
-returns g c =
-    let came = c.in_ok-keep.ensures in (_, record { object = came.object; material = came.material; id = came.id; comes = came.comes })
+returns g c = (c.in_ok-key.key.items, creates_again c.in_ok-key.key.items c.args.self.now.objects None c.in_ok-made.made c.create.new.self c.in_ok-made.ensures)

@@ -1,0 +1,3 @@
+pub mod Knowing
+pub mod Naming
+pub mod Stepping
