@@ -1,5 +1,5 @@
 -- What operations do to a server's objects, and what they answer.
-use Rattle.std.specs.Prelude.{if◌then◌else◌, nat_eq, nat_lt, ◌≡◌, ◌+◌, ◌<◌, ◌^◌, ℕ, ℤ, List, Option, Some, None, Result, Ok, Err, MatchOption, MatchResult, String, option_map, string_bytes, vec_items}
+use Rattle.std.specs.Prelude.{if◌then◌else◌, nat_eq, nat_lt, ◌≡◌, ◌+◌, ◌<◌, ◌^◌, ℕ, ℤ, List, Option, Some, None, Result, Ok, MatchResult, String, option_map, string_bytes, vec_items}
 use Rattle.std.specs.Fmt.{decimal}
 use Rattle.kmip_memory_store.specs.declared.object.Object.{Object}
 use Rattle.kmip_memory_store.specs.declared.object.Step.{Step}

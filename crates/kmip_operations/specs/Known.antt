@@ -1,5 +1,5 @@
 -- What is known of an object that comes, by its attributes.
-use Rattle.std.specs.Prelude.{◌≡◌, ◌⊎◌, ℕ, List, [], ◌∷◌, Option, Some, None, MatchOption, String, codes, is_some, string_bytes, true}
+use Rattle.std.specs.Prelude.{◌≡◌, ◌⊎◌, ℕ, List, [], ◌∷◌, Option, Some, None, MatchOption, codes, is_some, string_bytes, true}
 use Rattle.kmip_attributes.specs.declared.attribute.Attribute.{Attribute}
 use Rattle.kmip_attributes.specs.declared.attribute.AttributeStructure.TheVariants as structures
 use Rattle.kmip_attributes.specs.declared.attribute.AttributeValue.{AttributeValue}

@@ -1,4 +1,4 @@
-use Rattle.std.proofs.Common.{◌≡◌, ◌+◌, Ok, rules, arith}
+use Rattle.std.proofs.Common.{◌+◌, rules}
 use Rattle.std.proofs.lemmas.Fmt.{parse-decimal}
 use Rattle.kmip_operations.proofs.objects.numbered.Goals as goal
 

@@ -1,4 +1,4 @@
-use Rattle.std.proofs.Common.{◌≡◌, refl, rules, sym, subst, string_bytes, ◌∙◌}
+use Rattle.std.proofs.Common.{◌≡◌, refl, rules, sym, subst, string_bytes}
 use Rattle.kmip_operations.specs.Known.{HasName}
 use Rattle.kmip_operations.proofs.Knowing.{has_first, has_last, stays_same}
 use Rattle.kmip_operations.proofs.about.About.name.Goals as goal

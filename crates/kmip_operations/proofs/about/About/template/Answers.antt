@@ -1,4 +1,4 @@
-use Rattle.std.proofs.Common.{ap, get_or, length, rules, sym, ◌≡◌, ◌≤◌, ◌<◌, ◌∙◌}
+use Rattle.std.proofs.Common.{ap, get_or, length, rules, ◌≡◌, ◌<◌, ◌∙◌}
 use Rattle.kmip_operations.proofs.Knowing.{all_known, one_more}
 use Rattle.kmip_operations.proofs.about.About.template.Goals as goal
 
