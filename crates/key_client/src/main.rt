@@ -54,7 +54,7 @@ fn main(rt: HostRuntime) -> ExitCode {
     let _ = match run(rt, &mut Client::new(&memory, FIRST, connection)) {
         Ok(()) => return ExitCode::SUCCESS,
         Err(Failure::Refused(why)) => eprintln!(rt; "refused, with the reason {:?}", why.reason),
-        Err(_) => eprintln!(rt; "the server does not answer"),
+        Err(_other) => eprintln!(rt; "the server does not answer"),
     };
     ExitCode::FAILURE
 }
