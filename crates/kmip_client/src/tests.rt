@@ -386,7 +386,7 @@ fn versions_are_negotiated(rt: HostRuntime) -> Result<(), Fail> {
     Ok(())
 }
 
-// The client of docs/LIBRARY.md: it has a key made for a disk, has it in use, and gets it.
+// A client as it is used: it has a key made for a disk, has it in use, and gets it.
 fn disk_key<C: Exchange<A>, A: Allocator + Copy>(
     client: &mut Client<C, A>,
 ) -> Result<Boxed<GetResponse<A>, A>, Failure<A>> {
