@@ -1,0 +1,19 @@
+use Rattle.std.proofs.Common.{Ok, Err, refl}
+use Rattle.kmip.proofs.Widening.{calls_wider}
+use Rattle.kmip.proofs.asking.create.Goals as goal
+
+pub returns-in-Ok : goal.returns-in-Ok
+returns-in-Ok g c = record {
+  outcome = Ok c.in-Ok.made;
+  returns = calls_wider (λ x is. record { attributes = c.in_ok-attributes.attributes.items; are_of_key = c.in_ok-attributes.ensures; is_create = is })
+      (Ok c.in-Ok.made) c.in-Ok.ensures.calls;
+  given = refl;
+}
+
+pub returns-in-Err : goal.returns-in-Err
+returns-in-Err g c = record {
+  outcome = Err c.in-Err.failure;
+  returns = calls_wider (λ x is. record { attributes = c.in_ok-attributes.attributes.items; are_of_key = c.in_ok-attributes.ensures; is_create = is })
+      (Err c.in-Err.failure) c.in-Err.ensures.calls;
+  given = refl;
+}

@@ -1,0 +1,277 @@
+//! Asks a server for what a command is about.
+
+ghost use Rattle.std.specs.Prelude.{◌≡◌, ◌≤◌, [], ◌∷◌, Some, length, map};
+ghost use Rattle.kmip_client.specs.Calling.{Calls};
+ghost use Rattle.kmip_client.specs.Payloads.{IsDiscover, IsGet, IsGetAttributes, IsLocate, IsObject, IsQuery, IsRevoke};
+ghost use Rattle.kmip.specs.Commands.{Converses, Gives, IsKeptKey, IsLocateAll, IsNewKey, Negotiates, Performs};
+
+use crate::done::Done;
+use crate::request::{Asked, FIRST_ASKED, NewKey, Request};
+use kmip_client::attributes::of_key;
+use kmip_client::client::Client;
+use kmip_client::exchange::Exchange;
+use kmip_client::failure::Failure;
+use kmip_client::keys::raw_key;
+use kmip_messages::header::{ProtocolVersion, operation};
+use kmip_messages::request_payload::{LocateRequest, RequestPayload, query_function};
+use kmip_messages::response_payload::{LocateResponse, ResponsePayload};
+use kmip_messages::values::RevocationReasonCode;
+use kmip_ttlv_parts::Kept;
+use std::alloc::Allocator;
+
+/// The versions that the program speaks, the best first.
+const VERSIONS: [ProtocolVersion; 5] = [
+    ProtocolVersion { major: 1, minor: 4 },
+    ProtocolVersion { major: 1, minor: 3 },
+    ProtocolVersion { major: 1, minor: 2 },
+    ProtocolVersion { major: 1, minor: 1 },
+    ProtocolVersion { major: 1, minor: 0 },
+];
+
+fn query<C: Exchange<A>, A: Allocator + Copy>(
+    client: &mut Client<C, A>,
+) -> Result<Done<A>, Failure<A>>
+    ensures { Gives (Calls (C.Exchanges client.old.connection client.new.connection) (client.new.connection ≡ client.old.connection) client.old.version 24
+        RequestPayload.Query (IsQuery (record { number = 1 } ∷ record { number = 2 } ∷ record { number = 3 } ∷ [])) ResponsePayload.Query) Done.Query result }
+{
+    let functions = [
+        query_function::QUERY_OPERATIONS,
+        query_function::QUERY_OBJECTS,
+        query_function::QUERY_SERVER_INFORMATION,
+    ];
+    match client.query(&functions) {
+        Ok(found) => Ok(Done::Query(found)),
+        Err(failure) => Err(failure),
+    }
+}
+
+fn versions<C: Exchange<A>, A: Allocator + Copy>(
+    client: &mut Client<C, A>,
+) -> Result<Done<A>, Failure<A>>
+    ensures { Gives (Calls (C.Exchanges client.old.connection client.new.connection) (client.new.connection ≡ client.old.connection) client.old.version 30
+        RequestPayload.DiscoverVersions (IsDiscover []) ResponsePayload.DiscoverVersions) Done.Versions result }
+{
+    match client.discover_versions(&[]) {
+        Ok(found) => Ok(Done::Versions(found)),
+        Err(failure) => Err(failure),
+    }
+}
+
+fn create<C: Exchange<A>, A: Allocator + Copy>(
+    client: &mut Client<C, A>,
+    key: &NewKey<'_>,
+    length: i32,
+) -> Result<Done<A>, Failure<A>>
+    ensures { Gives (Calls (C.Exchanges client.old.connection client.new.connection) (client.new.connection ≡ client.old.connection) client.old.version 1
+        RequestPayload.Create (IsNewKey key.now length) ResponsePayload.Create) Done.Create result }
+{
+    let attributes = of_key(client.alloc, key.algorithm, length, key.usage, key.name)?;
+    match client.create(attributes) {
+        Ok(made) => Ok(Done::Create(made)),
+        Err(failure) => Err(failure),
+    }
+}
+
+fn register<C: Exchange<A>, A: Allocator + Copy>(
+    client: &mut Client<C, A>,
+    key: &NewKey<'_>,
+    bytes: &[u8],
+) -> Result<Done<A>, Failure<A>>
+    requires { length bytes.now ≤ 65_536 }
+    ensures { Gives (Calls (C.Exchanges client.old.connection client.new.connection) (client.new.connection ≡ client.old.connection) client.old.version 3
+        RequestPayload.Register (IsKeptKey key.now bytes.now) ResponsePayload.Register) Done.Register result }
+{
+    let length = (bytes.len() * 8) as i32;
+    let block = raw_key(client.alloc, key.algorithm, length, bytes)?;
+    let attributes = of_key(client.alloc, key.algorithm, length, key.usage, key.name)?;
+    match client.register(block, attributes) {
+        Ok(kept) => Ok(Done::Register(kept)),
+        Err(failure) => Err(failure),
+    }
+}
+
+// To find every object.
+fn every_object<A: Allocator + Copy>(alloc: A) -> LocateRequest<A>
+    ensures { IsLocateAll result }
+{
+    LocateRequest {
+        maximum_items: None,
+        offset_items: None,
+        storage_status_mask: None,
+        object_group_member: None,
+        attributes: Vec::new(alloc),
+        attributes_by_tag: None,
+        other_items: Kept::none(alloc),
+    }
+}
+
+// Every object that the server shows.
+fn locate_all<C: Exchange<A>, A: Allocator + Copy>(
+    client: &mut Client<C, A>,
+) -> Result<LocateResponse<A>, Failure<A>>
+    ensures { Calls (C.Exchanges client.old.connection client.new.connection) (client.new.connection ≡ client.old.connection) client.old.version 8
+        RequestPayload.Locate IsLocateAll ResponsePayload.Locate result }
+{
+    let asked = every_object(client.alloc);
+    match client.ask(operation::LOCATE, RequestPayload::Locate(asked)) {
+        Ok(ResponsePayload::Locate(found)) => Ok(found),
+        Ok(other) => Err(Failure::OtherPayload(Some(other))),
+        Err(failure) => Err(failure),
+    }
+}
+
+fn locate<C: Exchange<A>, A: Allocator + Copy>(
+    client: &mut Client<C, A>,
+    name: &str,
+) -> Result<Done<A>, Failure<A>>
+    ensures { Gives (Calls (C.Exchanges client.old.connection client.new.connection) (client.new.connection ≡ client.old.connection) client.old.version 8
+        RequestPayload.Locate (IsLocate name.now) ResponsePayload.Locate) Done.Locate result }
+{
+    match client.locate(name) {
+        Ok(found) => Ok(Done::Locate(found)),
+        Err(failure) => Err(failure),
+    }
+}
+
+fn locate_every<C: Exchange<A>, A: Allocator + Copy>(
+    client: &mut Client<C, A>,
+) -> Result<Done<A>, Failure<A>>
+    ensures { Gives (Calls (C.Exchanges client.old.connection client.new.connection) (client.new.connection ≡ client.old.connection) client.old.version 8
+        RequestPayload.Locate IsLocateAll ResponsePayload.Locate) Done.Locate result }
+{
+    match locate_all(client) {
+        Ok(found) => Ok(Done::Locate(found)),
+        Err(failure) => Err(failure),
+    }
+}
+
+fn get<C: Exchange<A>, A: Allocator + Copy>(
+    client: &mut Client<C, A>,
+    identifier: &str,
+) -> Result<Done<A>, Failure<A>>
+    ensures { Gives (Calls (C.Exchanges client.old.connection client.new.connection) (client.new.connection ≡ client.old.connection) client.old.version 10
+        RequestPayload.Get (IsGet identifier.now) ResponsePayload.Get) Done.Get result }
+{
+    match client.get(identifier) {
+        Ok(found) => Ok(Done::Get(found)),
+        Err(failure) => Err(failure),
+    }
+}
+
+fn attributes<C: Exchange<A>, A: Allocator + Copy>(
+    client: &mut Client<C, A>,
+    identifier: &str,
+    names: &[&str],
+) -> Result<Done<A>, Failure<A>>
+    ensures { Gives (Calls (C.Exchanges client.old.connection client.new.connection) (client.new.connection ≡ client.old.connection) client.old.version 11
+        RequestPayload.GetAttributes (IsGetAttributes identifier.now (map (λ t. t.now) names.now)) ResponsePayload.GetAttributes) Done.Attributes result }
+{
+    match client.get_attributes(identifier, names) {
+        Ok(found) => Ok(Done::Attributes(found)),
+        Err(failure) => Err(failure),
+    }
+}
+
+fn activate<C: Exchange<A>, A: Allocator + Copy>(
+    client: &mut Client<C, A>,
+    identifier: &str,
+) -> Result<Done<A>, Failure<A>>
+    ensures { Gives (Calls (C.Exchanges client.old.connection client.new.connection) (client.new.connection ≡ client.old.connection) client.old.version 18
+        RequestPayload.Activate (IsObject identifier.now) ResponsePayload.Activate) Done.Activate result }
+{
+    match client.activate(identifier) {
+        Ok(done) => Ok(Done::Activate(done)),
+        Err(failure) => Err(failure),
+    }
+}
+
+fn revoke<C: Exchange<A>, A: Allocator + Copy>(
+    client: &mut Client<C, A>,
+    identifier: &str,
+    reason: RevocationReasonCode,
+) -> Result<Done<A>, Failure<A>>
+    ensures { Gives (Calls (C.Exchanges client.old.connection client.new.connection) (client.new.connection ≡ client.old.connection) client.old.version 19
+        RequestPayload.Revoke (IsRevoke identifier.now reason.number) ResponsePayload.Revoke) Done.Revoke result }
+{
+    match client.revoke(identifier, reason) {
+        Ok(done) => Ok(Done::Revoke(done)),
+        Err(failure) => Err(failure),
+    }
+}
+
+fn destroy<C: Exchange<A>, A: Allocator + Copy>(
+    client: &mut Client<C, A>,
+    identifier: &str,
+) -> Result<Done<A>, Failure<A>>
+    ensures { Gives (Calls (C.Exchanges client.old.connection client.new.connection) (client.new.connection ≡ client.old.connection) client.old.version 20
+        RequestPayload.Destroy (IsObject identifier.now) ResponsePayload.Destroy) Done.Destroy result }
+{
+    match client.destroy(identifier) {
+        Ok(done) => Ok(Done::Destroy(done)),
+        Err(failure) => Err(failure),
+    }
+}
+
+/// Asks for one thing in the client's version: for what a command says, with these bytes, of at most 65,536, if they are to be kept
+/// as a key.
+pub fn ask<C: Exchange<A>, A: Allocator + Copy>(
+    client: &mut Client<C, A>,
+    asked: &Asked<'_>,
+    key: &[u8],
+) -> Result<Done<A>, Failure<A>>
+    requires { length key.now ≤ 65_536 }
+    ensures { Performs (C.Exchanges client.old.connection client.new.connection) (client.new.connection ≡ client.old.connection) client.old.version asked.now key.now result }
+{
+    match asked {
+        Asked::Query => query(client),
+        Asked::Versions => versions(client),
+        Asked::Create { key, length } => create(client, key, *length),
+        Asked::Register { key: new, .. } => register(client, new, key),
+        Asked::Locate(Some(name)) => locate(client, name),
+        Asked::Locate(None) => locate_every(client),
+        Asked::Get(identifier) => get(client, identifier),
+        Asked::Attributes { identifier, names } => {
+            attributes(client, identifier, names.as_slice())
+        }
+        Asked::Activate(identifier) => activate(client, identifier),
+        Asked::Revoke { identifier, reason } => revoke(client, identifier, *reason),
+        Asked::Destroy(identifier) => destroy(client, identifier),
+    }
+}
+
+// The same, in the best version that the client and the server have.
+fn ask_in_best<C: Exchange<A>, A: Allocator + Copy>(
+    client: &mut Client<C, A>,
+    asked: &Asked<'_>,
+    key: &[u8],
+) -> Result<Done<A>, Failure<A>>
+    requires { length key.now ≤ 65_536 }
+    ensures { Negotiates C.Exchanges client.old.connection client.new.connection client.old.version asked.now key.now result }
+{
+    match client.negotiate(&VERSIONS) {
+        Ok(_) => ask(client, asked, key),
+        Err(failure) => Err(failure),
+    }
+}
+
+/// Asks for what a request says, in its version, or else in the best that the program and the server have (KMIP 1.1, section 4.26); with
+/// these bytes, of at most 65,536, if they are to be kept as a key.
+pub fn converse<C: Exchange<A>, A: Allocator + Copy>(
+    client: &mut Client<C, A>,
+    request: &Request<'_>,
+    key: &[u8],
+) -> Result<Done<A>, Failure<A>>
+    requires { length key.now ≤ 65_536 }
+    ensures { Converses C.Exchanges client.old.connection client.new.connection request.now.version request.now.asked key.now result }
+{
+    match request.version {
+        Some(version) => {
+            client.version = version;
+            ask(client, &request.asked, key)
+        }
+        None => {
+            client.version = FIRST_ASKED;
+            ask_in_best(client, &request.asked, key)
+        }
+    }
+}
