@@ -1,6 +1,7 @@
 //! Asks a server for what a command is about.
 
-ghost use Rattle.std.specs.Prelude.{◌≡◌, ◌≤◌, [], ◌∷◌, Some, length, map};
+ghost use Rattle.std.specs.Prelude.{◌≡◌, ◌≤◌, ◌*◌, [], ◌∷◌, IfOk, Some, length, map, pos};
+ghost use Rattle.kmip_client.specs.Attributes.{AreOfKey};
 ghost use Rattle.kmip_client.specs.Calling.{Calls};
 ghost use Rattle.kmip_client.specs.Payloads.{IsDiscover, IsGet, IsGetAttributes, IsLocate, IsObject, IsQuery, IsRevoke};
 ghost use Rattle.kmip.specs.Commands.{Converses, Gives, IsKeptKey, IsLocateAll, IsNewKey, Negotiates, Performs};
@@ -12,12 +13,15 @@ use kmip_client::client::Client;
 use kmip_client::exchange::Exchange;
 use kmip_client::failure::Failure;
 use kmip_client::keys::raw_key;
+use kmip_messages::attribute::Attribute;
 use kmip_messages::header::{ProtocolVersion, operation};
 use kmip_messages::request_payload::{LocateRequest, RequestPayload, query_function};
-use kmip_messages::response_payload::{LocateResponse, ResponsePayload};
+use kmip_messages::response_payload::{
+    CreateResponse, LocateResponse, RegisterResponse, ResponsePayload,
+};
 use kmip_messages::values::RevocationReasonCode;
 use kmip_ttlv_parts::Kept;
-use std::alloc::Allocator;
+use std::alloc::{AllocError, Allocator};
 
 /// The versions that the program speaks, the best first.
 const VERSIONS: [ProtocolVersion; 5] = [
@@ -57,6 +61,34 @@ fn versions<C: Exchange<A>, A: Allocator + Copy>(
     }
 }
 
+// The attributes of a new key of so many bits.
+fn attributes_of<A: Allocator + Copy>(
+    alloc: A,
+    key: NewKey<'_>,
+    length: i32,
+) -> Result<Vec<Attribute<A>, A>, AllocError>
+    ensures { IfOk result (λ attributes. AreOfKey key.entry.algorithm length key.entry.usage key.entry.name.now attributes.items) }
+{
+    let attributes = of_key(alloc, key.algorithm, length, key.usage, key.name)?;
+    Ok(attributes)
+}
+
+// Has a key made.
+fn make<C: Exchange<A>, A: Allocator + Copy>(
+    client: &mut Client<C, A>,
+    key: &NewKey<'_>,
+    length: i32,
+) -> Result<CreateResponse<A>, Failure<A>>
+    ensures { Calls (C.Exchanges client.old.connection client.new.connection) (client.new.connection ≡ client.old.connection) client.old.version 1
+        RequestPayload.Create (IsNewKey key.now length) ResponsePayload.Create result }
+{
+    let attributes = attributes_of(client.alloc, *key, length)?;
+    match client.create(attributes) {
+        Ok(made) => Ok(made),
+        Err(failure) => Err(failure),
+    }
+}
+
 fn create<C: Exchange<A>, A: Allocator + Copy>(
     client: &mut Client<C, A>,
     key: &NewKey<'_>,
@@ -65,9 +97,35 @@ fn create<C: Exchange<A>, A: Allocator + Copy>(
     ensures { Gives (Calls (C.Exchanges client.old.connection client.new.connection) (client.new.connection ≡ client.old.connection) client.old.version 1
         RequestPayload.Create (IsNewKey key.now length) ResponsePayload.Create) Done.Create result }
 {
-    let attributes = of_key(client.alloc, key.algorithm, length, key.usage, key.name)?;
-    match client.create(attributes) {
+    match make(client, key, length) {
         Ok(made) => Ok(Done::Create(made)),
+        Err(failure) => Err(failure),
+    }
+}
+
+// How many bits these bytes are.
+fn bits(bytes: &[u8]) -> i32
+    requires { length bytes.now ≤ 65_536 }
+    ensures { result ≡ pos (8 * length bytes.now) }
+{
+    (8 * bytes.len()) as i32
+}
+
+// Has a key kept.
+fn keep<C: Exchange<A>, A: Allocator + Copy>(
+    client: &mut Client<C, A>,
+    key: &NewKey<'_>,
+    bytes: &[u8],
+) -> Result<RegisterResponse<A>, Failure<A>>
+    requires { length bytes.now ≤ 65_536 }
+    ensures { Calls (C.Exchanges client.old.connection client.new.connection) (client.new.connection ≡ client.old.connection) client.old.version 3
+        RequestPayload.Register (IsKeptKey key.now bytes.now) ResponsePayload.Register result }
+{
+    let length = bits(bytes);
+    let block = raw_key(client.alloc, key.algorithm, length, bytes)?;
+    let attributes = attributes_of(client.alloc, *key, length)?;
+    match client.register(block, attributes) {
+        Ok(kept) => Ok(kept),
         Err(failure) => Err(failure),
     }
 }
@@ -81,10 +139,7 @@ fn register<C: Exchange<A>, A: Allocator + Copy>(
     ensures { Gives (Calls (C.Exchanges client.old.connection client.new.connection) (client.new.connection ≡ client.old.connection) client.old.version 3
         RequestPayload.Register (IsKeptKey key.now bytes.now) ResponsePayload.Register) Done.Register result }
 {
-    let length = (bytes.len() * 8) as i32;
-    let block = raw_key(client.alloc, key.algorithm, length, bytes)?;
-    let attributes = of_key(client.alloc, key.algorithm, length, key.usage, key.name)?;
-    match client.register(block, attributes) {
+    match keep(client, key, bytes) {
         Ok(kept) => Ok(Done::Register(kept)),
         Err(failure) => Err(failure),
     }
@@ -114,8 +169,10 @@ fn locate_all<C: Exchange<A>, A: Allocator + Copy>(
 {
     let asked = every_object(client.alloc);
     match client.ask(operation::LOCATE, RequestPayload::Locate(asked)) {
-        Ok(ResponsePayload::Locate(found)) => Ok(found),
-        Ok(other) => Err(Failure::OtherPayload(Some(other))),
+        Ok(payload) => match payload {
+            ResponsePayload::Locate(found) => Ok(found),
+            other => Err(Failure::OtherPayload(Some(other))),
+        },
         Err(failure) => Err(failure),
     }
 }

@@ -1,17 +1,17 @@
 use Rattle.std.proofs.Common.{inl, inr, refl, rules}
-use Rattle.kmip_client.proofs.Asked.{called}
+use Rattle.kmip.proofs.Widening.{called}
 use Rattle.kmip.proofs.asking.locate_all.Goals as goal
 
-pub returns-in-Ok-Locate : goal.returns-in-Ok-Locate
-returns-in-Ok-Locate g c = called c.every_object.result c.every_object.ensures c.in-Ok-Locate.ensures.asks c.in-Ok-Locate.field-0-is
+pub returns-in-Locate : goal.returns-in-Locate
+returns-in-Locate g c = called c.every_object-asked.result c.every_object-asked.ensures c.in-Ok.ensures.asks c.in-Locate.is
 
 pub returns-in-Err : goal.returns-in-Err
-returns-in-Err g c = inl (record { asked = c.every_object.result; is_asked = c.every_object.ensures; asks = c.in-Err.ensures.asks })
+returns-in-Err g c = inl (record { asked = c.every_object-asked.result; is_asked = c.every_object-asked.ensures; asks = c.in-Err.ensures.asks })
 
-pub returns-in-Ok : goal.returns-in-Ok
-returns-in-Ok g c = inr (inl (record {
-  payload = c.in-Ok.other;
-  came = record { asked = c.every_object.result; is_asked = c.every_object.ensures; asks = c.in-Ok.ensures.asks };
+pub returns-in_default : goal.returns-in_default
+returns-in_default g c = inr (inl (record {
+  payload = c.in-Ok.payload;
+  came = record { asked = c.every_object-asked.result; is_asked = c.every_object-asked.ensures; asks = c.in-Ok.ensures.asks };
   is_other = search rules;
   failure = refl;
 }))
