@@ -12,9 +12,12 @@ use Rattle.kmip_attribute_set.proofs.Naming.{all_named, at_first, one_named}
 use Rattle.kmip_attribute_set.proofs.items.raw.Goals as goal
 
 pub items-init : goal.items-init
-items-init g c =
-    (suc (length c.as_bytes-bytes.result.now), (λ vs. vs), all_front _,
-    λ w e. at_first (value_under (structure_under w)) c.new-list.result.items c.new-list.ensures.items)
+items-init g c = (
+  suc (length c.as_bytes-bytes.result.now),
+  (λ vs. vs),
+  all_front _,
+  λ w e. at_first (value_under (structure_under w)) c.new-list.result.items c.new-list.ensures.items,
+)
 
 pub item_there-requires : goal.item_there-requires
 item_there-requires g c =
