@@ -1,3 +1,4 @@
+mod Copying
 mod Levels
 mod Naming
 mod Reading

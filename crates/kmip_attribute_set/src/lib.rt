@@ -3,12 +3,12 @@
 //! `attributes` has the type, which `codegen/codegen` writes of `types.table`; `building` puts attributes together, and `looking` says
 //! what they say. `tags` makes items under their own tags of them, and back, by `items`; `references` names attributes by tags, and `names` knows which
 //! name has which tag.
-//! `copies` reads a structure of what a value is encoded as.
+//! `copies` reads a structure of what a value is encoded as, and so copies any.
 #![tactic(auto)]
 
 pub mod attributes;
 pub mod building;
-mod copies;
+pub mod copies;
 mod items;
 pub mod looking;
 pub mod names;

@@ -2,7 +2,7 @@
 
 use crate::attributes::Attributes;
 use crate::building::of_key;
-use crate::copies::read_alone;
+use crate::copies::{copy, read_alone};
 use crate::references::{names_of, references};
 use crate::tags::Tagged;
 use kmip_attributes::attribute::AttributeValue;
@@ -141,10 +141,25 @@ fn attributes_are_referred_to(rt: HostRuntime) -> Result<(), Fail> {
     Ok(())
 }
 
-// Attributes by tags and back, with memory of this allocator.
+#[test]
+fn structures_are_copied(rt: HostRuntime) -> Result<(), Fail> {
+    let alloc = rt.alloc();
+    let (built, others) = (key(alloc)?, items(alloc, OTHERS)?);
+    match (copy(alloc, &built)?, copy(alloc, &others)?) {
+        (Some(same), Some(kept)) => {
+            assert!(rt; same == built);
+            assert!(rt; kept == others);
+        }
+        _ => assert!(rt; false),
+    }
+    Ok(())
+}
+
+// Attributes by tags and back, and a copy, with memory of this allocator.
 fn there_and_back<A: Allocator + Copy>(alloc: A) -> Result<(), Error<A>> {
     let attributes = key(alloc)?;
-    let _back = Attributes::from_tags(alloc, &attributes.to_tags(alloc)?)?;
+    let back = Attributes::from_tags(alloc, &attributes.to_tags(alloc)?)?;
+    let _same = copy(alloc, &back)?;
     Ok(())
 }
 
