@@ -220,9 +220,10 @@ kmip_ttlv_status kmip_ttlv_from_diag(const uint8_t *diagnostic, size_t diagnosti
 kmip_ttlv_status kmip_ttlv_to_json(const uint8_t *bytes, size_t bytes_len, uint32_t redact, uint8_t *out, size_t room,
                                    size_t *length, kmip_ttlv_fault *fault);
 
-/* Writes the canonical bytes of the message whose JSON a text is, in the forms that kmip_ttlv_to_json writes. White space around
- * tokens, members in any order and digits of either case are read too; of a member that stands twice the last counts. It takes up to
- * two and a half times the text's length of memory.
+/* Writes the canonical bytes of the message whose JSON a text is, in any form of OASIS's encoding: in digits, as
+ * kmip_ttlv_to_json writes, or with names and numbers. White space around tokens, members in any order and digits of either case are
+ * read too; of a member that stands twice the last counts. It takes up to two and a half times the text's length of memory, and that
+ * of the tables of names where there is a name.
  *
  * MALFORMED: it is the JSON of none; `fault->kind` is NOT_JSON, TOO_DEEP, or what is wrong with the first wrong item, and `fault->offset`
  * where that is, in bytes from the text's first. With any other status its kind is KMIP_TTLV_WHOLE. NOT_UTF8: the text. NO_ROOM: `out`.

@@ -12,7 +12,7 @@ use Rattle.serde_json.specs.Read.{of_json, of_items, of_members, converted}
 use Rattle.kmip_ttlv_types.specs.Trees.{Tree, no_trees, bytes, bytes_below, IsStructure, Fits}
 use Rattle.kmip_ttlv_json.specs.declared.failure.{BadItem.BadItem, BadMember.BadMember}
 use Rattle.kmip_ttlv_json.specs.declared.seen.Seen.{Seen}
-use Rattle.kmip_ttlv_json.specs.declared.seen.Seen.TheVariants.{Text, Truth, Items as SeenItems, Item as SeenItem, Other}
+use Rattle.kmip_ttlv_json.specs.declared.seen.Seen.TheVariants.{Text, Truth, Items as SeenItems, Item as SeenItem, Number, Null}
 use Rattle.kmip_ttlv_json.specs.declared.members.Members.{Members as SeenMembers}
 use Rattle.kmip_ttlv_json.specs.declared.read.Stop.{Stop}
 use Rattle.kmip_ttlv_json.specs.declared.read.Stop.TheVariants.{NotJson, NoMemory}
@@ -39,7 +39,8 @@ same_item at (SeenItem r) = refl
 same_item at (SeenItems r) = refl
 same_item at (Text s) = refl
 same_item at (Truth b) = refl
-same_item at Other = refl
+same_item at (Number w) = refl
+same_item at Null = refl
 
 same_both : (items : Result (Unit {0}) BadItem) (one : Result Bool BadItem) → unplaced (both_at items one) ≡ both_seen (unplaced items) (unplaced one)
 same_both (Ok done) (Ok structure) = refl
@@ -239,7 +240,7 @@ module _ (depth : ℕ) (tokens rest : List Token) (old : List ℕ) where
     parsed = opened ∙ ap (parse_map array) h.parsed;
     added = h.added;
     all = h.all;
-    is = record { text = refl; truth = refl; below = h.are; item = refl; array = refl };
+    is = record { text = refl; truth = refl; whole = refl; below = h.are; item = refl; array = refl };
   }
 
   pub object_read : (inner : ℕ) (s : List Token) (new : List ℕ) (r : Result Bool BadItem)
@@ -250,7 +251,7 @@ module _ (depth : ℕ) (tokens rest : List Token) (old : List ℕ) where
     parsed = opened ∙ ap (parse_map object) h.parsed;
     added = h.adds.added;
     all = h.adds.all;
-    is = record { text = refl; truth = refl; below = refl; item = h.adds.is; array = refl };
+    is = record { text = refl; truth = refl; whole = refl; below = refl; item = h.adds.is; array = refl };
   }
 
 pub array_opened : (depth : ℕ) (tokens s : List Token) → tokens ≡ begin_array ∷ s → 0 < depth

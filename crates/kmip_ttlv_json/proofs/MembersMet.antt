@@ -16,12 +16,14 @@ use Rattle.kmip_ttlv_types.specs.Trees.{Trees, node, bytes, node_bytes, bytes_be
 use Rattle.kmip_ttlv_json.specs.declared.failure.BadMember.{BadMember}
 use Rattle.kmip_ttlv_json.specs.declared.failure.BadMember.TheVariants.{Members as BadMembers, Tag, Typ}
 use Rattle.kmip_ttlv_json.specs.declared.seen.Seen.{Seen}
-use Rattle.kmip_ttlv_json.specs.declared.seen.Seen.TheVariants.{Text, Truth, Items as SeenItems, Item as SeenItem, Other}
+use Rattle.kmip_ttlv_json.specs.declared.seen.Seen.TheVariants.{Text, Truth, Items as SeenItems, Item as SeenItem, Number, Null}
 use Rattle.kmip_ttlv_json.specs.declared.failure.BadItem.{BadItem}
 use Rattle.kmip_ttlv_json.specs.Spots.{is_open, is_tagged_open, is_typed_open, IsEndPlaced}
 use Rattle.kmip_ttlv_json.specs.declared.members.Members.{Members as SeenMembers}
-use Rattle.kmip_ttlv_json.specs.JsonTrees.{tag_in, tag_of_text, type_of_text, content_of, leaf_in, leaf_of, node_of, typed_in, tagged_in, tree_of, below_of}
-use Rattle.kmip_ttlv_json.specs.Events.{text_in, truth_in, items_in, items_at, is_items, placed, unplaced, room, AddsItem, AreSeen, IsItem, IsSeen}
+use Rattle.kmip_ttlv_json.specs.JsonTrees.{tag_in, tag_of_text, type_in, type_of_text, whole_of_data, content_of}
+use Rattle.kmip_ttlv_json.specs.JsonTrees.{leaf_in, leaf_of, node_of, typed_in, tagged_in, tree_of, below_of}
+use Rattle.kmip_ttlv_json.specs.Events.{text_in, truth_in, whole_in, type_met, items_in, items_at, is_items}
+use Rattle.kmip_ttlv_json.specs.Events.{placed, unplaced, room, AddsItem, AreSeen, IsItem, IsSeen}
 use Rattle.kmip_ttlv_json.specs.Events.{is_other, has_other, three, HasText, HasValue, AreThree}
 use Rattle.kmip_ttlv_json.specs.Events.{AreMet, Meets}
 
@@ -76,24 +78,39 @@ named_none true true true a2 a3 false b3 true c2 x y h = absurd (cc)
 named_none true true true a2 a3 false b3 false true x y h = absurd (cc)
 named_none true true true a2 a3 false b3 false false x y h = absurd (cc)
 
+-- of two members likewise
+two_none : {A : Type 0} (a b a2 a3 b1 b2 : Bool) (x y : A) → (not (a || (a2 || a3)) || (not (b1 || (b2 || b)) || false)) ≡ true
+    → (if a && b then x else y) ≡ y
+two_none false b a2 a3 b1 b2 x y h = refl
+two_none true false a2 a3 b1 b2 x y h = refl
+two_none true true a2 a3 true b2 x y h = absurd (cc)
+two_none true true a2 a3 false true x y h = absurd (cc)
+two_none true true a2 a3 false false x y h = absurd (cc)
+
 -- an object with another member is no item
 other_none : (ms : Members) → has_other ms ≡ true → tree_of (object ms) ≡ Err BadMembers
 other_none no_members h = refl
 other_none (member a d no_members) h = refl
-other_none (member a d (member b e no_members)) h = refl
+other_none (member a d (member c f no_members)) h =
+    two_none (bytes_eq a (codes "tag")) (bytes_eq c (codes "value")) (bytes_eq a (codes "type")) (bytes_eq a (codes "value"))
+    (bytes_eq c (codes "tag")) (bytes_eq c (codes "type")) (tagged_in (tag_in d) (Some Structure) f (below_of f)) (Err BadMembers) h
 other_none (member a d (member b e (member c f no_members))) h =
     named_none (bytes_eq a (codes "tag")) (bytes_eq b (codes "type")) (bytes_eq c (codes "value")) (bytes_eq a (codes "type")) (bytes_eq a (codes "value"))
-    (bytes_eq b (codes "tag")) (bytes_eq b (codes "value")) (bytes_eq c (codes "tag")) (bytes_eq c (codes "type")) (tagged_in (tag_in d) e f (below_of f))
+    (bytes_eq b (codes "tag")) (bytes_eq b (codes "value")) (bytes_eq c (codes "tag")) (bytes_eq c (codes "type"))
+    (tagged_in (tag_in d) (type_in e) f (below_of f))
     (Err BadMembers) h
 other_none (member a d (member b e (member c f (member k g ms)))) h = refl
 
 other_closed : (ms : Members) → has_other ms ≡ true → is_open (object ms) ≡ false
 other_closed no_members h = refl
 other_closed (member a d no_members) h = refl
-other_closed (member a d (member b e no_members)) h = refl
+other_closed (member a d (member c f no_members)) h =
+    two_none (bytes_eq a (codes "tag")) (bytes_eq c (codes "value")) (bytes_eq a (codes "type")) (bytes_eq a (codes "value"))
+    (bytes_eq c (codes "tag")) (bytes_eq c (codes "type")) (is_tagged_open (tag_in d) (Some Structure) f) false h
 other_closed (member a d (member b e (member c f no_members))) h =
     named_none (bytes_eq a (codes "tag")) (bytes_eq b (codes "type")) (bytes_eq c (codes "value")) (bytes_eq a (codes "type")) (bytes_eq a (codes "value"))
-    (bytes_eq b (codes "tag")) (bytes_eq b (codes "value")) (bytes_eq c (codes "tag")) (bytes_eq c (codes "type")) (is_tagged_open (tag_in d) e f) false h
+    (bytes_eq b (codes "tag")) (bytes_eq b (codes "value")) (bytes_eq c (codes "tag")) (bytes_eq c (codes "type"))
+    (is_tagged_open (tag_in d) (type_in e) f) false h
 other_closed (member a d (member b e (member c f (member k g ms)))) h = refl
 
 -- ---- members of an item
@@ -148,10 +165,10 @@ module _ (json : Members) (met : SeenMembers) (d : Data) (seen : Seen) where
     has_value = m.has_value;
   }
 
-  type_met : (others : Bool) (added : List ℕ) → as_str d ≡ text_in seen → AreMet others json met added
+  typ_met : (others : Bool) (added : List ℕ) → as_str d ≡ text_in seen → AreMet others json met added
       → AreMet others (put (codes "type") d json) (now_type met seen) added
-  type_met true added is m = other_stays (codes "type") d json m
-  type_met false added is m = record {
+  typ_met true added is m = other_stays (codes "type") d json m
+  typ_met false added is m = record {
     tag = m.tag;
     typ = Some d;
     value = m.value;
@@ -189,7 +206,7 @@ module _ (name : List ℕ) (met : SeenMembers) (d : Data) (seen : Seen) (json : 
   meets_type e is same = record {
     added = m.added;
     all = same ∙ m.all;
-    are = subst (λ k. AreMet met.others (put k d json) (now_type met seen) m.added) (sym e) (type_met json met d seen met.others m.added is m.are);
+    are = subst (λ k. AreMet met.others (put k d json) (now_type met seen) m.added) (sym e) (typ_met json met d seen met.others m.added is m.are);
   }
 
   pub meets_value : name ≡ codes "value" → (more : List ℕ) → IsSeen seen d more → new ≡ take (length front) old ++ more
@@ -238,12 +255,6 @@ lacks_tag None (Some z) = (refl, refl)
 lacks_tag (Some y) None = (refl, refl)
 lacks_tag (Some y) (Some z) = (refl, refl)
 
-lacks_type : (a c : Option Data) → (tree_of (object (three a None c)) ≡ Err BadMembers) × (is_open (object (three a None c)) ≡ false)
-lacks_type None None = (refl, refl)
-lacks_type None (Some z) = (refl, refl)
-lacks_type (Some x) None = (refl, refl)
-lacks_type (Some x) (Some z) = (refl, refl)
-
 lacks_value : (a b : Option Data) → (tree_of (object (three a b None)) ≡ Err BadMembers) × (is_open (object (three a b None)) ≡ false)
 lacks_value None None = (refl, refl)
 lacks_value None (Some y) = (refl, refl)
@@ -274,11 +285,6 @@ module _ (json : Members) (met : SeenMembers) (front out : List ℕ) (m : Meets 
         let t = are_three in
         subst IsWrong (sym (t.are ∙ ap (λ a. three a t.typ t.value) (text_lacks t.tag met.tag t.has_tag e))) (lacks_tag t.typ t.value)
 
-    lacking_type : met.typ ≡ None → IsWrong json
-    lacking_type e =
-        let t = are_three in
-        subst IsWrong (sym (t.are ∙ ap (λ b. three t.tag b t.value) (text_lacks t.typ met.typ t.has_type e))) (lacks_type t.tag t.value)
-
     lacking_value : met.value ≡ None → IsWrong json
     lacking_value e =
         let t = are_three in
@@ -287,17 +293,11 @@ module _ (json : Members) (met : SeenMembers) (front out : List ℕ) (m : Meets 
     pub has_no_tag : met.tag ≡ None → tree_of (object json) ≡ Err BadMembers
     has_no_tag e = (lacking_tag e).0
 
-    pub has_no_type : met.typ ≡ None → tree_of (object json) ≡ Err BadMembers
-    has_no_type e = (lacking_type e).0
-
     pub has_no_value : met.value ≡ None → tree_of (object json) ≡ Err BadMembers
     has_no_value e = (lacking_value e).0
 
     pub no_tag_closed : met.tag ≡ None → is_open (object json) ≡ false
     no_tag_closed e = (lacking_tag e).1
-
-    pub no_type_closed : met.typ ≡ None → is_open (object json) ≡ false
-    no_type_closed e = (lacking_type e).1
 
     pub no_value_closed : met.value ≡ None → is_open (object json) ≡ false
     no_value_closed e = (lacking_value e).1
@@ -310,38 +310,58 @@ module _ (json : Members) (met : SeenMembers) (front out : List ℕ) (m : Meets 
         let b = subst (λ r. AreSeen (below_of v.0) r m.added) ok v.2.below in
         omega (arith, ap length m.all, length-append front m.added, ap length b.2, length-append room (bytes_below b.0))
 
+-- the type of an item, where a member gives it, and else that of a Structure
+abbrev type_given : Option Data → Option TtlvType
+type_given None = Some Structure
+type_given (Some d) = type_in d
+
+type_there : (b : Option Data) (o : Option Seen) → HasText b o → type_given b ≡ type_met o
+type_there None None h = refl
+type_there None (Some t) h = absurd h
+type_there (Some d) None h = absurd h
+type_there (Some d) (Some t) h = ap type_of_text h
+
 -- the members that make an item
-record Complete (json : Members) (tag typ value : Seen) (added : List ℕ) : Type 0 where
+record Complete (json : Members) (tag : Seen) (typ : Option Seen) (value : Seen) (added : List ℕ) : Type 0 where
   a : Data
-  b : Data
+  b : Option Data
   c : Data
-  is : json ≡ three (Some a) (Some b) (Some c)
+  is : json ≡ three (Some a) b (Some c)
   tag_text : as_str a ≡ text_in tag
-  type_text : as_str b ≡ text_in typ
+  type_is : type_given b ≡ type_met typ
   seen : IsSeen value c added
 
-complete : (json : Members) (met : SeenMembers) (added : List ℕ) (tag typ value : Seen) → AreThree json met added → met.tag ≡ Some tag
-    → met.typ ≡ Some typ → met.value ≡ Some value → Complete json tag typ value added
-complete json met added tag typ value m e f g =
+complete : (json : Members) (met : SeenMembers) (added : List ℕ) (tag value : Seen) → AreThree json met added → met.tag ≡ Some tag
+    → met.value ≡ Some value → Complete json tag met.typ value added
+complete json met added tag value m e g =
     let x = text_there m.tag met.tag tag m.has_tag e in
-    let y = text_there m.typ met.typ typ m.has_type f in
     let z = value_there added m.value met.value value m.has_value g in
     record {
       a = x.0;
-      b = y.0;
+      b = m.typ;
       c = z.0;
-      is = m.are ∙ ap (λ o. three o m.typ m.value) x.1 ∙ ap (λ o. three (Some x.0) o m.value) y.1 ∙ ap (λ o. three (Some x.0) (Some y.0) o) z.1;
+      is = m.are ∙ ap (λ o. three o m.typ m.value) x.1 ∙ ap (λ o. three (Some x.0) m.typ o) z.1;
       tag_text = x.2;
-      type_text = y.2;
+      type_is = type_there m.typ met.typ m.has_type;
       seen = z.2;
     }
+
+-- what they make
+item_of : (a : Data) (b : Option Data) (c : Data) → tree_of (object (three (Some a) b (Some c))) ≡ tagged_in (tag_in a) (type_given b) c (below_of c)
+item_of a None c = refl
+item_of a (Some b) c = refl
+
+open_of : (a : Data) (b : Option Data) (c : Data) → is_open (object (three (Some a) b (Some c))) ≡ is_tagged_open (tag_in a) (type_given b) c
+open_of a None c = refl
+open_of a (Some b) c = refl
 
 pub items_plain : (at : ℕ) (seen : Seen) → items_in seen ≡ unplaced (items_at at seen)
 items_plain at (SeenItems r) = refl
 items_plain at (SeenItem r) = refl
 items_plain at (Text s) = refl
 items_plain at (Truth b) = refl
-items_plain at Other = refl
+items_plain at (Number w) = refl
+items_plain at Null = refl
 
 -- what is wrong with a leaf, with its place and without
 pub placed_plain : (at : ℕ) (r : Result Bool BadMember) → unplaced (placed at r) ≡ r
@@ -362,19 +382,20 @@ place_in (Ok a) = 0
 place_in (Err bad) = bad.at
 
 module _ (json : Members) (met : SeenMembers) (front out : List ℕ) (m : Meets json met front out) (only : met.others ≡ false)
-    (tag typ value : Seen) (has_tag : met.tag ≡ Some tag) (has_type : met.typ ≡ Some typ) (has_value : met.value ≡ Some value) where
-  all : Complete json tag typ value m.added
-  all = complete json met m.added tag typ value (are_three json met front out m only) has_tag has_type has_value
+    (tag value : Seen) (has_tag : met.tag ≡ Some tag) (has_value : met.value ≡ Some value) where
+  all : Complete json tag met.typ value m.added
+  all = complete json met m.added tag value (are_three json met front out m only) has_tag has_value
 
-  tagged : (o : Option ℕ) → tag_of_text (text_in tag) ≡ o → tree_of (object json) ≡ tagged_in o all.b all.c (below_of all.c)
+  tagged : (o : Option ℕ) → tag_of_text (text_in tag) ≡ o → tree_of (object json) ≡ tagged_in o (type_met met.typ) all.c (below_of all.c)
   tagged o e =
-      ap (λ ms. tree_of (object ms)) all.is ∙ ap (λ s. tagged_in (tag_of_text s) all.b all.c (below_of all.c)) all.tag_text
-      ∙ ap (λ t. tagged_in t all.b all.c (below_of all.c)) e
+      ap (λ ms. tree_of (object ms)) all.is ∙ item_of all.a all.b all.c
+      ∙ ap (λ s. tagged_in (tag_of_text s) (type_given all.b) all.c (below_of all.c)) all.tag_text
+      ∙ ap (λ t. tagged_in t (type_given all.b) all.c (below_of all.c)) e ∙ ap (λ k. tagged_in o k all.c (below_of all.c)) all.type_is
 
-  open_as : (o : Option ℕ) → tag_of_text (text_in tag) ≡ o → is_open (object json) ≡ is_tagged_open o all.b all.c
+  open_as : (o : Option ℕ) → tag_of_text (text_in tag) ≡ o → is_open (object json) ≡ is_tagged_open o (type_met met.typ) all.c
   open_as o e =
-      ap (λ ms. is_open (object ms)) all.is ∙ ap (λ s. is_tagged_open (tag_of_text s) all.b all.c) all.tag_text
-      ∙ ap (λ t. is_tagged_open t all.b all.c) e
+      ap (λ ms. is_open (object ms)) all.is ∙ open_of all.a all.b all.c ∙ ap (λ s. is_tagged_open (tag_of_text s) (type_given all.b) all.c) all.tag_text
+      ∙ ap (λ t. is_tagged_open t (type_given all.b) all.c) e ∙ ap (λ k. is_tagged_open o k all.c) all.type_is
 
   pub bad_tag : tag_of_text (text_in tag) ≡ None → tree_of (object json) ≡ Err Tag
   bad_tag e = tagged None e
@@ -383,23 +404,20 @@ module _ (json : Members) (met : SeenMembers) (front out : List ℕ) (m : Meets 
   bad_tag_closed e = open_as None e
 
   module _ (t : ℕ) (tag_is : tag_of_text (text_in tag) ≡ Some t) where
-    typed : (p : Option TtlvType) → type_of_text (text_in typ) ≡ p → tree_of (object json) ≡ typed_in t p all.c (below_of all.c)
-    typed p e =
-        tagged (Some t) tag_is ∙ ap (λ s. typed_in t (type_of_text s) all.c (below_of all.c)) all.type_text
-        ∙ ap (λ k. typed_in t k all.c (below_of all.c)) e
+    typed : (p : Option TtlvType) → type_met met.typ ≡ p → tree_of (object json) ≡ typed_in t p all.c (below_of all.c)
+    typed p e = tagged (Some t) tag_is ∙ ap (λ k. typed_in t k all.c (below_of all.c)) e
 
-    open_typed : (p : Option TtlvType) → type_of_text (text_in typ) ≡ p → is_open (object json) ≡ is_typed_open p all.c
-    open_typed p e =
-        open_as (Some t) tag_is ∙ ap (λ s. is_typed_open (type_of_text s) all.c) all.type_text ∙ ap (λ k. is_typed_open k all.c) e
+    open_typed : (p : Option TtlvType) → type_met met.typ ≡ p → is_open (object json) ≡ is_typed_open p all.c
+    open_typed p e = open_as (Some t) tag_is ∙ ap (λ k. is_typed_open k all.c) e
 
-    pub bad_type : type_of_text (text_in typ) ≡ None → tree_of (object json) ≡ Err Typ
+    pub bad_type : type_met met.typ ≡ None → tree_of (object json) ≡ Err Typ
     bad_type e = typed None e
 
-    pub bad_type_closed : type_of_text (text_in typ) ≡ None → is_open (object json) ≡ false
+    pub bad_type_closed : type_met met.typ ≡ None → is_open (object json) ≡ false
     bad_type_closed e = open_typed None e
 
     -- a leaf is wrong itself
-    pub leaf_placed : (at : ℕ) (k : TtlvType) → k ≢ Structure → type_of_text (text_in typ) ≡ Some k → (r : Result Bool BadMember)
+    pub leaf_placed : (at : ℕ) (k : TtlvType) → k ≢ Structure → type_met met.typ ≡ Some k → (r : Result Bool BadMember)
         → IsEndPlaced at met.value (object json) (placed at r)
     leaf_placed at k ne e (Ok structure) = tt
     leaf_placed at k ne e (Err why) = inl (refl, open_typed (Some k) e ∙ closed_leaf k all.c ne)
@@ -412,9 +430,10 @@ module _ (json : Members) (met : SeenMembers) (front out : List ℕ) (m : Meets 
     value_is at (SeenItem r) bad e is there = inl (sym (ap place_in e), is)
     value_is at (Text s) bad e is there = inl (sym (ap place_in e), is)
     value_is at (Truth b) bad e is there = inl (sym (ap place_in e), is)
-    value_is at Other bad e is there = inl (sym (ap place_in e), is)
+    value_is at (Number w) bad e is there = inl (sym (ap place_in e), is)
+    value_is at Null bad e is there = inl (sym (ap place_in e), is)
 
-    pub structure_placed : (at : ℕ) → type_of_text (text_in typ) ≡ Some Structure → (r : Result Bool BadItem)
+    pub structure_placed : (at : ℕ) → type_met met.typ ≡ Some Structure → (r : Result Bool BadItem)
         → (Q : Type 0) → IfErr r (λ bad. (items_at at value ≡ Err bad) × Q) → IsEndPlaced at met.value (object json) r
     structure_placed at e (Ok structure) Q err = tt
     structure_placed at e (Err bad) Q err = value_is at value bad err.0 (open_typed (Some Structure) e ∙ all.seen.array) has_value
@@ -450,7 +469,7 @@ module _ (json : Members) (met : SeenMembers) (front out : List ℕ) (m : Meets 
           let b = subst (λ i. AreSeen below i m.added) err.0 seen in
           record { added = m.added; all = err.1 ∙ m.all; is = is ∙ ap (node_of t) b }
 
-      pub structure_ends : (at : ℕ) (r : Result Bool BadItem) → type_of_text (text_in typ) ≡ Some Structure
+      pub structure_ends : (at : ℕ) (r : Result Bool BadItem) → type_met met.typ ≡ Some Structure
           → IfOk r (λ structure. (structure ≡ true) × (items_at at value ≡ Ok tt)
           × (new ≡ take top out ++ (header t Structure (length out - (top + 8)) ++ drop (top + 8) out)))
           → IfErr r (λ bad. (items_at at value ≡ Err bad) × (new ≡ out)) → AddsItem (tree_of (object json)) front new (unplaced r)
@@ -461,13 +480,16 @@ module _ (json : Members) (met : SeenMembers) (front out : List ℕ) (m : Meets 
           structure_item (Err bad.bad) (below_of all.c) (items_in value) (typed (Some Structure) e) all.seen.below tt
           (items_plain at value ∙ ap unplaced err.0, err.1)
 
-      pub leaf_ends : (k : TtlvType) → k ≢ Structure → type_of_text (text_in typ) ≡ Some k → (r : Result Bool BadMember)
-          → AddsItem (leaf_of t k (content_of k (text_in value) (truth_in value))) (take top out) new r → AddsItem (tree_of (object json)) front new r
+      pub leaf_ends : (k : TtlvType) → k ≢ Structure → type_met met.typ ≡ Some k → (r : Result Bool BadMember)
+          → AddsItem (leaf_of t k (content_of t k (text_in value) (truth_in value) (whole_in value))) (take top out) new r
+          → AddsItem (tree_of (object json)) front new r
       leaf_ends k ne e r h =
           let start : take top out ≡ front = ap (take top) m.all ∙ take_at front m.added top top_is in
-          let is : tree_of (object json) ≡ leaf_of t k (content_of k (text_in value) (truth_in value)) =
-          typed (Some k) e ∙ typed_leaf t k all.c (below_of all.c) ne ∙ ap (λ s. leaf_of t k (content_of k s (as_bool all.c))) all.seen.text
-          ∙ ap (λ b. leaf_of t k (content_of k (text_in value) b)) all.seen.truth in
+          let is : tree_of (object json) ≡ leaf_of t k (content_of t k (text_in value) (truth_in value) (whole_in value)) =
+          typed (Some k) e ∙ typed_leaf t k all.c (below_of all.c) ne
+          ∙ ap (λ s. leaf_of t k (content_of t k s (as_bool all.c) (whole_of_data all.c))) all.seen.text
+          ∙ ap (λ b. leaf_of t k (content_of t k (text_in value) b (whole_of_data all.c))) all.seen.truth
+          ∙ ap (λ w. leaf_of t k (content_of t k (text_in value) (truth_in value) w)) all.seen.whole in
           record {
             added = h.added;
             all = h.all ∙ ap (λ (s : List ℕ). s ++ h.added) start;

@@ -42,7 +42,7 @@ type_returns Structure = refl
 type_returns typ = refl
 
 item_returns : (tag : ℕ) (typ : TtlvType) (v : Data) → tag < 2 ^ 24 → tree_of (item_json tag typ v) ≡ typed_in tag (Some typ) v (below_of v)
-item_returns tag typ v lt = ap (λ o. tagged_in o (string (type_word typ)) v (below_of v)) (tag_returns tag lt)
+item_returns tag typ v lt = ap (λ o. tagged_in o (type_in (string (type_word typ))) v (below_of v)) (tag_returns tag lt)
     ∙ ap (λ o. typed_in tag o v (below_of v)) (type_returns typ)
 
 number_bit : (n : ℕ) → n < 2 → (if nat_lt 0 n then 1 else 0) ≡ n
@@ -54,17 +54,17 @@ boolean_returns content good plain =
     ap (to_be_bytes w64) (number_bit (from_be_bytes w64 content) (ltb-true _ 2 k.1))
     ∙ be_bytes_8 content (from_be_bytes w64 content) (eqb-true (length content) 8 k.0) plain refl
 
-content_returns : (typ : TtlvType) (content : List ℕ) → is_valid typ content ≡ true → ArePlain content
-    → content_in typ (value_json All typ content) ≡ Some content
-content_returns Structure content good plain = absurd (leaf_not Structure content good refl)
-content_returns Boolean content good plain = ap Some (boolean_returns content good plain)
-content_returns TextString content good plain = refl
-content_returns typ content good plain = ap result_ok (decode_of-encode_upper content plain)
+content_returns : (tag : ℕ) (typ : TtlvType) (content : List ℕ) → is_valid typ content ≡ true → ArePlain content
+    → content_in tag typ (value_json All typ content) ≡ Some content
+content_returns tag Structure content good plain = absurd (leaf_not Structure content good refl)
+content_returns tag Boolean content good plain = ap Some (boolean_returns content good plain)
+content_returns tag TextString content good plain = refl
+content_returns tag typ content good plain = ap result_ok (decode_of-encode_upper content plain)
 
 leaf_returns : (tag : ℕ) (typ : TtlvType) (content : List ℕ) → is_valid typ content ≡ true → ArePlain content
     → leaf_in tag typ (value_json All typ content) ≡ Ok (leaf tag typ content)
 leaf_returns tag typ content good plain =
-    ap (λ o. ok_or (option_map (leaf tag typ) (option_and_then (valid_in typ) o)) Value) (content_returns typ content good plain)
+    ap (λ o. ok_or (option_map (leaf tag typ) (option_and_then (valid_in typ) o)) Value) (content_returns tag typ content good plain)
     ∙ ap (λ b. ok_or (option_map (leaf tag typ) (if b then Some content else None)) Value) good
 
 -- it is a leaf of that type

@@ -11,10 +11,12 @@ use Rattle.serde_json.specs.Find.{as_str}
 use Rattle.kmip_ttlv_types.specs.{declared.typ.TtlvType.TtlvType, Leaves.is_valid, declared.typ.TtlvType.TheVariants.Structure}
 use Rattle.kmip_ttlv_types.specs.Trees.{Tree, Trees, leaf, node, no_trees, tree, bytes, IsTreeText, Fits, FitsBelow}
 use Rattle.kmip_ttlv_items.proofs.Spans.{leaf_not}
+use Rattle.kmip_words.proofs.Back.{word_small}
 use Rattle.kmip_ttlv_write.proofs.Opens.{AllTexts, leaf_text, node_text}
 use Rattle.kmip_ttlv_json.specs.declared.failure.BadMember.{BadMember, TheVariants.Members as BadMembers, TheVariants.Value}
-use Rattle.kmip_ttlv_json.specs.JsonTrees.{behind_0x, tag_in, type_in, content_in, valid_in, leaf_in, node_of, typed_in, tagged_in, both, are_named, tree_of}
-use Rattle.kmip_ttlv_json.specs.JsonTrees.{below_of, trees_of}
+use Rattle.kmip_ttlv_json.specs.JsonTrees.{behind_0x, tag_or_word, tag_of_text, tag_in, type_in, content_in}
+use Rattle.kmip_ttlv_json.specs.JsonTrees.{valid_in, leaf_in, node_of, typed_in, tagged_in, both}
+use Rattle.kmip_ttlv_json.specs.JsonTrees.{are_named, are_two_named, tree_of, below_of, trees_of}
 
 -- ---- tags
 
@@ -40,13 +42,16 @@ sized_small digits (Ok s) n is h =
     let all = decode_pairs-ok 0 digits s k.1 in
     subst (λ m. m < 2 ^ 24) (ap number_in h) (three_small s (omega (arith, eqb-true (length digits / 2) 3 k.0, all.1)) all.2)
 
-text_small : (o : Option (List ℕ)) (n : ℕ) → option_map (λ s. from_be_bytes w32 (0 ∷ s)) (option_and_then (λ digits. result_ok (decode_sized digits 3)) o)
-    ≡ Some n → n < 2 ^ 24
-text_small None n h = absurd (cc)
-text_small (Some digits) n h = sized_small digits (decode_sized digits 3) n refl h
+text_small : (s : List ℕ) (o : Option (List ℕ)) (n : ℕ) → tag_or_word s o ≡ Some n → n < 2 ^ 24
+text_small s None n h = word_small s n h
+text_small s (Some digits) n h = sized_small digits (decode_sized digits 3) n refl h
+
+some_small : (o : Option (List ℕ)) (n : ℕ) → tag_of_text o ≡ Some n → n < 2 ^ 24
+some_small None n h = absurd (cc)
+some_small (Some s) n h = text_small s (behind_0x s) n h
 
 tag_small : (d : Data) (n : ℕ) → tag_in d ≡ Some n → n < 2 ^ 24
-tag_small d n h = text_small (option_and_then behind_0x (as_str d)) n h
+tag_small d n h = some_small (as_str d) n h
 
 -- ---- leaves
 
@@ -68,7 +73,7 @@ module _ (tag : ℕ) (typ : TtlvType) (small : tag < 2 ^ 24) where
   content_sound (Some content) t h fits = valid_sound content (is_valid typ content) t refl h fits
 
   leaf_sound : (v : Data) (t : Tree) → leaf_in tag typ v ≡ Ok t → Fits t → IsTreeText t (bytes t)
-  leaf_sound v t h fits = content_sound (content_in typ v) t h fits
+  leaf_sound v t h fits = content_sound (content_in tag typ v) t h fits
 
 -- ---- structures
 
@@ -89,12 +94,12 @@ typed_sound tag None v r t small below h fits = absurd (cc)
 typed_sound tag (Some Structure) v r t small below h fits = node_sound tag r t small below h fits
 typed_sound tag (Some typ) v r t small below h fits = leaf_sound tag typ small v t h fits
 
-tagged_sound : (d : Data) (o : Option ℕ) (typ v : Data) (r : Result Trees BadMember) (t : Tree) → tag_in d ≡ o → AreSound r → tagged_in o typ v r ≡ Ok t
-    → Fits t → IsTreeText t (bytes t)
+tagged_sound : (d : Data) (o : Option ℕ) (typ : Option TtlvType) (v : Data) (r : Result Trees BadMember) (t : Tree) → tag_in d ≡ o → AreSound r
+    → tagged_in o typ v r ≡ Ok t → Fits t → IsTreeText t (bytes t)
 tagged_sound d None typ v r t is below h fits = absurd (cc)
-tagged_sound d (Some tag) typ v r t is below h fits = typed_sound tag (type_in typ) v r t (tag_small d tag is) below h fits
+tagged_sound d (Some tag) typ v r t is below h fits = typed_sound tag typ v r t (tag_small d tag is) below h fits
 
-named_sound : (named : Bool) (tag typ v : Data) (r : Result Trees BadMember) (t : Tree) → AreSound r
+named_sound : (named : Bool) (tag : Data) (typ : Option TtlvType) (v : Data) (r : Result Trees BadMember) (t : Tree) → AreSound r
     → (if named then tagged_in (tag_in tag) typ v r else Err BadMembers) ≡ Ok t → Fits t → IsTreeText t (bytes t)
 named_sound false tag typ v r t below h fits = absurd (cc)
 named_sound true tag typ v r t below h fits = tagged_sound tag (tag_in tag) typ v r t refl below h fits
@@ -117,7 +122,9 @@ both_ok one more ts h = absurd (cc)
 
 mutual
   pub sound : (d : Data) (t : Tree) → tree_of d ≡ Ok t → Fits t → IsTreeText t (bytes t)
-  sound (object (member a tag (member b typ (member c v no_members)))) t h fits = named_sound (are_named a b c) tag typ v (below_of v) t (below_sound v) h fits
+  sound (object (member a tag (member b typ (member c v no_members)))) t h fits =
+      named_sound (are_named a b c) tag (type_in typ) v (below_of v) t (below_sound v) h fits
+  sound (object (member a tag (member c v no_members))) t h fits = named_sound (are_two_named a c) tag (Some Structure) v (below_of v) t (below_sound v) h fits
   sound d t h fits = absurd (cc)
 
   below_sound : (d : Data) → AreSound (below_of d)

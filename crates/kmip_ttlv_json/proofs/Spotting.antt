@@ -14,7 +14,7 @@ use Rattle.kmip_ttlv_json.specs.declared.members.Members.{Members as SeenMembers
 use Rattle.kmip_ttlv_json.specs.declared.read.Stop.{Stop}
 use Rattle.kmip_ttlv_json.specs.declared.read.Stop.TheVariants.{NotJson, NoMemory}
 use Rattle.kmip_ttlv_json.specs.declared.seen.Seen.{Seen}
-use Rattle.kmip_ttlv_json.specs.declared.seen.Seen.TheVariants.{Text, Truth, Items as SeenItems, Item as SeenItem, Other}
+use Rattle.kmip_ttlv_json.specs.declared.seen.Seen.TheVariants.{Text, Truth, Items as SeenItems, Item as SeenItem, Number, Null}
 use Rattle.kmip_ttlv_json.specs.JsonTrees.{tree_of}
 use Rattle.kmip_ttlv_json.specs.Events.{both_at, item_at, item_in, unplaced, IsItem, AddsItem}
 use Rattle.kmip_ttlv_json.specs.Spots.{Gives, StopsAt, ItemsStopAt, MembersStopAt, no_value, in_array, in_object, in_item, behind_item, no_member, in_member}
@@ -44,7 +44,8 @@ module _ (total depth : ℕ) (ts : List Token) (at : ℕ) (here : total - at ≡
   item_placed (SeenItems (Err b)) p bad e = moved p.0 bad.at (ap at_in e)
   item_placed (Text s) p bad e = moved p bad.at (ap at_in e)
   item_placed (Truth b) p bad e = moved p bad.at (ap at_in e)
-  item_placed Other p bad e = moved p bad.at (ap at_in e)
+  item_placed (Number w) p bad e = moved p bad.at (ap at_in e)
+  item_placed Null p bad e = moved p bad.at (ap at_in e)
 
 abbrev pub HasTree : Data → Type 0
 HasTree d = (t : Tree) × (tree_of d ≡ Ok t)
@@ -165,7 +166,8 @@ module _ (total depth : ℕ) (ts : List Token) where
   value_placed (SeenItem r) p bad e = absurd (cc)
   value_placed (Text s) p bad e = absurd (cc)
   value_placed (Truth b) p bad e = absurd (cc)
-  value_placed Other p bad e = absurd (cc)
+  value_placed (Number w) p bad e = absurd (cc)
+  value_placed Null p bad e = absurd (cc)
 
   module _ (us : List Token) (some : 0 < depth) where
     pub array_stops : ts ≡ Token.begin_array ∷ us → (e : Stop) → StopsInItems total (depth - 1) us e → StopsThere total depth ts e

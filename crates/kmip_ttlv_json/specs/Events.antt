@@ -6,16 +6,19 @@ use Rattle.json.specs.Token.{Token}
 use Rattle.serde_json.specs.Data.{Data, object, Items, Members, no_members, member, put}
 use Rattle.serde_json.specs.Find.{as_str, as_bool}
 use Rattle.serde_json.specs.Read.{read, converted, of_json, of_items, of_members}
+use Rattle.kmip_ttlv_types.specs.declared.typ.TtlvType.{TtlvType}
+use Rattle.kmip_ttlv_types.specs.declared.typ.TtlvType.TheVariants.{Structure}
 use Rattle.kmip_ttlv_types.specs.Trees.{Tree, Trees, bytes, bytes_below}
 use Rattle.kmip_ttlv_json.specs.declared.failure.BadItem.{BadItem}
 use Rattle.kmip_ttlv_json.specs.declared.failure.BadMember.{BadMember}
 use Rattle.kmip_ttlv_json.specs.declared.failure.BadMember.TheVariants.{Members as BadMembers, Value}
+use Rattle.kmip_ttlv_json.specs.declared.seen.Whole.{Whole}
 use Rattle.kmip_ttlv_json.specs.declared.seen.Seen.{Seen}
-use Rattle.kmip_ttlv_json.specs.declared.seen.Seen.TheVariants.{Text, Truth, Items as SeenItems, Item as SeenItem, Other}
+use Rattle.kmip_ttlv_json.specs.declared.seen.Seen.TheVariants.{Text, Truth, Items as SeenItems, Item as SeenItem, Number, Null}
 use Rattle.kmip_ttlv_json.specs.declared.members.Members.{Members as SeenMembers}
 use Rattle.kmip_ttlv_json.specs.declared.read.Stop.{Stop}
 use Rattle.kmip_ttlv_json.specs.declared.read.Stop.TheVariants.{NotJson, NoMemory}
-use Rattle.kmip_ttlv_json.specs.JsonTrees.{tree_of, below_of, trees_of}
+use Rattle.kmip_ttlv_json.specs.JsonTrees.{whole_of_data, type_of_text, tree_of, below_of, trees_of}
 use Rattle.kmip_ttlv_json.specs.Readings.{is_node}
 use Rattle.kmip_ttlv_json.specs.Spots.{is_array}
 
@@ -31,13 +34,19 @@ abbrev pub truth_in : Seen → Option Bool
 truth_in (Truth b) = Some b
 truth_in seen = None
 
+-- the whole number that it is
+abbrev pub whole_in : Seen → Option Whole
+whole_in (Number w) = w
+whole_in seen = None
+
 -- it is an array
 abbrev pub is_items : Seen → Bool
 is_items (Text s) = false
 is_items (Truth b) = false
 is_items (SeenItems r) = true
 is_items (SeenItem r) = false
-is_items Other = false
+is_items (Number w) = false
+is_items Null = false
 
 -- what is wrong, without its place
 abbrev pub unplaced : {A : Type 0} → Result A BadItem → Result A BadMember
@@ -110,6 +119,7 @@ pub record AddsItem (tree : Result Tree BadMember) (old new : List ℕ) (result 
 pub record IsSeen (seen : Seen) (json : Data) (added : List ℕ) : Type 0 where
   pub text : as_str json ≡ text_in seen
   pub truth : as_bool json ≡ truth_in seen
+  pub whole : whole_of_data json ≡ whole_in seen
   pub below : AreSeen (below_of json) (items_in seen) added
   pub item : IsItem (tree_of json) (item_in seen) added
   pub array : is_array json ≡ is_items seen
@@ -187,6 +197,11 @@ abbrev pub HasValue : Option Data → Option Seen → List ℕ → Type 0
 HasValue None None added = Unit {0}
 HasValue (Some json) (Some seen) added = IsSeen seen json added
 HasValue json seen added = ⊥
+
+-- the type that was met: a Structure, where none was
+abbrev pub type_met : Option Seen → Option TtlvType
+type_met None = Some Structure
+type_met (Some seen) = type_of_text (text_in seen)
 
 -- the members are these three, as far as they are there
 pub record AreThree (json : Members) (met : SeenMembers) (added : List ℕ) : Type 0 where

@@ -16,9 +16,9 @@ use Rattle.kmip_ttlv_json.specs.declared.members.Members.{Members as SeenMembers
 use Rattle.kmip_ttlv_json.specs.declared.read.Stop.{Stop}
 use Rattle.kmip_ttlv_json.specs.declared.read.Stop.TheVariants.{NotJson, NoMemory}
 use Rattle.kmip_ttlv_json.specs.declared.seen.Seen.{Seen}
-use Rattle.kmip_ttlv_json.specs.declared.seen.Seen.TheVariants.{Text, Truth, Items as SeenItems, Item as SeenItem, Other}
+use Rattle.kmip_ttlv_json.specs.declared.seen.Seen.TheVariants.{Text, Truth, Items as SeenItems, Item as SeenItem, Number, Null}
 use Rattle.kmip_ttlv_json.specs.declared.tokens.Tokens.{Tokens}
-use Rattle.kmip_ttlv_json.specs.JsonTrees.{tag_in, type_in, are_named, tree_of}
+use Rattle.kmip_ttlv_json.specs.JsonTrees.{tag_in, type_in, are_named, are_two_named, tree_of}
 use Rattle.kmip_ttlv_json.specs.Places.{offset_of}
 
 -- a value of JSON is read from the front of some tokens, and these are left
@@ -114,12 +114,13 @@ is_typed_open None v = false
 is_typed_open (Some Structure) v = is_array v
 is_typed_open (Some typ) v = false
 
-abbrev pub is_tagged_open : Option ℕ → Data → Data → Bool
+abbrev pub is_tagged_open : Option ℕ → Option TtlvType → Data → Bool
 is_tagged_open None typ v = false
-is_tagged_open (Some tag) typ v = is_typed_open (type_in typ) v
+is_tagged_open (Some tag) typ v = is_typed_open typ v
 
 abbrev pub is_open : Data → Bool
-is_open (object (member a tag (member b typ (member c v no_members)))) = if are_named a b c then is_tagged_open (tag_in tag) typ v else false
+is_open (object (member a tag (member b typ (member c v no_members)))) = if are_named a b c then is_tagged_open (tag_in tag) (type_in typ) v else false
+is_open (object (member a tag (member c v no_members))) = if are_two_named a c then is_tagged_open (tag_in tag) (Some Structure) v else false
 is_open _ = false
 
 -- the last member `value` of the rest of an object, where one was met before or not, begins with these tokens
@@ -227,7 +228,8 @@ IsPlaced total depth ts (SeenItems (Ok done)) = Blames depth ts (length ts)
 IsPlaced total depth ts (SeenItems (Err bad)) = Blames depth ts (length ts) × BlamesArray depth ts (total - bad.at)
 IsPlaced total depth ts (Text s) = Blames depth ts (length ts)
 IsPlaced total depth ts (Truth b) = Blames depth ts (length ts)
-IsPlaced total depth ts Other = Blames depth ts (length ts)
+IsPlaced total depth ts (Number w) = Blames depth ts (length ts)
+IsPlaced total depth ts Null = Blames depth ts (length ts)
 
 -- a value's items
 abbrev pub IsValuePlaced : ℕ → ℕ → List Token → Option Seen → Type 0

@@ -9,9 +9,9 @@ use std::alloc::AllocError;
 /// What is wrong with the JSON of an item.
 #[derive(Clone, Copy, Debug, PartialEq, Eq)]
 pub enum BadMember {
-    /// It is no object whose members are `tag`, `type` and `value`.
+    /// It is no object whose members are `tag`, `type` and `value`, or these but `type`.
     Members,
-    /// Its tag is not `0x` and six hexadecimal digits.
+    /// Its tag is neither the normalized name of one nor `0x` and six hexadecimal digits.
     Tag,
     /// Its type is none of the ten names.
     Typ,

@@ -4,8 +4,9 @@
 //! it. The JSON of a message is defined over trees in specs/Jsons, in the words of the toolchain's `serde_json`.
 //!
 //! `read` reads a message back from JSON as `serde_json` parses it, into canonical bytes, with no tree between: `tokens` counts the tokens
-//! that are taken, `seen` has what a value is seen as, `number` which numbers there are, `members` what the members of an item stand for,
-//! `adding` the bytes of items, `nesting` whether it nests too deep, `places` where a token begins, and `failure` why a text is no message.
+//! that are taken, `seen` has what a value is seen as, `number` which numbers there are, and which are whole, `members` what the members of
+//! an item stand for, `adding` the bytes of items, `nesting` whether it nests too deep, `places` where a token begins, and `failure` why a
+//! text is no message. The words in it are those of `kmip_words`.
 //! The tree that JSON is, is defined in specs/JsonTrees, and where it is none in specs/Spots.
 #![tactic(auto)]
 

@@ -1,11 +1,13 @@
 //! The members of an item's JSON: which were met, and what their texts stand for.
 
 ghost use Rattle.std.specs.Prelude.{◌≡◌, IfOk, None, option_map};
-ghost use Rattle.kmip_ttlv_json.specs.JsonTrees.{behind_0x, bytes_of, type_named, tag_of_text, type_of_text};
+ghost use Rattle.kmip_ttlv_json.specs.JsonTrees.{behind_0x, bytes_of, type_named, tag_of_digits, tag_of_text, type_of_text};
+ghost use Rattle.kmip_ttlv_json.specs.Events.{type_met};
 
 use crate::seen::Seen;
 use hex::FromHexError;
 use kmip_ttlv_types::{TtlvTag, TtlvType};
+use kmip_words::LateWords;
 use std::alloc::{AllocError, Allocator};
 
 /// The members of an object that were met: of each name the last.
@@ -58,19 +60,45 @@ fn type_named(name: &str) -> Option<TtlvType>
     }
 }
 
-/// The tag of a text, if there is one.
-pub fn tag_of(text: Option<&str>) -> Option<TtlvTag>
-    ensures { result ≡ tag_of_text (option_map (λ s. s.now) text.entry) }
+// The tag of six digits.
+fn tag_of_digits(digits: &[u8]) -> Option<TtlvTag>
+    ensures { result ≡ tag_of_digits digits.now }
 {
-    let digits = behind_0x(text?)?;
     let mut bytes = [0; 3];
     hex::decode_to_slice(digits, &mut bytes).ok()?;
     Some(TtlvTag::from(bytes))
 }
 
-/// The type of a text, if there is one.
-pub fn type_of(text: Option<&str>) -> Option<TtlvType>
+/// The tag of a text, if there is one: by its digits or its word.
+pub fn tag_of<A: Allocator + Copy>(
+    alloc: A,
+    words: &mut LateWords<A>,
+    text: Option<&str>,
+) -> Result<Option<TtlvTag>, AllocError>
+    ensures { IfOk result (λ tag. tag ≡ tag_of_text (option_map (λ s. s.now) text.entry)) }
+{
+    let Some(text) = text else {
+        return Ok(None);
+    };
+    match behind_0x(text) {
+        Some(digits) => Ok(tag_of_digits(digits)),
+        None => words.tag_of(alloc, text),
+    }
+}
+
+// The type of a text, if there is one.
+fn type_of(text: Option<&str>) -> Option<TtlvType>
     ensures { result ≡ type_of_text (option_map (λ s. s.now) text.entry) }
 {
     type_named(text?)
+}
+
+/// The type that was met: a Structure, where none was.
+pub fn type_met(typ: Option<Seen<'_>>) -> Option<TtlvType>
+    ensures { result ≡ type_met typ.entry }
+{
+    match typ {
+        Some(typ) => type_of(typ.text()),
+        None => Some(TtlvType::Structure),
+    }
 }

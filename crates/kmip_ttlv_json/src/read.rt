@@ -14,14 +14,15 @@ ghost use Rattle.kmip_ttlv_json.specs.Spots.{all_of, IsPlaced, ArePlaced, IsItem
 
 use crate::adding::{push_value, set_header};
 use crate::failure::{BadItem, BadMember, JsonError};
-use crate::members::{Members, tag_of, type_of};
+use crate::members::{Members, tag_of, type_met};
 use crate::nesting::first_deep;
-use crate::number::is_in_range;
+use crate::number::{is_in_range, whole_of};
 use crate::places::offset_of;
 use crate::seen::Seen;
 use crate::tokens::Tokens;
 use json::{Reader, Scratch, Token};
 use kmip_ttlv_types::{TtlvTag, TtlvType};
+use kmip_words::LateWords;
 use std::alloc::{AllocError, Allocator};
 
 // How deep JSON may nest.
@@ -102,6 +103,7 @@ fn placed(at: usize, item: Result<bool, BadMember>) -> Result<bool, BadItem>
 // Ends the item behind so many tokens, whose members were met, and whose value's bytes are behind an offset.
 fn end_item<A: Allocator + Copy>(
     alloc: A,
+    words: &mut LateWords<A>,
     out: &mut Vec<u8, A>,
     top: usize,
     at: usize,
@@ -119,23 +121,20 @@ fn end_item<A: Allocator + Copy>(
     let Some(tag) = met.tag else {
         return Ok(bad_item(at, BadMember::Members));
     };
-    let Some(typ) = met.typ else {
-        return Ok(bad_item(at, BadMember::Members));
-    };
     let Some(value) = met.value else {
         return Ok(bad_item(at, BadMember::Members));
     };
-    let Some(tag) = tag_of(tag.text()) else {
+    let Some(tag) = tag_of(alloc, words, tag.text())? else {
         return Ok(bad_item(at, BadMember::Tag));
     };
-    let Some(typ) = type_of(typ.text()) else {
+    let Some(typ) = type_met(met.typ) else {
         return Ok(bad_item(at, BadMember::Typ));
     };
     if typ == TtlvType::Structure {
         return Ok(end_structure(out, top, at, tag, value));
     }
     out.truncate(top);
-    let item = push_value(alloc, out, tag, typ, value)?;
+    let item = push_value(alloc, words, out, tag, typ, value)?;
     Ok(placed(at, item))
 }
 
@@ -143,6 +142,7 @@ fn end_item<A: Allocator + Copy>(
 #[cycle(read)]
 fn read_value<'t, A: Allocator + Copy>(
     alloc: A,
+    words: &mut LateWords<A>,
     reader: &mut Tokens<'t>,
     depth: usize,
     out: &mut Vec<u8, A>,
@@ -162,12 +162,12 @@ fn read_value<'t, A: Allocator + Copy>(
     match token {
         Token::String(text) => Ok(Seen::Text(text)),
         Token::Number(text) => if is_in_range(text) {
-            Ok(Seen::Other)
+            Ok(Seen::Number(whole_of(text)))
         } else {
             Err(Stop::NotJson { at })
         },
         Token::Bool(truth) => Ok(Seen::Truth(truth)),
-        Token::Null => Ok(Seen::Other),
+        Token::Null => Ok(Seen::Null),
         Token::EndObject | Token::EndArray | Token::Key(_) | Token::Bad => Err(Stop::NotJson {
             at,
         }),
@@ -175,13 +175,13 @@ fn read_value<'t, A: Allocator + Copy>(
             if depth == 0 {
                 return Err(Stop::NotJson { at });
             }
-            Ok(Seen::Items(read_items(alloc, reader, depth - 1, out)?))
+            Ok(Seen::Items(read_items(alloc, words, reader, depth - 1, out)?))
         }
         Token::BeginObject => {
             if depth == 0 {
                 return Err(Stop::NotJson { at });
             }
-            Ok(Seen::Item(read_members(alloc, reader, depth - 1, at, out)?))
+            Ok(Seen::Item(read_members(alloc, words, reader, depth - 1, at, out)?))
         }
     }
 }
@@ -190,6 +190,7 @@ fn read_value<'t, A: Allocator + Copy>(
 #[cycle(read)]
 fn read_items<'t, A: Allocator + Copy>(
     alloc: A,
+    words: &mut LateWords<A>,
     reader: &mut Tokens<'t>,
     depth: usize,
     out: &mut Vec<u8, A>,
@@ -207,7 +208,7 @@ fn read_items<'t, A: Allocator + Copy>(
     'items: while !reader.take_end_array() {
         let mark = out.len();
         let at = reader.taken;
-        let seen = read_value(alloc, reader, depth, out)?;
+        let seen = read_value(alloc, words, reader, depth, out)?;
         all = both(all, seen.item(at));
         keep_items(out, mark, all);
     }
@@ -218,6 +219,7 @@ fn read_items<'t, A: Allocator + Copy>(
 #[cycle(read)]
 fn read_members<'t, A: Allocator + Copy>(
     alloc: A,
+    words: &mut LateWords<A>,
     reader: &mut Tokens<'t>,
     depth: usize,
     at: usize,
@@ -239,15 +241,16 @@ fn read_members<'t, A: Allocator + Copy>(
         others: false,
     };
     'members: while let Some(name) = reader.next_key()? {
-        met = read_member(alloc, reader, depth, out, top, name, met)?;
+        met = read_member(alloc, words, reader, depth, out, top, name, met)?;
     }
-    Ok(end_item(alloc, out, top, at, met)?)
+    Ok(end_item(alloc, words, out, top, at, met)?)
 }
 
 // Reads a member with this name behind those that were met. Of its value the bytes stay, behind an offset.
 #[cycle(read)]
 fn read_member<'t, A: Allocator + Copy>(
     alloc: A,
+    words: &mut LateWords<A>,
     reader: &mut Tokens<'t>,
     depth: usize,
     out: &mut Vec<u8, A>,
@@ -265,14 +268,14 @@ fn read_member<'t, A: Allocator + Copy>(
 {
     if name == "value" {
         out.truncate(top);
-        let seen = read_value(alloc, reader, depth, out)?;
+        let seen = read_value(alloc, words, reader, depth, out)?;
         return Ok(Members {
             value: Some(seen),
             ..met
         });
     }
     let mark = out.len();
-    let seen = read_value(alloc, reader, depth, out)?;
+    let seen = read_value(alloc, words, reader, depth, out)?;
     out.truncate(mark);
     if name == "tag" {
         return Ok(Members {
@@ -295,6 +298,7 @@ fn read_member<'t, A: Allocator + Copy>(
 // Reads a text that is an item, and adds its bytes to none.
 fn read_text<A: Allocator + Copy>(
     alloc: A,
+    words: &mut LateWords<A>,
     text: &str,
     scratch: &mut Scratch<A>,
     out: &mut Vec<u8, A>,
@@ -308,7 +312,7 @@ fn read_text<A: Allocator + Copy>(
         reader: Reader::new(text, scratch)?,
         taken: 0,
     };
-    let seen = read_value(alloc, &mut reader, MAX_DEPTH, out)?;
+    let seen = read_value(alloc, words, &mut reader, MAX_DEPTH, out)?;
     let at = reader.taken;
     match reader.next() {
         Some(_) => Err(Stop::NotJson { at }),
@@ -335,17 +339,37 @@ fn refusal<A: Allocator>(
 
 /// Reads a message from its JSON, and returns its canonical bytes.
 ///
-/// An item is an object of exactly the members `tag`, `type` and `value`, in any order, in the forms that [`push_json`]
-/// prints: a tag is `0x` and six digits, a type its name, and digits are of either case. Of a member that is given twice
-/// the last counts.
+/// An item is an object of exactly the members `tag`, `type` and `value`, in any order, in the forms of OASIS "KMIP Additional Message
+/// Encodings":
 ///
-/// It takes twice the text's length of memory and half of its longest value at most, and stack for 127 levels.
+/// - a tag is its normalized name, or `0x` and six digits; a type is its name, and may be left out for a Structure;
+/// - each value but a Text String, a Byte String and a Structure's may be `0x` and the digits of its bytes, a Byte String is digits
+///   alone. All digits are of either case;
+/// - an Integer may be a number, or the normalized names of a mask's bits, with `|` between them; an Interval may be a number, and so may
+///   a Long Integer and a Big Integer of 2^52 at most, without their signs; an Enumeration may be its value's normalized name, a Boolean
+///   `true` or `false`, and a Date-Time ISO 8601's text, with an offset.
+///
+/// Of a member that is given twice the last counts. The words are those of `kmip_words`: of the standard's names.
+///
+/// It takes twice the text's length of memory and half of its longest value at most, stack for 127 levels, and where there is a word the
+/// memory of [`standard_words`](kmip_words::standard_words).
 ///
 /// Errors, each with its offset in the text, which is its length at most: `NotJson` and `TooDeep`; `NotItem` with what is wrong with the first item that isn't one; `NotStructure` if
 /// the root isn't one; `TooLong` if a Structure has 2^32 bytes of content or more. And `OutOfMemory`.
-///
-/// [`push_json`]: crate::push_json
 pub fn from_json<A: Allocator + Copy>(alloc: A, text: &str) -> Result<Vec<u8, A>, JsonError>
+    ensures ok { IfOk result (λ out. IsReadAs text.now out.items) }
+    ensures err { IfErr result (FailsToRead text.now) }
+    ensures within { IfErr result (λ e. error_offset e ≤ length text.now) }
+{
+    from_json_by(alloc, &mut LateWords::new(), text)
+}
+
+/// The same by words that are lent, for a reader of many texts: their maps are made once.
+pub fn from_json_by<A: Allocator + Copy>(
+    alloc: A,
+    words: &mut LateWords<A>,
+    text: &str,
+) -> Result<Vec<u8, A>, JsonError>
     ensures ok { IfOk result (λ out. IsReadAs text.now out.items) }
     ensures err { IfErr result (FailsToRead text.now) }
     ensures within { IfErr result (λ e. error_offset e ≤ length text.now) }
@@ -353,7 +377,7 @@ pub fn from_json<A: Allocator + Copy>(alloc: A, text: &str) -> Result<Vec<u8, A>
     let mut scratch = Scratch::new(alloc);
     let mut out = Vec::new(alloc);
     out.reserve_exact(text.len())?;
-    let item = match read_text(alloc, text, &mut scratch, &mut out) {
+    let item = match read_text(alloc, words, text, &mut scratch, &mut out) {
         Ok(item) => item,
         Err(Stop::NotJson { at }) => return Err(refusal(text, &mut scratch, at)?),
         Err(Stop::NoMemory) => return Err(JsonError::OutOfMemory),

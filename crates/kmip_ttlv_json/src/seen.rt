@@ -1,9 +1,18 @@
 //! What a value of JSON is seen as: as much of it as an item's members can be told from, whatever they are.
 
 ghost use Rattle.std.specs.Prelude.{◌≡◌, option_map};
-ghost use Rattle.kmip_ttlv_json.specs.Events.{text_in, truth_in, items_at, item_at};
+ghost use Rattle.kmip_ttlv_json.specs.Events.{text_in, items_at, item_at};
 
 use crate::failure::{BadItem, BadMember};
+
+/// A whole number of JSON.
+#[derive(Clone, Copy)]
+pub struct Whole {
+    /// Whether a minus sign stands in front.
+    pub minus: bool,
+    /// The number without it.
+    pub size: u64,
+}
 
 /// What a value of JSON is seen as.
 #[derive(Clone, Copy)]
@@ -16,8 +25,10 @@ pub enum Seen<'t> {
     Items(Result<(), BadItem>),
     /// An object: an item, whose bytes were added, and whether it is a Structure, or what is wrong with it.
     Item(Result<bool, BadItem>),
-    /// A number or `null`.
-    Other,
+    /// A number, if it is whole and has 64 bits at most.
+    Number(Option<Whole>),
+    /// `null`.
+    Null,
 }
 
 impl<'t> Seen<'t> {
@@ -27,16 +38,6 @@ impl<'t> Seen<'t> {
     {
         match self {
             Seen::Text(text) => Some(text),
-            _ => None,
-        }
-    }
-
-    /// Which of `true` and `false` it is.
-    pub fn truth(self) -> Option<bool>
-        ensures { result ≡ truth_in self.entry }
-    {
-        match self {
-            Seen::Truth(truth) => Some(truth),
             _ => None,
         }
     }

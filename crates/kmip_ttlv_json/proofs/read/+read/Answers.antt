@@ -1,4 +1,4 @@
-use Rattle.std.proofs.Common.{◌≡◌, ◌∙◌, ◌-◌, ◌<◌, ◌++◌, true, false, List, [], ◌∷◌, length, take, Some, None, option_map, refl, sym, ap}
+use Rattle.std.proofs.Common.{◌≡◌, ◌∙◌, ◌-◌, ◌<◌, ◌++◌, true, false, List, [], ◌∷◌, length, take, Some, None, option_map, option_and_then, refl, sym, ap}
 use Rattle.std.proofs.Common.{ap₂, subst, arith, rules, inl, inr}
 use Rattle.std.specs.Prelude.{ℕ, is_some, codes}
 use Rattle.std.specs.Str.{bytes_eq}
@@ -9,7 +9,8 @@ use Rattle.json.specs.Reads.{token_of}
 use Rattle.json.proofs.Grammar.{value_is}
 use Rattle.serde_json.specs.Data.{null, boolean, number, string, no_members, array, object}
 use Rattle.serde_json.specs.Read.{number_of, of_json, of_items, of_members, converted}
-use Rattle.kmip_ttlv_json.specs.declared.seen.Seen.TheVariants.{Text, Truth, Other}
+use Rattle.kmip_ttlv_json.specs.JsonTrees.{whole_num}
+use Rattle.kmip_ttlv_json.specs.declared.seen.Seen.TheVariants.{Text, Truth, Number, Null}
 use Rattle.kmip_ttlv_json.specs.declared.failure.BadMember.TheVariants.{Members as BadMembers}
 use Rattle.kmip_ttlv_json.specs.Events.{unplaced, both_at, both_seen, kept, item_at, item_in, is_other, Stops, Reads, ReadsMember}
 use Rattle.kmip_ttlv_json.specs.Spots.{all_of, begins_value, itself, IsPlaced, ArePlaced, IsItemPlaced, MeetsPlaced, StopsThere, StopsInItems, StopsInMembers}
@@ -329,7 +330,7 @@ read_value-returns-in-String-clause-ok g t c =
     let is : c.args.reader.now.reader ≡ Token.string c.in-String.text.now ∷ c.next.new.self.reader = grind (arith, first) in
     plain_read c.args.depth c.args.reader.now.reader c.next.new.self.reader c.args.out.now.items (string c.in-String.text.now) (Text c.in-String.text)
     (ap (converted of_json) (ap (value c.args.depth) is ∙ value_is c.args.depth _))
-    (record { text = refl; truth = refl; below = refl; item = refl; array = refl })
+    (record { text = refl; truth = refl; whole = refl; below = refl; item = refl; array = refl })
 
 pub read_value-returns-in-Bool-clause-ok : goal.read_value-returns-in-Bool-clause-ok
 read_value-returns-in-Bool-clause-ok g t c =
@@ -337,15 +338,15 @@ read_value-returns-in-Bool-clause-ok g t c =
     let is : c.args.reader.now.reader ≡ Token.boolean c.in-Bool.truth ∷ c.next.new.self.reader = grind (arith, first) in
     plain_read c.args.depth c.args.reader.now.reader c.next.new.self.reader c.args.out.now.items (boolean c.in-Bool.truth) (Truth c.in-Bool.truth)
     (ap (converted of_json) (ap (value c.args.depth) is ∙ value_is c.args.depth _))
-    (record { text = refl; truth = refl; below = refl; item = refl; array = refl })
+    (record { text = refl; truth = refl; whole = refl; below = refl; item = refl; array = refl })
 
 pub read_value-returns-in-Null-clause-ok : goal.read_value-returns-in-Null-clause-ok
 read_value-returns-in-Null-clause-ok g t c =
     let first : c.args.reader.now.reader ≡ token_of c.in-Some.token ∷ c.next.new.self.reader = grind arith in
     let is : c.args.reader.now.reader ≡ Token.null ∷ c.next.new.self.reader = grind (arith, first) in
-    plain_read c.args.depth c.args.reader.now.reader c.next.new.self.reader c.args.out.now.items null Other
+    plain_read c.args.depth c.args.reader.now.reader c.next.new.self.reader c.args.out.now.items null Null
     (ap (converted of_json) (ap (value c.args.depth) is ∙ value_is c.args.depth _))
-    (record { text = refl; truth = refl; below = refl; item = refl; array = refl })
+    (record { text = refl; truth = refl; whole = refl; below = refl; item = refl; array = refl })
 
 pub read_value-returns-then-is_in_range-clause-ok : goal.read_value-returns-then-is_in_range-clause-ok
 read_value-returns-then-is_in_range-clause-ok g t c =
@@ -354,10 +355,10 @@ read_value-returns-then-is_in_range-clause-ok g t c =
     let is : c.args.reader.now.reader ≡ Token.number s ∷ c.next.new.self.reader = grind (arith, first) in
     let there : is_some (number_of s) ≡ true = sym c.is_in_range.ensures ∙ c.if-is_in_range.true in
     let n = number_there (number_of s) there in
-    plain_read c.args.depth c.args.reader.now.reader c.next.new.self.reader c.args.out.now.items (number n.0) Other
+    plain_read c.args.depth c.args.reader.now.reader c.next.new.self.reader c.args.out.now.items (number n.0) (Number c.whole_of.result)
     (ap (converted of_json) (ap (value c.args.depth) is ∙ value_is c.args.depth _)
     ∙ ap (λ o. option_map (λ b. (b, c.next.new.self.reader)) (option_map number o)) n.1)
-    (record { text = refl; truth = refl; below = refl; item = refl; array = refl })
+    (record { text = refl; truth = refl; whole = sym (c.whole_of.ensures ∙ ap (option_and_then whole_num) n.1); below = refl; item = refl; array = refl })
 
 pub read_value-returns-else-is_in_range-clause-err : goal.read_value-returns-else-is_in_range-clause-err
 read_value-returns-else-is_in_range-clause-err g t c =

@@ -1,7 +1,7 @@
 use Rattle.std.proofs.Common.{◌∙◌, Ok, ap, arith, rules}
 use Rattle.kmip_ttlv_json.specs.Events.{unplaced}
 use Rattle.kmip_ttlv_json.proofs.Events.{too_long, is_read}
-use Rattle.kmip_ttlv_json.proofs.read.from_json.Goals as goal
+use Rattle.kmip_ttlv_json.proofs.read.from_json_by.Goals as goal
 
 pub returns-in-Ok-true-clause-err : goal.returns-in-Ok-true-clause-err
 returns-in-Ok-true-clause-err g c = (
