@@ -1,0 +1,12 @@
+pub mod Tools
+pub mod Names
+pub mod Stepping
+pub mod Fronts
+pub mod ValueForms
+pub mod TagForms
+pub mod SkipForms
+pub mod TreeForms
+pub mod ReadForms
+pub mod Offsets
+pub mod Loops
+pub mod WriteForms

@@ -1,0 +1,12 @@
+pub mod Characters
+pub mod Faults
+pub mod Reading
+pub mod Values
+pub mod Elements
+pub mod Tags
+pub mod Skipping
+pub mod Marks
+pub mod Documents
+pub mod Forms
+pub mod Readings
+pub mod Writings

@@ -1,0 +1,5 @@
+//! Tests of plain_xml.
+#![tactic(auto)]
+
+#[cfg(test)]
+mod reading;
