@@ -1,4 +1,4 @@
-//! Lines of JSON read back as messages, whole and in pieces. What JSON is read back as are tests that are data (crates/vectors).
+//! Values of JSON read back as messages, whole and in pieces. What JSON is read back as are tests that are data (crates/vectors).
 
 use crate::jsons::VERSION_JSON;
 use crate::pieces::asked_slow;
@@ -52,7 +52,7 @@ fn lines_with(alloc: Global, raw: bool, input: &[u8]) -> Outcome {
 const EMPTY: &str = "{\"tag\":\"0x420069\",\"type\":\"Structure\",\"value\":[]}";
 
 // An input, the status, what is printed, and what on standard error.
-const LINES: [(&str, u8, &str, &str); 12] = [
+const LINES: [(&str, u8, &str, &str); 23] = [
     ("", 0, "", ""),
     ("\n \t\r\n\n", 0, "", ""),
     (EMPTY, 0, "4200690100000000\n", ""),
@@ -62,14 +62,15 @@ const LINES: [(&str, u8, &str, &str); 12] = [
         "4200690100000000\n42006A0100000000\n",
         "",
     ),
-    // The lines before a bad one are printed, and those after it aren't.
+    // The values before a bad one are printed, and those after it aren't.
     (
         "{\"tag\":\"0x420069\",\"type\":\"Structure\",\"value\":[]}\n\n{\"tag\":\"0x42006A\",\"type\":\"Integer\",\"value\":\"0x00000001\"}\n{\"tag\":\"0x420069\",\"type\":\"Structure\",\"value\":[]}\n",
         1,
         "4200690100000000\n",
         "capture: byte 50: the root is no Structure\n",
     ),
-    ("\n[1,2\n", 1, "", "capture: byte 5: not JSON\n"),
+    ("\n[1,2\n", 1, "", "capture: byte 6: not JSON\n"),
+    ("\n[1 2]\n", 1, "", "capture: byte 4: not JSON\n"),
     (
         "\n{}\n",
         1,
@@ -87,7 +88,7 @@ const LINES: [(&str, u8, &str, &str); 12] = [
         "\u{feff}\n\u{feff}[1,2\n",
         1,
         "",
-        "capture: byte 11: not JSON\n",
+        "capture: byte 12: not JSON\n",
     ),
     // An item in the second line is wrong.
     (
@@ -101,8 +102,54 @@ const LINES: [(&str, u8, &str, &str); 12] = [
     (
         "{\"tag\":\"0x420069\",\"type\":\"Structure\",\"value\":[]}\u{2028}\n",
         1,
-        "",
+        "4200690100000000\n",
         "capture: byte 48: not JSON\n",
+    ),
+    // A value over several lines, two in one line, and the end of one beside the next.
+    (
+        "{\n  \"tag\": \"0x420069\",\n\n  \"type\": \"Structure\",\r\n  \"value\": [\n  ]\n}\n",
+        0,
+        "4200690100000000\n",
+        "",
+    ),
+    (
+        "{\"tag\":\"0x420069\",\"type\":\"Structure\",\"value\":[]} \t{\"tag\":\"0x42006A\",\"type\":\"Structure\",\"value\":[]}\n",
+        0,
+        "4200690100000000\n42006A0100000000\n",
+        "",
+    ),
+    (
+        "{\"tag\":\"0x420069\",\"type\":\"Structure\",\"value\":[\n]}{\"tag\":\"0x42006A\",\"type\":\"Structure\",\"value\":[]}",
+        0,
+        "4200690100000000\n42006A0100000000\n",
+        "",
+    ),
+    // Brackets, quotes and backslashes in a string: the text is `}]\"{`.
+    (
+        "{\"tag\":\"0x420069\",\"type\":\"Structure\",\"value\":[{\"tag\":\"0x420094\",\"type\":\"TextString\",\"value\":\"}]\\\\\\\"{\"}\n]}\n",
+        0,
+        "420069010000001042009407000000057D5D5C227B000000\n",
+        "",
+    ),
+    // An item in the second value of a line is wrong.
+    (
+        "{\"tag\":\"0x420069\",\"type\":\"Structure\",\"value\":[]}{\"tag\":\"0x42006A\",\"type\":\"Integer\",\"value\":\"0x00000001\"}\n",
+        1,
+        "4200690100000000\n",
+        "capture: byte 48: the root is no Structure\n",
+    ),
+    // An input that ends within a value is wrong at its end, or where the string begins that it ends in.
+    ("{\"tag\":\n\n", 1, "", "capture: byte 9: not JSON\n"),
+    ("{\"tag\":\n\"0x42", 1, "", "capture: byte 8: not JSON\n"),
+    // Brackets that don't belong together end a value, and so does one that belongs to none.
+    ("{\"tag\":[1}]\n{}\n", 1, "", "capture: byte 9: not JSON\n"),
+    ("]\n{}\n", 1, "", "capture: byte 0: not JSON\n"),
+    // What begins with no bracket is a value up to the line's end.
+    (
+        "12\n{}\n",
+        1,
+        "",
+        "capture: byte 0: an item without exactly tag, type and value\n",
     ),
 ];
 
@@ -148,19 +195,23 @@ fn lines_of_json_in_pieces(rt: HostRuntime) {
 const TWO: &str =
     "{\"tag\":\"0x420069\",\"type\":\"Structure\",\"value\":[]}\n{\"tag\":\"0x420069\",\"type\":\"Structure\",\"value\":[]}";
 
-// The message of a line is printed before the next read, and stays if that fails.
+const BOTH: &str = "4200690100000000\n4200690100000000\n";
+
+// The message of a value is printed before the next read, and stays if a later one fails.
 #[test]
-fn a_line_of_json_is_printed_at_once(rt: HostRuntime) {
-    let (outcome, by_second) = lines_slow(rt.alloc(), TWO.as_bytes(), EMPTY.len() + 1, true);
-    assert_eq!(rt; by_second, 17);
-    assert!(rt; outcome.is(2, "4200690100000000\n", "capture: it can't be read\n"));
+fn a_value_of_json_is_printed_at_once(rt: HostRuntime) {
+    for most in [EMPTY.len(), EMPTY.len() + 1] {
+        let (outcome, by_second) = lines_slow(rt.alloc(), TWO.as_bytes(), most, true);
+        assert_eq!(rt; by_second, 17);
+        assert!(rt; outcome.is(2, BOTH, "capture: it can't be read\n"));
+    }
 }
 
-// What comes behind a bad line isn't read.
+// What comes behind a bad value isn't read.
 #[test]
-fn a_bad_line_of_json_is_the_last(rt: HostRuntime) {
-    let (outcome, _) = lines_slow(rt.alloc(), b"[1,2\n", 5, true);
-    assert!(rt; outcome.is(1, "", "capture: byte 4: not JSON\n"));
+fn a_bad_value_of_json_is_the_last(rt: HostRuntime) {
+    let (outcome, _) = lines_slow(rt.alloc(), b"[1,,2]", 6, true);
+    assert!(rt; outcome.is(1, "", "capture: byte 3: not JSON\n"));
 }
 
 #[test]

@@ -28,6 +28,7 @@ pub mod Wholes
 pub mod TextStreams
 pub mod Decided
 pub mod Windows
+pub mod JsonParts
 pub mod JsonReads
 pub mod Asking
 pub mod OwnTables

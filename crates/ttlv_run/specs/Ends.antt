@@ -4,13 +4,13 @@ use Rattle.std.specs.Prelude.{◌≡◌, ◌⊎◌, ℕ, Bool, true, false, List
 use Rattle.kmip_ttlv_types.specs.Held.{Held, Rests, Says}
 use Rattle.ttlv_run.specs.declared.back.BackFault.{BackFault}
 use Rattle.ttlv_run.specs.declared.find.FindFault.{FindFault}
-use Rattle.ttlv_run.specs.declared.from_json.LineFault.{LineFault}
+use Rattle.ttlv_run.specs.declared.from_json.ValueFault.{ValueFault}
 use Rattle.ttlv_run.specs.declared.job.Asked.{Asked}
 use Rattle.ttlv_run.specs.declared.job.Asked.TheVariants.{Print, ReadBack, FromJson, Find}
 use Rattle.ttlv_run.specs.declared.run_error.RunError.{RunError}
 use Rattle.ttlv_run.specs.Backs.{back_line}
 use Rattle.ttlv_run.specs.Finds.{FoundAll, LacksSome, FailsToFind, find_line}
-use Rattle.ttlv_run.specs.JsonLines.{PrintedJson, FaultsJson, FailsJson, bad_line}
+use Rattle.ttlv_run.specs.JsonValues.{PrintedJson, FaultsJson, FailsJson, bad_line}
 use Rattle.ttlv_run.specs.Reasons.{status_in, error_line}
 use Rattle.ttlv_run.specs.Runs.{Streams, Printed, Breaks, Fails, PrintedBack, FailsBack}
 use Rattle.ttlv_run.specs.Texts.{Names}
@@ -56,7 +56,7 @@ abbrev pub IsMalformed : Names → Asked → Bor (List ℕ) → Streams → List
 IsMalformed names (Print task encoding) name s line = IsMalformedPrint names (record { name = name; task = task; encoding = encoding }) s line
 IsMalformed names (ReadBack prefix) name s line =
     (fault : BackFault) × PrintedBack names prefix.now s (Some fault) × (line ≡ back_line name.now fault)
-IsMalformed names (FromJson raw) name s line = (fault : LineFault) × FaultsJson raw s fault × (line ≡ bad_line name.now fault)
+IsMalformed names (FromJson raw) name s line = (fault : ValueFault) × FaultsJson raw s fault × (line ≡ bad_line name.now fault)
 IsMalformed names (Find look) name s line = (fault : FindFault) × LacksSome names look s fault × (line ≡ find_line name.now fault)
 
 -- it ended early for this reason, which is true of the input or of the output, and what was printed by then was appended

@@ -13,7 +13,8 @@ pub mod Guesses
 pub mod Headings
 pub mod Inputs
 pub mod Items
-pub mod JsonLines
+pub mod JsonEnds
+pub mod JsonValues
 pub mod Masks
 pub mod Messages
 pub mod Misreadings

@@ -1,14 +1,15 @@
-//! Lines of JSON, each of which is a message, printed as the messages that they are.
+//! Values of JSON, one after the other, printed as the messages that they are.
 
 ghost use Rattle.std.specs.Prelude.{◌≡◌, ◌↔◌, ◌+◌, ◌<◌, ◌^◌, false, IsTrue, IfSome, None, IfOk, IfErr, OnOk};
 ghost use Rattle.kmip_ttlv_types.specs.Held.{held, Gets, Says};
 ghost use Rattle.kmip_ttlv_json.specs.Readings.{error_offset};
 ghost use Rattle.ttlv_run.specs.Reasons.{IsOfPrinting, PrintsFront};
-ghost use Rattle.ttlv_run.specs.JsonLines.{message_output, IsBlank, Prints, Spoils, PrintsBytes, FailsAt, line_fault, fault_at, bad_line, RespondsJson};
+ghost use Rattle.ttlv_run.specs.JsonValues.{message_output, IsBlank, Prints, Spoils, PrintsBytes, FailsAt, value_fault, fault_at, bad_line, RespondsJson};
 ghost use Rattle.ttlv_run.specs.Runs.{streams};
 
-use crate::back::{behind, line_at};
+use crate::back::behind;
 use crate::guess::unmarked;
+use crate::json_ends::{First, Part, first_value};
 use crate::run::{report, report_place, run_error_of};
 use crate::run_error::RunError;
 use crate::texts::push_hexadecimal;
@@ -19,11 +20,11 @@ use kmip_ttlv_util::Pieces;
 use std::alloc::Allocator;
 use std::str;
 
-/// The first line that is not the JSON of a message.
+/// The first value that is not the JSON of a message.
 #[derive(Clone, Copy, Debug, PartialEq, Eq)]
-pub struct LineFault {
-    /// Where the line begins, in bytes from the input's first.
-    pub line: usize,
+pub struct ValueFault {
+    /// Where the value begins, in bytes from the input's first: behind the one before, and a line feed that ends that.
+    pub value: usize,
     /// Where it is wrong, likewise.
     pub offset: usize,
     /// What is wrong with it.
@@ -75,18 +76,18 @@ fn is_blank(text: &[u8]) -> bool
     text.iter().all(|b| *b == b' ' || *b == b'\t' || *b == b'\n' || *b == b'\r')
 }
 
-// Prints the message that a line is, behind its mark, and gives why it is none, with the offset in the line.
-fn print_line<A: Allocator + Copy, W: Sink>(
+// Prints the message that a value is, behind its mark, and gives why it is none, with the offset in the value.
+fn print_text<A: Allocator + Copy, W: Sink>(
     heap: A,
     raw: bool,
-    line: &str,
+    value: &str,
     output: &mut W,
 ) -> Result<Option<JsonError>, RunError>
-    ensures ok { IfOk result (Prints raw line.now (held W.emitted W.room output.old) (held W.emitted W.room output.new)) }
+    ensures ok { IfOk result (Prints raw value.now (held W.emitted W.room output.old) (held W.emitted W.room output.new)) }
     ensures why { IfErr result IsOfPrinting }
-    ensures err { IfErr result (λ why. Spoils raw why line.now (held W.emitted W.room output.old) (held W.emitted W.room output.new)) }
+    ensures err { IfErr result (λ why. Spoils raw why value.now (held W.emitted W.room output.old) (held W.emitted W.room output.new)) }
 {
-    let text = unmarked(line);
+    let text = unmarked(value);
     if is_blank(text.as_bytes()) {
         return Ok(None);
     }
@@ -96,88 +97,98 @@ fn print_line<A: Allocator + Copy, W: Sink>(
             Ok(None)
         }
         Err(JsonError::OutOfMemory) => Err(RunError::NoMemory),
-        Err(error) => Ok(Some(error.moved(line.len() - text.len()))),
+        Err(error) => Ok(Some(error.moved(value.len() - text.len()))),
     }
 }
 
-// Prints the message that the bytes of a line are, and gives why they are none.
+// Prints the message that the bytes of a value are, and gives why they are none.
 fn print_bytes<A: Allocator + Copy, W: Sink>(
     heap: A,
     raw: bool,
-    line: &[u8],
+    value: &[u8],
     output: &mut W,
 ) -> Result<Option<JsonError>, RunError>
-    ensures ok { IfOk result (PrintsBytes raw line.now (held W.emitted W.room output.old) (held W.emitted W.room output.new)) }
-    ensures err { IfErr result (FailsAt raw line.now (held W.emitted W.room output.old) (held W.emitted W.room output.new)) }
+    ensures ok { IfOk result (PrintsBytes raw value.now (held W.emitted W.room output.old) (held W.emitted W.room output.new)) }
+    ensures err { IfErr result (FailsAt raw value.now (held W.emitted W.room output.old) (held W.emitted W.room output.new)) }
 {
-    let Ok(text) = str::from_utf8(line) else {
+    let Ok(text) = str::from_utf8(value) else {
         return Err(RunError::NotUtf8);
     };
-    print_line(heap, raw, text, output)
+    print_text(heap, raw, text, output)
 }
 
-// The fault of a line that begins at an offset, for this reason.
-fn line_fault(line: usize, error: JsonError) -> LineFault
-    requires { line + error_offset error < 2 ^ 64 }
-    ensures { result ≡ line_fault line error }
+// The fault of a value that begins at an offset, for this reason.
+fn value_fault(value: usize, error: JsonError) -> ValueFault
+    requires { value + error_offset error < 2 ^ 64 }
+    ensures { result ≡ value_fault value error }
 {
-    LineFault {
-        line,
-        offset: line + error.offset(),
+    ValueFault {
+        value,
+        offset: value + error.offset(),
         error,
     }
 }
 
-// The fault of such a line, if it has one.
-fn fault_at(line: usize, error: Option<JsonError>) -> Option<LineFault>
-    requires { IfSome error (λ e. line + error_offset e < 2 ^ 64) }
-    ensures { result ≡ fault_at line error }
+// The fault of such a value, if it has one.
+fn fault_at(value: usize, error: Option<JsonError>) -> Option<ValueFault>
+    requires { IfSome error (λ e. value + error_offset e < 2 ^ 64) }
+    ensures { result ≡ fault_at value error }
 {
     match error {
-        Some(error) => Some(line_fault(line, error)),
+        Some(error) => Some(value_fault(value, error)),
         None => None,
     }
 }
 
-/// Prints the messages that the lines of an input are, each when it is there, and gives the first line that is none.
+/// Prints the messages that the values of an input are, each when it is there, and gives the first value that is none.
 pub(crate) fn read_json<A: Allocator + Copy, R: Source, W: Sink>(
     heap: A,
     raw: bool,
     input: &mut R,
     output: &mut W,
-) -> Result<Option<LineFault>, RunError>
+) -> Result<Option<ValueFault>, RunError>
     ensures { RespondsJson raw
         (streams R.can_fail (R.left input.old) (R.left input.new) (held W.emitted W.room output.old) (held W.emitted W.room output.new)) result }
 {
     let mut window = Window::new(heap);
     let mut base = 0;
     let mut at = 0;
+    let mut seen = 0;
+    let mut part = Part::Front;
     let mut ended = false;
-    'lines: loop {
+    'values: loop {
         let buffered = window.buffered();
         if usize::MAX - base < buffered.len() {
             return Err(RunError::NoMemory);
         }
-        if let Some(line) = line_at(buffered, at) {
-            if let Some(error) = print_bytes(heap, raw, line, output)? {
-                return Ok(Some(line_fault(base + at, error)));
+        let rest = behind(buffered, at);
+        match first_value(rest, seen, part) {
+            First::Whole { value, size } => {
+                if let Some(error) = print_bytes(heap, raw, value, output)? {
+                    return Ok(Some(value_fault(base + at, error)));
+                }
+                at += size;
+                seen = 0;
+                part = Part::Front;
             }
-            at += line.len() + 1;
-            continue;
+            First::Open { part: reached } => {
+                if ended {
+                    let error = print_bytes(heap, raw, rest, output)?;
+                    return Ok(fault_at(base + at, error));
+                }
+                seen = rest.len();
+                part = reached;
+                window.discard(at);
+                base += at;
+                at = 0;
+                ended = window.read_piece(input)? == 0;
+            }
         }
-        if ended {
-            let error = print_bytes(heap, raw, behind(buffered, at), output)?;
-            return Ok(fault_at(base + at, error));
-        }
-        window.discard(at);
-        base += at;
-        at = 0;
-        ended = window.read_lines(input)?;
     }
 }
 
-/// Writes the line that says where a line is no message and why, as far as it can be written. It takes no memory.
-pub(crate) fn report_line_fault<E: Sink>(errors: &mut E, name: &str, fault: LineFault)
+/// Writes the line that says where a value is no message and why, as far as it can be written. It takes no memory.
+pub(crate) fn report_value_fault<E: Sink>(errors: &mut E, name: &str, fault: ValueFault)
     ensures { Says (held E.emitted E.room errors.old) (held E.emitted E.room errors.new) (bad_line name.now fault) }
 {
     let writable = report_place(errors, name, Some(fault.offset));

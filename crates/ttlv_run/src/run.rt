@@ -20,7 +20,7 @@ use crate::coding::{encoding_of, form_of, front_size, port_of};
 use crate::digits::print_digits;
 use crate::escape::{NameSink, push_text};
 use crate::find::{find_messages, report_find_fault};
-use crate::from_json::{read_json, report_line_fault};
+use crate::from_json::{read_json, report_value_fault};
 use crate::job::{Asked, Encoding, Job, Names, Task};
 use crate::memory::Memory;
 use crate::messages::{Place, Reached, fault_line, print_all, wants_message};
@@ -388,7 +388,7 @@ fn respond<A: Allocator + Copy, B: Allocator + Copy, R: Source, W: Sink, E: Sink
             let Some(fault) = read_json(memory.input, raw, input, output)? else {
                 return Ok(true);
             };
-            report_line_fault(errors, name, fault);
+            report_value_fault(errors, name, fault);
             Ok(false)
         }
         Asked::Find { look } => {

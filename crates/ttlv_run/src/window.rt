@@ -143,12 +143,23 @@ impl<A: Allocator> Window<A> {
         self.read_behind(input, room)
     }
 
-    // For how many bytes room is made behind a line whose end isn't known: a piece, or a quarter of what is there, so that what is
+    // For how many bytes room is made behind a line or a value whose end isn't known: a piece, or a quarter of what is there, so that what is
     // there is moved a few times at most, however long the line gets.
     fn room_for_line(&self) -> usize
         ensures { 0 < result }
     {
         PIECE.max(self.count / 4)
+    }
+
+    /// Reads once, behind the bytes that are there and are part of a value that goes on; gives how many came: none at the input's end.
+    pub fn read_piece<R: Source>(&mut self, input: &mut R) -> Result<usize, RunError>
+        ensures ok { IfOk result (YieldsBy (R.left input.old) (R.left input.new) (window_bytes self.old) (window_bytes self.new)) }
+        ensures why { IfErr result (IsUnread R.can_fail) }
+        ensures err { OnErr result (Keeps (R.left input.old) (R.left input.new)) }
+        ensures same { OnErr result (window_bytes self.new ≡ window_bytes self.old) }
+    {
+        let room = self.room_for_line();
+        self.read_behind(input, room)
     }
 
     /// Reads until a line feed came or the input ended; returns whether it did.

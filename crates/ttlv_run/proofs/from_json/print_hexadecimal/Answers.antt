@@ -2,7 +2,7 @@ use Rattle.std.proofs.Common.{rules, ◌≡◌, List, ℕ, refl, subst}
 use Rattle.kmip_ttlv_types.specs.Held.{held, Gets}
 use Rattle.kmip_ttlv_util.specs.Pieces.{SomeText, WritesFront, Moves, MovesFront, buffered}
 use Rattle.kmip_ttlv_util.proofs.Saying.{closed_lent, lent_buffer, ok_text, err_text}
-use Rattle.ttlv_run.specs.{JsonLines.message_output, Reasons.PrintsFront}
+use Rattle.ttlv_run.specs.{JsonValues.message_output, Reasons.PrintsFront}
 use Rattle.ttlv_run.proofs.{Printing.printed_text}
 use Rattle.std.specs.Prelude.{false}
 use Rattle.ttlv_run.proofs.from_json.print_hexadecimal.Goals as goal

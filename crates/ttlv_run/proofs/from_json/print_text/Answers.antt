@@ -3,20 +3,20 @@ use Rattle.kmip_ttlv_types.proofs.Held.{gets_none}
 use Rattle.kmip_ttlv_json.specs.Readings.{IsReadAs, FailsToRead, error_offset, moved}
 use Rattle.kmip_ttlv_json.specs.declared.failure.JsonError.{JsonError}
 use Rattle.kmip_ttlv_json.specs.declared.failure.JsonError.TheVariants.{NotJson, TooDeep, NotItem, NotStructure, TooLong, OutOfMemory}
-use Rattle.ttlv_run.specs.{Columns.body, Columns.mark_length, JsonLines.IsBlank, JsonLines.message_output}
+use Rattle.ttlv_run.specs.{Columns.body, Columns.mark_length, JsonValues.IsBlank, JsonValues.message_output}
 use Rattle.std.proofs.lemmas.{Bool.true≢false, Result.err_from_is_err_and}
-use Rattle.ttlv_run.proofs.from_json.print_line.Goals as goal
+use Rattle.ttlv_run.proofs.from_json.print_text.Goals as goal
 
 pub returns-then-is_blank-clause-ok : goal.returns-then-is_blank-clause-ok
 returns-then-is_blank-clause-ok g c =
-    let blank : IsBlank (body c.args.line.now) =
+    let blank : IsBlank (body c.args.value.now) =
     subst IsBlank (c.as_bytes.ensures.value ∙ c.unmarked-text.ensures.is) (c.is_blank.ensures.0 c.if-is_blank.true) in
     ([], inl (blank, refl), gets_none _)
 
 pub returns-in_err-print_message-in-Ok-clause-err : goal.returns-in_err-print_message-in-Ok-clause-err
 returns-in_err-print_message-in-Ok-clause-err g c =
     let m = c.as_slice.result.now in
-    let read : IsReadAs (body c.args.line.now) m =
+    let read : IsReadAs (body c.args.value.now) m =
     subst (λ (s : List ℕ). IsReadAs s m) c.unmarked-text.ensures.is
     (subst (λ (t : List ℕ). IsReadAs c.unmarked-text.result.now t) (sym c.as_slice.ensures.value) c.in-Ok.ensures.ok) in
     let y = err_from_is_err_and c.from_residual.result c.from_residual.ensures.1 in
@@ -42,7 +42,7 @@ moved_reported count (TooLong offset) ne = λ is. absurd (cc)
 pub returns-in-Err-clause-ok : goal.returns-in-Err-clause-ok
 returns-in-Err-clause-ok g c =
     let is = c.unmarked-text.ensures.is in
-    let line = c.args.line.now in
+    let line = c.args.value.now in
     let text = c.unmarked-text.result.now in
     let e = c.in-Err.error in
     let some : IsBlank (body line) → ⊥ =
