@@ -20,6 +20,7 @@ exchanged S T N q r (Err (failures.OtherVersion x)) s t j = record { response = 
 exchanged S T N q r (Err (failures.Unasked x)) s t j = record { response = r; sent = s; came = t; judged = j }
 exchanged S T N q r (Err (failures.OtherPayload p)) s t j = absurd j
 exchanged S T N q r (Err failures.NoCommonVersion) s t j = absurd j
+exchanged S T N q r (Err (failures.BadAttributes e)) s t j = absurd j
 
 -- what is judged to answer answers
 pub answers_of : {A : Type 0} (request : Request A) (response : Response A) (result : Result (Response A) (Failure A)) → IsJudged request response result

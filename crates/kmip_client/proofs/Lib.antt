@@ -2,6 +2,7 @@ mod Answering
 mod Refusing
 mod Deciding
 mod Asked
-mod Finding
 mod Versions
 mod Exchanging
+mod Tagging
+pub mod Widening

@@ -49,6 +49,7 @@ Says item (Err (failures.Miscounted r)) = ⊥
 Says item (Err (failures.OtherVersion r)) = ⊥
 Says item (Err (failures.Unasked r)) = ⊥
 Says item (Err failures.NoCommonVersion) = ⊥
+Says item (Err (failures.BadAttributes e)) = ⊥
 
 -- such a request was answered, and the one item of the response says this
 pub record Answered {A : Type 0} (Exchanges : Request A → Result (Response A) (Failure A) → Type 0) (IsRequest : Request A → Type 0)

@@ -21,6 +21,7 @@ IsJudged request response (Err (failures.Sending e)) = ⊥
 IsJudged request response (Err (failures.Receiving e)) = ⊥
 IsJudged request response (Err (failures.OtherPayload p)) = ⊥
 IsJudged request response (Err failures.NoCommonVersion) = ⊥
+IsJudged request response (Err (failures.BadAttributes e)) = ⊥
 
 -- a request was sent, and a response to it came, for which this is returned
 pub record Came {A : Type 0} (Sends : Result (Unit {0}) (Error A) → Type 0) (Takes : Result (Response A) (Error A) → Type 0) (request : Request A)
@@ -43,3 +44,4 @@ Exchanged Sends Takes TakesNothing request (Err (failures.OtherVersion r)) = Cam
 Exchanged Sends Takes TakesNothing request (Err (failures.Unasked r)) = Came Sends Takes request (Err (failures.Unasked r))
 Exchanged Sends Takes TakesNothing request (Err (failures.OtherPayload p)) = ⊥
 Exchanged Sends Takes TakesNothing request (Err failures.NoCommonVersion) = ⊥
+Exchanged Sends Takes TakesNothing request (Err (failures.BadAttributes e)) = ⊥

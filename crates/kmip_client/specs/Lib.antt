@@ -1,6 +1,5 @@
 pub mod Answers
 pub mod Asking
-pub mod Attributes
 pub mod Calling
 pub mod Exchanges
 pub mod Negotiation

@@ -34,6 +34,7 @@ IsOfFirst (failures.OtherVersion r) = ⊥
 IsOfFirst (failures.Unasked r) = ⊥
 IsOfFirst (failures.OtherPayload p) = ⊥
 IsOfFirst failures.NoCommonVersion = ⊥
+IsOfFirst (failures.BadAttributes e) = ⊥
 
 -- which version is chosen by what Discover Versions gave: the first that both have; or 1.0, if the client has it, of a server that refused like one of it
 abbrev pub Chooses : {A : Type 0} → List ProtocolVersion → Result (DiscoverVersionsResponse A) (Failure A) → Result ProtocolVersion (Failure A) → Type 0

@@ -50,6 +50,8 @@ pub enum Failure<A: Allocator = Global> {
     Unasked(Response<A>),
     /// The server says that the operation is done, and what it gives is no payload of that operation's type: none, or this one.
     OtherPayload(Option<ResponsePayload<A>>),
+    /// The server gave attributes by their tags, and they aren't what their tags say (`kmip_attribute_set`), or memory ran out over them.
+    BadAttributes(Error<A>),
     /// The server has none of the client's versions.
     NoCommonVersion,
 }

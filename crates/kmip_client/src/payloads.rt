@@ -1,10 +1,12 @@
 //! What requests ask for, in few words.
 
-ghost use Rattle.std.specs.Prelude.{◌≡◌, IfOk, map, string_bytes};
-ghost use Rattle.kmip_client.specs.Payloads.{IsCreate, IsDiscover, IsGet, IsGetAttributes, IsLocate};
-ghost use Rattle.kmip_client.specs.Payloads.{IsObject, IsQuery, IsRegisterBoxed, IsRevoke, IsTemplate, IsText};
+ghost use Rattle.std.specs.Prelude.{◌≡◌, IfOk, MatchResult, map, string_bytes};
+ghost use Rattle.kmip_client.specs.Payloads.{AreTagged, CantKeep, CantRefer, CantTag, HasTemplate, IsCreate, IsDiscover, IsGet, IsGetAttributes};
+ghost use Rattle.kmip_client.specs.Payloads.{IsLocateBy, IsObject, IsQuery, IsRegisterBoxed, IsRevoke, IsText, is_by_tags, named};
 
-use crate::attributes::uninterpreted_name;
+use kmip_attribute_set::attributes::Attributes;
+use kmip_attribute_set::references::references;
+use kmip_attribute_set::tags::Tagged;
 use kmip_messages::attribute::Attribute;
 use kmip_messages::header::ProtocolVersion;
 use kmip_messages::key::KeyBlock;
@@ -16,6 +18,7 @@ use kmip_messages::request_payload::{
 };
 use kmip_messages::template::TemplateAttribute;
 use kmip_messages::values::{RevocationReasonCode, object_type};
+use kmip_ttlv_base::error::Error;
 use kmip_ttlv_parts::{Boxed, Kept};
 use std::alloc::{AllocError, Allocator};
 
@@ -64,15 +67,32 @@ fn texts_of<A: Allocator + Copy>(alloc: A, texts: &[&str]) -> Result<Vec<String<
     Ok(all)
 }
 
-/// To get these attributes of the object of this identifier.
+// Whether messages of a version have attributes by their tags: from 2.0 on.
+fn is_by_tags(version: ProtocolVersion) -> bool
+    ensures { result ≡ is_by_tags version }
+{
+    1 < version.major
+}
+
+/// To get these attributes of the object of this identifier: by their names, or from KMIP 2.0 on by references to their tags.
 pub fn get_attributes<A: Allocator + Copy>(
     alloc: A,
+    version: ProtocolVersion,
     identifier: &str,
     names: &[&str],
-) -> Result<GetAttributesRequest<A>, AllocError>
-    ensures { IfOk result (IsGetAttributes identifier.now (map (λ t. t.now) names.now)) }
+) -> Result<GetAttributesRequest<A>, Error<A>>
+    ensures { MatchResult result
+        (IsGetAttributes ⟦<Attributes<A> as Tagged<A>>⟧.IsTagged version identifier.now (map (λ t. t.now) names.now)) (CantRefer version) }
 {
     let unique_identifier = text_of(alloc, identifier)?;
+    if is_by_tags(version) {
+        let other_items = references(alloc, names)?;
+        return Ok(GetAttributesRequest {
+            unique_identifier,
+            attribute_names: Vec::new(alloc),
+            other_items,
+        });
+    }
     let attribute_names = texts_of(alloc, names)?;
     Ok(GetAttributesRequest {
         unique_identifier,
@@ -120,62 +140,112 @@ pub fn discover<A: Allocator + Copy>(
     Ok(DiscoverVersionsRequest { versions })
 }
 
-/// To find the objects of this name.
-pub fn locate<A: Allocator + Copy>(alloc: A, name: &str) -> Result<LocateRequest<A>, AllocError>
-    ensures { IfOk result (IsLocate name.now) }
+// These attributes as items under their tags, from KMIP 2.0 on.
+fn tagged<A: Allocator + Copy>(
+    alloc: A,
+    version: ProtocolVersion,
+    given: &Attributes<A>,
+) -> Result<Option<Kept<A>>, Error<A>>
+    ensures { MatchResult result (AreTagged ⟦<Attributes<A> as Tagged<A>>⟧.IsTagged version given.now)
+        (CantTag ⟦<Attributes<A> as Tagged<A>>⟧.IsTagged version given.now) }
 {
-    let name = uninterpreted_name(alloc, name)?;
-    let mut attributes = Vec::new(alloc);
-    attributes.push(name)?;
+    if !is_by_tags(version) {
+        return Ok(None);
+    }
+    match given.to_tags(alloc) {
+        Ok(items) => Ok(Some(items)),
+        Err(error) => Err(error),
+    }
+}
+
+// These attributes by their names, up to KMIP 1.4.
+fn named<A: Allocator + Copy>(
+    alloc: A,
+    version: ProtocolVersion,
+    given: Attributes<A>,
+) -> Vec<Attribute<A>, A>
+    ensures { result.items ≡ named version given }
+{
+    if is_by_tags(version) {
+        Vec::new(alloc)
+    } else {
+        given.list
+    }
+}
+
+// These attributes in a template, up to KMIP 1.4.
+fn template<A: Allocator + Copy>(
+    alloc: A,
+    version: ProtocolVersion,
+    given: Attributes<A>,
+) -> Option<TemplateAttribute<A>>
+    ensures { HasTemplate version given result }
+{
+    if is_by_tags(version) {
+        None
+    } else {
+        Some(TemplateAttribute {
+            names: Vec::new(alloc),
+            attributes: given.list,
+        })
+    }
+}
+
+/// To find the objects that have all these attributes.
+pub fn locate_by<A: Allocator + Copy>(
+    alloc: A,
+    version: ProtocolVersion,
+    given: Attributes<A>,
+) -> Result<LocateRequest<A>, Error<A>>
+    ensures { MatchResult result (IsLocateBy ⟦<Attributes<A> as Tagged<A>>⟧.IsTagged version given)
+        (CantTag ⟦<Attributes<A> as Tagged<A>>⟧.IsTagged version given) }
+{
+    let attributes_by_tag = tagged(alloc, version, &given)?;
     Ok(LocateRequest {
         maximum_items: None,
         offset_items: None,
         storage_status_mask: None,
         object_group_member: None,
-        attributes,
-        attributes_by_tag: None,
+        attributes: named(alloc, version, given),
+        attributes_by_tag,
         other_items: Kept::none(alloc),
     })
 }
 
-// These attributes, and no template.
-fn template_of<A: Allocator + Copy>(
-    alloc: A,
-    attributes: Vec<Attribute<A>, A>,
-) -> TemplateAttribute<A>
-    ensures { IsTemplate attributes.items result }
-{
-    let names = Vec::new(alloc);
-    TemplateAttribute { names, attributes }
-}
-
 /// To make a symmetric key with these attributes.
-pub fn create<A: Allocator + Copy>(alloc: A, attributes: Vec<Attribute<A>, A>) -> CreateRequest<A>
-    ensures { IsCreate attributes.items result }
+pub fn create<A: Allocator + Copy>(
+    alloc: A,
+    version: ProtocolVersion,
+    attributes: Attributes<A>,
+) -> Result<CreateRequest<A>, Error<A>>
+    ensures { MatchResult result (IsCreate ⟦<Attributes<A> as Tagged<A>>⟧.IsTagged version attributes)
+        (CantTag ⟦<Attributes<A> as Tagged<A>>⟧.IsTagged version attributes) }
 {
-    let template = template_of(alloc, attributes);
-    CreateRequest {
+    let attributes_by_tag = tagged(alloc, version, &attributes)?;
+    Ok(CreateRequest {
         object_type: object_type::SYMMETRIC_KEY,
-        template_attribute: Some(template),
-        attributes_by_tag: None,
+        template_attribute: template(alloc, version, attributes),
+        attributes_by_tag,
         protection_storage_masks: None,
-    }
+    })
 }
 
 /// To keep this symmetric key, with these attributes.
 pub fn register<A: Allocator + Copy>(
     alloc: A,
+    version: ProtocolVersion,
     key_block: KeyBlock<A>,
-    attributes: Vec<Attribute<A>, A>,
-) -> Result<Boxed<RegisterRequest<A>, A>, AllocError>
-    ensures { IfOk result (IsRegisterBoxed key_block attributes.items) }
+    attributes: Attributes<A>,
+) -> Result<Boxed<RegisterRequest<A>, A>, Error<A>>
+    ensures { MatchResult result (IsRegisterBoxed ⟦<Attributes<A> as Tagged<A>>⟧.IsTagged version key_block attributes)
+        (CantKeep ⟦<Attributes<A> as Tagged<A>>⟧.IsTagged version attributes) }
 {
-    let template = template_of(alloc, attributes);
+    let attributes_by_tag = tagged(alloc, version, &attributes)?;
     let symmetric_key = Boxed::new(alloc, SymmetricKey { key_block })?;
     let request = RegisterRequest {
         object_type: object_type::SYMMETRIC_KEY,
-        template_attribute: Some(template),
-        attributes_by_tag: None,
+        template_attribute: template(alloc, version, attributes),
+        attributes_by_tag,
         certificate: None,
         symmetric_key: Some(symmetric_key),
         public_key: None,

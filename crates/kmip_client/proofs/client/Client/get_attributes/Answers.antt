@@ -1,10 +1,8 @@
-use Rattle.std.proofs.Common.{inl}
-use Rattle.kmip_client.proofs.Asked.{called}
+use Rattle.std.proofs.Common.{Ok, Err, refl}
 use Rattle.kmip_client.proofs.client.Client.get_attributes.Goals as goal
 
-pub returns-in-Ok-GetAttributes-clause-calls : goal.returns-in-Ok-GetAttributes-clause-calls
-returns-in-Ok-GetAttributes-clause-calls g c =
-    called c.in_ok-asked.asked c.in_ok-asked.ensures c.in-Ok-GetAttributes.ensures.asks c.in-Ok-GetAttributes.field-0-is
+pub returns-in-Ok-clause-gets : goal.returns-in-Ok-clause-gets
+returns-in-Ok-clause-gets g c = record { outcome = Ok c.in-Ok.done; calls = c.in-Ok.ensures.calls; takes = c.taken.ensures }
 
-pub returns-in-Err-clause-calls : goal.returns-in-Err-clause-calls
-returns-in-Err-clause-calls g c = inl (record { asked = c.in_ok-asked.asked; is_asked = c.in_ok-asked.ensures; asks = c.in-Err.ensures.asks })
+pub returns-in-Err-clause-gets : goal.returns-in-Err-clause-gets
+returns-in-Err-clause-gets g c = record { outcome = Err c.in-Err.failure; calls = c.in-Err.ensures.calls; takes = refl }

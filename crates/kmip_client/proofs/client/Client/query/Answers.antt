@@ -1,4 +1,4 @@
-use Rattle.std.proofs.Common.{inl}
+use Rattle.std.proofs.Common.{inl, inr, refl, rules}
 use Rattle.kmip_client.proofs.Asked.{called}
 use Rattle.kmip_client.proofs.client.Client.query.Goals as goal
 
@@ -7,3 +7,14 @@ returns-in-Ok-Query-clause-calls g c = called c.in_ok-asked.asked c.in_ok-asked.
 
 pub returns-in-Err-clause-calls : goal.returns-in-Err-clause-calls
 returns-in-Err-clause-calls g c = inl (record { asked = c.in_ok-asked.asked; is_asked = c.in_ok-asked.ensures; asks = c.in-Err.ensures.asks })
+
+pub returns-in-Ok : goal.returns-in-Ok
+returns-in-Ok g c = record {
+  calls = inr (inl (record {
+    payload = c.in-Ok.other;
+    came = record { asked = c.in_ok-asked.asked; is_asked = c.in_ok-asked.ensures; asks = c.in-Ok.ensures.asks };
+    is_other = search rules;
+    failure = refl;
+  }));
+  version = c.in-Ok.ensures.version;
+}
