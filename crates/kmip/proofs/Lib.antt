@@ -1,1 +1,1 @@
-pub mod Widening
+mod Performing

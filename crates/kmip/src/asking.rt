@@ -1,30 +1,32 @@
 //! Asks a server for what a command is about.
 
 ghost use Rattle.std.specs.Prelude.{◌≡◌, ◌≤◌, ◌*◌, [], ◌∷◌, IfOk, Some, length, map, pos};
-ghost use Rattle.kmip_client.specs.Attributes.{AreOfKey};
-ghost use Rattle.kmip_client.specs.Calling.{Calls};
-ghost use Rattle.kmip_client.specs.Payloads.{IsDiscover, IsGet, IsGetAttributes, IsLocate, IsObject, IsQuery, IsRevoke};
-ghost use Rattle.kmip.specs.Commands.{Converses, Gives, IsKeptKey, IsLocateAll, IsNewKey, Negotiates, Performs};
+ghost use Rattle.kmip_attribute_set.specs.Attributes.{AreOfKey};
+ghost use Rattle.kmip_client.specs.Calling.{Calls, CallsUnless};
+ghost use Rattle.kmip_client.specs.Payloads.{CantLocate, CantRefer, GetsAttributes, IsDiscover, IsGet, IsGetAttributes, IsLocate, IsObject, IsQuery};
+ghost use Rattle.kmip_client.specs.Payloads.{IsRevoke};
+ghost use Rattle.kmip.specs.Commands.{CantHave, CantLocateAll, Converses, Gives, IsKeptKey, IsLocateAll, IsNewKey, Negotiates, Performs};
 
 use crate::done::Done;
 use crate::request::{Asked, FIRST_ASKED, NewKey, Request};
-use kmip_client::attributes::of_key;
+use kmip_attribute_set::attributes::Attributes;
+use kmip_attribute_set::building::of_key;
+use kmip_attribute_set::tags::Tagged;
 use kmip_client::client::Client;
 use kmip_client::exchange::Exchange;
 use kmip_client::failure::Failure;
 use kmip_client::keys::raw_key;
-use kmip_messages::attribute::Attribute;
-use kmip_messages::header::{ProtocolVersion, operation};
-use kmip_messages::request_payload::{LocateRequest, RequestPayload, query_function};
+use kmip_messages::header::ProtocolVersion;
+use kmip_messages::request_payload::{RequestPayload, query_function};
 use kmip_messages::response_payload::{
     CreateResponse, LocateResponse, RegisterResponse, ResponsePayload,
 };
 use kmip_messages::values::RevocationReasonCode;
-use kmip_ttlv_parts::Kept;
 use std::alloc::{AllocError, Allocator};
 
 /// The versions that the program speaks, the best first.
-const VERSIONS: [ProtocolVersion; 5] = [
+const VERSIONS: [ProtocolVersion; 6] = [
+    ProtocolVersion { major: 2, minor: 0 },
     ProtocolVersion { major: 1, minor: 4 },
     ProtocolVersion { major: 1, minor: 3 },
     ProtocolVersion { major: 1, minor: 2 },
@@ -66,8 +68,8 @@ fn attributes_of<A: Allocator + Copy>(
     alloc: A,
     key: NewKey<'_>,
     length: i32,
-) -> Result<Vec<Attribute<A>, A>, AllocError>
-    ensures { IfOk result (λ attributes. AreOfKey key.entry.algorithm length key.entry.usage key.entry.name.now attributes.items) }
+) -> Result<Attributes<A>, AllocError>
+    ensures { IfOk result (λ attributes. AreOfKey key.entry.algorithm length key.entry.usage key.entry.name.now attributes.list.items) }
 {
     let attributes = of_key(alloc, key.algorithm, length, key.usage, key.name)?;
     Ok(attributes)
@@ -79,14 +81,12 @@ fn make<C: Exchange<A>, A: Allocator + Copy>(
     key: &NewKey<'_>,
     length: i32,
 ) -> Result<CreateResponse<A>, Failure<A>>
-    ensures { Calls (C.Exchanges client.old.connection client.new.connection) (client.new.connection ≡ client.old.connection) client.old.version 1
-        RequestPayload.Create (IsNewKey key.now length) ResponsePayload.Create result }
+    ensures { CallsUnless (C.Exchanges client.old.connection client.new.connection) (client.new.connection ≡ client.old.connection) client.old.version 1
+        RequestPayload.Create (IsNewKey ⟦<Attributes<A> as Tagged<A>>⟧.IsTagged client.old.version key.now length)
+        (CantHave ⟦<Attributes<A> as Tagged<A>>⟧.IsTagged client.old.version key.now length) ResponsePayload.Create result }
 {
     let attributes = attributes_of(client.alloc, *key, length)?;
-    match client.create(attributes) {
-        Ok(made) => Ok(made),
-        Err(failure) => Err(failure),
-    }
+    client.create(attributes)
 }
 
 fn create<C: Exchange<A>, A: Allocator + Copy>(
@@ -94,8 +94,9 @@ fn create<C: Exchange<A>, A: Allocator + Copy>(
     key: &NewKey<'_>,
     length: i32,
 ) -> Result<Done<A>, Failure<A>>
-    ensures { Gives (Calls (C.Exchanges client.old.connection client.new.connection) (client.new.connection ≡ client.old.connection) client.old.version 1
-        RequestPayload.Create (IsNewKey key.now length) ResponsePayload.Create) Done.Create result }
+    ensures { Gives (CallsUnless (C.Exchanges client.old.connection client.new.connection) (client.new.connection ≡ client.old.connection) client.old.version 1
+        RequestPayload.Create (IsNewKey ⟦<Attributes<A> as Tagged<A>>⟧.IsTagged client.old.version key.now length)
+        (CantHave ⟦<Attributes<A> as Tagged<A>>⟧.IsTagged client.old.version key.now length) ResponsePayload.Create) Done.Create result }
 {
     match make(client, key, length) {
         Ok(made) => Ok(Done::Create(made)),
@@ -118,16 +119,14 @@ fn keep<C: Exchange<A>, A: Allocator + Copy>(
     bytes: &[u8],
 ) -> Result<RegisterResponse<A>, Failure<A>>
     requires { length bytes.now ≤ 65_536 }
-    ensures { Calls (C.Exchanges client.old.connection client.new.connection) (client.new.connection ≡ client.old.connection) client.old.version 3
-        RequestPayload.Register (IsKeptKey key.now bytes.now) ResponsePayload.Register result }
+    ensures { CallsUnless (C.Exchanges client.old.connection client.new.connection) (client.new.connection ≡ client.old.connection) client.old.version 3
+        RequestPayload.Register (IsKeptKey ⟦<Attributes<A> as Tagged<A>>⟧.IsTagged client.old.version key.now bytes.now)
+        (CantHave ⟦<Attributes<A> as Tagged<A>>⟧.IsTagged client.old.version key.now (pos (8 * length bytes.now))) ResponsePayload.Register result }
 {
     let length = bits(bytes);
     let block = raw_key(client.alloc, key.algorithm, length, bytes)?;
     let attributes = attributes_of(client.alloc, *key, length)?;
-    match client.register(block, attributes) {
-        Ok(kept) => Ok(kept),
-        Err(failure) => Err(failure),
-    }
+    client.register(block, attributes)
 }
 
 fn register<C: Exchange<A>, A: Allocator + Copy>(
@@ -136,8 +135,9 @@ fn register<C: Exchange<A>, A: Allocator + Copy>(
     bytes: &[u8],
 ) -> Result<Done<A>, Failure<A>>
     requires { length bytes.now ≤ 65_536 }
-    ensures { Gives (Calls (C.Exchanges client.old.connection client.new.connection) (client.new.connection ≡ client.old.connection) client.old.version 3
-        RequestPayload.Register (IsKeptKey key.now bytes.now) ResponsePayload.Register) Done.Register result }
+    ensures { Gives (CallsUnless (C.Exchanges client.old.connection client.new.connection) (client.new.connection ≡ client.old.connection) client.old.version 3
+        RequestPayload.Register (IsKeptKey ⟦<Attributes<A> as Tagged<A>>⟧.IsTagged client.old.version key.now bytes.now)
+        (CantHave ⟦<Attributes<A> as Tagged<A>>⟧.IsTagged client.old.version key.now (pos (8 * length bytes.now))) ResponsePayload.Register) Done.Register result }
 {
     match keep(client, key, bytes) {
         Ok(kept) => Ok(Done::Register(kept)),
@@ -145,44 +145,25 @@ fn register<C: Exchange<A>, A: Allocator + Copy>(
     }
 }
 
-// To find every object.
-fn every_object<A: Allocator + Copy>(alloc: A) -> LocateRequest<A>
-    ensures { IsLocateAll result }
-{
-    LocateRequest {
-        maximum_items: None,
-        offset_items: None,
-        storage_status_mask: None,
-        object_group_member: None,
-        attributes: Vec::new(alloc),
-        attributes_by_tag: None,
-        other_items: Kept::none(alloc),
-    }
-}
-
 // Every object that the server shows.
 fn locate_all<C: Exchange<A>, A: Allocator + Copy>(
     client: &mut Client<C, A>,
 ) -> Result<LocateResponse<A>, Failure<A>>
-    ensures { Calls (C.Exchanges client.old.connection client.new.connection) (client.new.connection ≡ client.old.connection) client.old.version 8
-        RequestPayload.Locate IsLocateAll ResponsePayload.Locate result }
+    ensures { CallsUnless (C.Exchanges client.old.connection client.new.connection) (client.new.connection ≡ client.old.connection) client.old.version 8
+        RequestPayload.Locate (IsLocateAll ⟦<Attributes<A> as Tagged<A>>⟧.IsTagged client.old.version)
+        (CantLocateAll ⟦<Attributes<A> as Tagged<A>>⟧.IsTagged client.old.version) ResponsePayload.Locate result }
 {
-    let asked = every_object(client.alloc);
-    match client.ask(operation::LOCATE, RequestPayload::Locate(asked)) {
-        Ok(payload) => match payload {
-            ResponsePayload::Locate(found) => Ok(found),
-            other => Err(Failure::OtherPayload(Some(other))),
-        },
-        Err(failure) => Err(failure),
-    }
+    let none = Attributes::new(client.alloc);
+    client.locate_by(none)
 }
 
 fn locate<C: Exchange<A>, A: Allocator + Copy>(
     client: &mut Client<C, A>,
     name: &str,
 ) -> Result<Done<A>, Failure<A>>
-    ensures { Gives (Calls (C.Exchanges client.old.connection client.new.connection) (client.new.connection ≡ client.old.connection) client.old.version 8
-        RequestPayload.Locate (IsLocate name.now) ResponsePayload.Locate) Done.Locate result }
+    ensures { Gives (CallsUnless (C.Exchanges client.old.connection client.new.connection) (client.new.connection ≡ client.old.connection) client.old.version 8
+        RequestPayload.Locate (IsLocate ⟦<Attributes<A> as Tagged<A>>⟧.IsTagged client.old.version name.now)
+        (CantLocate ⟦<Attributes<A> as Tagged<A>>⟧.IsTagged client.old.version name.now) ResponsePayload.Locate) Done.Locate result }
 {
     match client.locate(name) {
         Ok(found) => Ok(Done::Locate(found)),
@@ -193,8 +174,9 @@ fn locate<C: Exchange<A>, A: Allocator + Copy>(
 fn locate_every<C: Exchange<A>, A: Allocator + Copy>(
     client: &mut Client<C, A>,
 ) -> Result<Done<A>, Failure<A>>
-    ensures { Gives (Calls (C.Exchanges client.old.connection client.new.connection) (client.new.connection ≡ client.old.connection) client.old.version 8
-        RequestPayload.Locate IsLocateAll ResponsePayload.Locate) Done.Locate result }
+    ensures { Gives (CallsUnless (C.Exchanges client.old.connection client.new.connection) (client.new.connection ≡ client.old.connection) client.old.version 8
+        RequestPayload.Locate (IsLocateAll ⟦<Attributes<A> as Tagged<A>>⟧.IsTagged client.old.version)
+        (CantLocateAll ⟦<Attributes<A> as Tagged<A>>⟧.IsTagged client.old.version) ResponsePayload.Locate) Done.Locate result }
 {
     match locate_all(client) {
         Ok(found) => Ok(Done::Locate(found)),
@@ -220,8 +202,9 @@ fn attributes<C: Exchange<A>, A: Allocator + Copy>(
     identifier: &str,
     names: &[&str],
 ) -> Result<Done<A>, Failure<A>>
-    ensures { Gives (Calls (C.Exchanges client.old.connection client.new.connection) (client.new.connection ≡ client.old.connection) client.old.version 11
-        RequestPayload.GetAttributes (IsGetAttributes identifier.now (map (λ t. t.now) names.now)) ResponsePayload.GetAttributes) Done.Attributes result }
+    ensures { Gives (GetsAttributes ⟦<Attributes<A> as Tagged<A>>⟧.IsOfTags (CallsUnless (C.Exchanges client.old.connection client.new.connection) (client.new.connection ≡ client.old.connection) client.old.version 11
+        RequestPayload.GetAttributes (IsGetAttributes ⟦<Attributes<A> as Tagged<A>>⟧.IsTagged client.old.version identifier.now (map (λ t. t.now) names.now))
+        (CantRefer client.old.version) ResponsePayload.GetAttributes)) Done.Attributes result }
 {
     match client.get_attributes(identifier, names) {
         Ok(found) => Ok(Done::Attributes(found)),
@@ -277,15 +260,17 @@ pub fn ask<C: Exchange<A>, A: Allocator + Copy>(
     key: &[u8],
 ) -> Result<Done<A>, Failure<A>>
     requires { length key.now ≤ 65_536 }
-    ensures { Performs (C.Exchanges client.old.connection client.new.connection) (client.new.connection ≡ client.old.connection) client.old.version asked.now key.now result }
+    ensures { Performs ⟦<Attributes<A> as Tagged<A>>⟧.IsTagged ⟦<Attributes<A> as Tagged<A>>⟧.IsOfTags (C.Exchanges client.old.connection client.new.connection) (client.new.connection ≡ client.old.connection) client.old.version asked.now key.now result }
 {
     match asked {
         Asked::Query => query(client),
         Asked::Versions => versions(client),
         Asked::Create { key, length } => create(client, key, *length),
         Asked::Register { key: new, .. } => register(client, new, key),
-        Asked::Locate(Some(name)) => locate(client, name),
-        Asked::Locate(None) => locate_every(client),
+        Asked::Locate(sought) => match sought {
+            Some(name) => locate(client, name),
+            None => locate_every(client),
+        },
         Asked::Get(identifier) => get(client, identifier),
         Asked::Attributes { identifier, names } => {
             attributes(client, identifier, names.as_slice())
@@ -303,7 +288,7 @@ fn ask_in_best<C: Exchange<A>, A: Allocator + Copy>(
     key: &[u8],
 ) -> Result<Done<A>, Failure<A>>
     requires { length key.now ≤ 65_536 }
-    ensures { Negotiates C.Exchanges client.old.connection client.new.connection client.old.version asked.now key.now result }
+    ensures { Negotiates ⟦<Attributes<A> as Tagged<A>>⟧.IsTagged ⟦<Attributes<A> as Tagged<A>>⟧.IsOfTags C.Exchanges client.old.connection client.new.connection client.old.version asked.now key.now result }
 {
     match client.negotiate(&VERSIONS) {
         Ok(_) => ask(client, asked, key),
@@ -319,7 +304,7 @@ pub fn converse<C: Exchange<A>, A: Allocator + Copy>(
     key: &[u8],
 ) -> Result<Done<A>, Failure<A>>
     requires { length key.now ≤ 65_536 }
-    ensures { Converses C.Exchanges client.old.connection client.new.connection request.now.version request.now.asked key.now result }
+    ensures { Converses ⟦<Attributes<A> as Tagged<A>>⟧.IsTagged ⟦<Attributes<A> as Tagged<A>>⟧.IsOfTags C.Exchanges client.old.connection client.new.connection request.now.version request.now.asked key.now result }
 {
     match request.version {
         Some(version) => {

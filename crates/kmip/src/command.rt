@@ -16,7 +16,7 @@ goes to standard error. With socat, over TLS:
 Statuses: 0 done; 1 refused, or a response or a file that is no good; 2 usage;
 3 out of memory, or a stream that broke.";
 
-const VERSIONS: [&str; 5] = ["1.4", "1.3", "1.2", "1.1", "1.0"];
+const VERSIONS: [&str; 6] = ["2.0", "1.4", "1.3", "1.2", "1.1", "1.0"];
 
 const REASONS: [&str; 7] = [
     "unspecified",

@@ -3,11 +3,12 @@
 ghost use Rattle.std.specs.Prelude.{option_map};
 ghost use Rattle.kmip.specs.Objects.{IsOfObject};
 
+use kmip_attribute_set::attributes::Attributes;
 use kmip_client::keys::raw_bytes;
 use kmip_messages::object::ManagedObject;
 use kmip_messages::response_payload::{
-    CreateResponse, DiscoverVersionsResponse, GetAttributesResponse, GetResponse, LocateResponse,
-    ObjectResponse, QueryResponse, RegisterResponse,
+    CreateResponse, DiscoverVersionsResponse, GetResponse, LocateResponse, ObjectResponse,
+    QueryResponse, RegisterResponse,
 };
 use kmip_ttlv_parts::Boxed;
 use std::alloc::Allocator;
@@ -28,7 +29,7 @@ pub enum Done<A: Allocator> {
     /// An object.
     Get(Boxed<GetResponse<A>, A>),
     /// What is known of one.
-    Attributes(GetAttributesResponse<A>),
+    Attributes(Attributes<A>),
     /// An object that is in use now.
     Activate(ObjectResponse<A>),
     /// One that is in use no more.

@@ -6,7 +6,7 @@ ghost use Rattle.kmip.specs.Failing.{IsOneOf, Tells, version_words};
 use crate::escape::push_escaped;
 use crate::values::push_named;
 use kmip_client::failure::{Failure, Refusal};
-use kmip_ttlv_base::error::{Error, ErrorKind};
+use kmip_ttlv_base::error::{Error, ErrorKind, SerdeError};
 use std::alloc::{AllocError, Allocator};
 
 /// The status of what a server refuses, and of a response or a file that is no good.
@@ -38,6 +38,12 @@ pub fn push_version<A: Allocator>(
 // What is said of a response of more than `MOST` bytes.
 const TOO_LARGE: &str = "the response has more than 1048576 bytes";
 
+// What is said of a name that is no attribute's from KMIP 2.0 on.
+const NO_TAG: &str = "no attribute of KMIP 2.0 has such a name";
+
+// What is said of attributes by tags that don't decode.
+const BAD_ATTRIBUTE: &str = "an attribute is not what its tag says";
+
 /// Adds a line that says what went wrong, with what, if it isn't empty.
 pub fn push_line<A: Allocator>(
     out: &mut String<A>,
@@ -58,11 +64,21 @@ fn is_broken<A: Allocator>(error: &Error<A>) -> bool {
     matches!(error.kind(), ErrorKind::IoError(_) | ErrorKind::OutOfMemory)
 }
 
+// Whether a request names an attribute that has no tag.
+fn is_untagged<A: Allocator>(error: &Error<A>) -> bool {
+    matches!(
+        error.kind(),
+        ErrorKind::SerdeError(SerdeError::InvalidTag(_))
+    )
+}
+
 /// The status that says why there is no answer.
 pub fn status_of<A: Allocator>(failure: &Failure<A>) -> u8 {
     match failure {
+        Failure::Sending(error) if is_untagged(error) => USAGE,
         Failure::Sending(_) => BROKEN,
         Failure::Receiving(error) if is_broken(error) => BROKEN,
+        Failure::BadAttributes(error) if is_broken(error) => BROKEN,
         _ => FAILED,
     }
 }
@@ -118,6 +134,7 @@ pub fn push_failure<A: Allocator>(
     ensures { OnOk result (Tells failure.now (string_bytes out.old) (string_bytes out.new)) }
 {
     match failure {
+        Failure::Sending(error) if is_untagged(error) => out.push_str(NO_TAG),
         Failure::Sending(error) => push_error(
             out,
             "the request can't be written",
@@ -138,6 +155,7 @@ pub fn push_failure<A: Allocator>(
         }
         Failure::Unasked(_) => out.push_str("the response answers something else"),
         Failure::OtherPayload(_) => out.push_str("the response lacks what was asked for"),
-        Failure::NoCommonVersion => out.push_str("the server has none of the versions 1.0 to 1.4"),
+        Failure::BadAttributes(error) => push_error(out, BAD_ATTRIBUTE, BAD_ATTRIBUTE, error),
+        Failure::NoCommonVersion => out.push_str("the server has none of the versions 1.0 to 2.0"),
     }
 }

@@ -1,4 +1,4 @@
-//! `kmip`, a client of KMIP 1.0 to 1.4 for the command line. It opens no connection itself: requests go to standard output, responses come
+//! `kmip`, a client of KMIP 1.0 to 2.0 for the command line. It opens no connection itself: requests go to standard output, responses come
 //! on standard input, and what it finds goes to standard error. `socat` or `stunnel` gives it TLS.
 //!
 //! Here are the words of the command line, the files and the streams of the process. `command` has the commands and their options,

@@ -144,14 +144,15 @@ fn version_of(matches: &ArgMatches<'_>, asked: &Asked<'_>) -> Option<ProtocolVer
             _ => None,
         };
     };
-    let minor = match word {
-        "1.0" => 0,
-        "1.1" => 1,
-        "1.2" => 2,
-        "1.3" => 3,
-        _ => 4,
+    let (major, minor) = match word {
+        "1.0" => (1, 0),
+        "1.1" => (1, 1),
+        "1.2" => (1, 2),
+        "1.3" => (1, 3),
+        "1.4" => (1, 4),
+        _ => (2, 0),
     };
-    Some(ProtocolVersion { major: 1, minor })
+    Some(ProtocolVersion { major, minor })
 }
 
 fn names_of<'w>(alloc: Global, matches: &ArgMatches<'w>) -> Result<Vec<&'w str>, AllocError> {

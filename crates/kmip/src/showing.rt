@@ -247,7 +247,7 @@ pub fn push_done<A: Allocator + Copy>(
         ) => push_new(alloc, out, unique_identifier, template_attribute),
         Done::Locate(found) => push_identifiers(out, found.unique_identifiers.as_slice()),
         Done::Get(found) => push_object(out, &found),
-        Done::Attributes(known) => push_attributes(alloc, out, known.attributes),
+        Done::Attributes(known) => push_attributes(alloc, out, known.list),
         Done::Activate(done) | Done::Revoke(done) | Done::Destroy(done) => push_text(
             out,
             done.unique_identifier.as_str(),

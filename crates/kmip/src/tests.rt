@@ -10,7 +10,7 @@ use kmip_client::connection::Connection;
 use kmip_messages::values::cryptographic_algorithm;
 use kmip_ttlv_memory::BoundedAllocator;
 use kmip_ttlv_types::stream::{MemoryCursor, MemorySink, MemorySource, Sink, Source};
-use std::alloc::{Allocator, Global};
+use std::alloc::{AllocError, Allocator, Global};
 use std::io::Cursor;
 use std::test::Fail;
 
@@ -26,22 +26,44 @@ const ATTRIBUTES: &str =
 const MADE: &str =
     "42007B01000000A842007A0100000048420069010000002042006A0200000004000000010000000042006B020000000400000001000000004200920900000008000000005D77AA4042000D0200000004000000010000000042000F010000005042005C05000000040000001E0000000042007F0500000004000000000000000042007C0100000028420069010000002042006A0200000004000000010000000042006B0200000004000000020000000042007B01000000A042007A0100000048420069010000002042006A0200000004000000010000000042006B020000000400000002000000004200920900000008000000005D77AA4042000D0200000004000000010000000042000F010000004842005C0500000004000000010000000042007F0500000004000000000000000042007C010000002042005705000000040000000200000000420094070000000469642D3100000000";
 
-const COMMANDS: [(&str, &str); 3] = [
+// A server that has KMIP 2.0, and gives attributes by their tags.
+const ATTRIBUTES_BY_TAG: &str =
+    "42007B01000000D042007A0100000048420069010000002042006A0200000004000000010000000042006B020000000400000001000000004200920900000008000000005D77AA4042000D0200000004000000010000000042000F010000007842005C05000000040000001E0000000042007F0500000004000000000000000042007C0100000050420069010000002042006A0200000004000000020000000042006B02000000040000000000000000420069010000002042006A0200000004000000010000000042006B0200000004000000020000000042007B01000000E842007A0100000048420069010000002042006A0200000004000000020000000042006B020000000400000000000000004200920900000008000000005D77AA4042000D0200000004000000010000000042000F010000009042005C05000000040000000B0000000042007F0500000004000000000000000042007C0100000068420094070000000469642D3100000000420125010000005042008D0500000004000000020000000042005301000000204200550700000002611B00000000000042005405000000040000000100000000420034010000001042003805000000040000000600000000";
+
+// The same, and makes a key.
+const MADE_BY_TAG: &str =
+    "42007B01000000A842007A0100000048420069010000002042006A0200000004000000010000000042006B020000000400000001000000004200920900000008000000005D77AA4042000D0200000004000000010000000042000F010000005042005C05000000040000001E0000000042007F0500000004000000000000000042007C0100000028420069010000002042006A0200000004000000020000000042006B0200000004000000000000000042007B01000000A042007A0100000048420069010000002042006A0200000004000000020000000042006B020000000400000000000000004200920900000008000000005D77AA4042000D0200000004000000010000000042000F010000004842005C0500000004000000010000000042007F0500000004000000000000000042007C010000002042005705000000040000000200000000420094070000000469642D3100000000";
+
+const COMMANDS: [(&str, &str); 5] = [
     (KEY, "000102030405060708090A0B0C0D0E0F\n"),
     (
         ATTRIBUTES,
         "State: Active\nName[1]: a\\u{1b}\nDigest: Hashing Algorithm SHA-256\n",
     ),
     (MADE, "id-1\n"),
+    (
+        ATTRIBUTES_BY_TAG,
+        "State: Active\nName: a\\u{1b}\nDigest: Hashing Algorithm SHA-256\n",
+    ),
+    (MADE_BY_TAG, "id-1\n"),
 ];
 
+// The names of attributes that are asked for.
+fn names<'w>(alloc: Global) -> Result<Vec<&'w str>, AllocError> {
+    let mut names = Vec::new(alloc);
+    for name in ["State", "Name", "Digest"] {
+        names.push(name)?;
+    }
+    Ok(names)
+}
+
 // The request of a row.
-fn request<'w>(alloc: Global, at: usize) -> Request<'w> {
+fn request<'w>(alloc: Global, at: usize) -> Result<Request<'w>, AllocError> {
     let asked = match at {
         0 => Asked::Get("id-1"),
-        1 => Asked::Attributes {
+        1 | 3 => Asked::Attributes {
             identifier: "id-1",
-            names: Vec::new(alloc),
+            names: names(alloc)?,
         },
         _ => Asked::Create {
             key: NewKey {
@@ -52,11 +74,11 @@ fn request<'w>(alloc: Global, at: usize) -> Request<'w> {
             length: 256,
         },
     };
-    Request {
+    Ok(Request {
         asked,
         version: None,
         output: None,
-    }
+    })
 }
 
 // What a command prints, or its status if it fails.
@@ -96,13 +118,14 @@ fn with_memory(
     bytes: &[u8],
     wanted: &str,
     before: u64,
-) -> (bool, bool) {
+) -> Result<(bool, bool), AllocError> {
+    let request = request(rt.alloc(), at)?;
     let memory = BoundedAllocator::failing_after(rt.alloc(), before);
     let reader = MemorySource(bytes);
     let writer = MemorySink(Vec::new(rt.alloc()));
-    let outcome = said(&memory, &request(rt.alloc(), at), reader, writer);
+    let outcome = said(&memory, &request, reader, writer);
     let has_failed = memory.has_failed();
-    (is_said(&outcome, wanted, has_failed), has_failed)
+    Ok((is_said(&outcome, wanted, has_failed), has_failed))
 }
 
 #[test]
@@ -110,7 +133,7 @@ fn memory_runs_out(rt: HostRuntime) -> Result<(), Fail> {
     for (at, (bytes, wanted)) in COMMANDS.iter().enumerate() {
         let bytes = hex::decode(rt.alloc(), *bytes)?;
         for before in 0..200 {
-            let (is_right, has_failed) = with_memory(&rt, at, bytes.as_slice(), wanted, before);
+            let (is_right, has_failed) = with_memory(&rt, at, bytes.as_slice(), wanted, before)?;
             assert!(rt; is_right, "row {at}, growth {before}");
             assert!(rt;
                 if has_failed { before < 199 } else { before > 9 },
@@ -125,10 +148,11 @@ fn memory_runs_out(rt: HostRuntime) -> Result<(), Fail> {
 fn inputs_end(rt: HostRuntime) -> Result<(), Fail> {
     let bytes = hex::decode(rt.alloc(), KEY)?;
     let wanted = COMMANDS[0].1;
+    let request = request(rt.alloc(), 0)?;
     for end in 0..=bytes.len() {
         let reader = MemorySource(&bytes[..end]);
         let writer = MemorySink(Vec::new(rt.alloc()));
-        let outcome = said(rt.alloc(), &request(rt.alloc(), 0), reader, writer);
+        let outcome = said(rt.alloc(), &request, reader, writer);
         assert!(rt;
             is_said(&outcome, wanted, end < bytes.len()),
             "an input of {end} bytes"
@@ -138,17 +162,18 @@ fn inputs_end(rt: HostRuntime) -> Result<(), Fail> {
 }
 
 // The bytes of the two requests: which versions there are, and for the key.
-const ASKED: usize = 424;
+const ASKED: usize = 464;
 
 #[test]
 fn outputs_are_full(rt: HostRuntime) -> Result<(), Fail> {
     let bytes = hex::decode(rt.alloc(), KEY)?;
     let wanted = COMMANDS[0].1;
+    let request = request(rt.alloc(), 0)?;
     let mut room = [0u8; ASKED];
     for end in 0..=ASKED {
         let reader = MemorySource(bytes.as_slice());
         let writer = MemoryCursor(Cursor::new(&mut room[..end]));
-        let outcome = said(rt.alloc(), &request(rt.alloc(), 0), reader, writer);
+        let outcome = said(rt.alloc(), &request, reader, writer);
         assert!(rt;
             is_said(&outcome, wanted, end < ASKED),
             "an output of {end} bytes"

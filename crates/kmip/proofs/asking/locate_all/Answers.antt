@@ -1,17 +1,8 @@
-use Rattle.std.proofs.Common.{inl, inr, refl, rules}
-use Rattle.kmip.proofs.Widening.{called}
+use Rattle.kmip_requests.specs.declared.request_payload.RequestPayload.TheVariants as requests
+use Rattle.kmip_responses.specs.declared.response_payload.ResponsePayload.TheVariants as responses
+use Rattle.kmip_client.proofs.Widening.{calls_wider}
 use Rattle.kmip.proofs.asking.locate_all.Goals as goal
 
-pub returns-in-Locate : goal.returns-in-Locate
-returns-in-Locate g c = called c.every_object-asked.result c.every_object-asked.ensures c.in-Ok.ensures.asks c.in-Locate.is
-
-pub returns-in-Err : goal.returns-in-Err
-returns-in-Err g c = inl (record { asked = c.every_object-asked.result; is_asked = c.every_object-asked.ensures; asks = c.in-Err.ensures.asks })
-
-pub returns-in_default : goal.returns-in_default
-returns-in_default g c = inr (inl (record {
-  payload = c.in-Ok.payload;
-  came = record { asked = c.every_object-asked.result; is_asked = c.every_object-asked.ensures; asks = c.in-Ok.ensures.asks };
-  is_other = search rules;
-  failure = refl;
-}))
+pub returns : goal.returns
+returns g c = calls_wider _ _ _ _ requests.Locate responses.Locate (λ x is. (c.new-none.result, c.new-none.ensures, is))
+    (λ e cant. (c.new-none.result, c.new-none.ensures, cant)) c.locate_by.result c.locate_by.ensures.calls

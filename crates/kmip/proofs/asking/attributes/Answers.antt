@@ -1,0 +1,8 @@
+use Rattle.std.proofs.Common.{Ok, Err, refl}
+use Rattle.kmip.proofs.asking.attributes.Goals as goal
+
+pub returns-in-Ok : goal.returns-in-Ok
+returns-in-Ok g c = record { outcome = Ok c.in-Ok.found; returns = c.in-Ok.ensures.gets; given = refl }
+
+pub returns-in-Err : goal.returns-in-Err
+returns-in-Err g c = record { outcome = Err c.in-Err.failure; returns = c.in-Err.ensures.gets; given = refl }
