@@ -27,7 +27,7 @@ OWN = [attribute("Unique Identifier", text(0x42000B, "1")), attribute("Name", NA
 DATES = [attribute(f"{name} Date", DATE) for name in ("Initial", "Activation", "Deactivation", "Destroy", "Last Change")]
 
 CONVERSATION = [
-    (1, None, [(talk.DISCOVER_VERSIONS, [], [talk.encoder.version(1, minor) for minor in (4, 3, 2, 1, 0)])]),
+    (1, None, [(talk.DISCOVER_VERSIONS, [], talk.VERSIONS)]),
     (4, None, [(talk.QUERY, [enumeration(0x420074, it) for it in (1, 2, 3)],
                 [*(enumeration(0x42005C, it) for it in OPERATIONS), KIND, text(0x42009D, "Example")])]),
     # the items of a request after the first are about its key: the ID Placeholder
@@ -53,6 +53,14 @@ CONVERSATION = [
         (talk.GET_ATTRIBUTES, [identifier("1")], [identifier("1"), *OWN, state(5), *DATES]),
         (talk.ACTIVATE, [identifier("1")], (talk.DENIED, talk.WRONG_STATE)),
         (talk.GET, [identifier("2")], (talk.NOT_FOUND, talk.NO_OBJECT)),
+    ]),
+    # attributes by tags
+    (talk.TWO, 1, [
+        (talk.GET_ATTRIBUTES, [], (talk.NOT_FOUND, talk.NO_OBJECT)),
+        (talk.CREATE, talk.TAGGED, [KIND, identifier("2")]),
+        (talk.GET_ATTRIBUTES, [talk.STATE], [identifier("2"), structure(0x420125, enumeration(0x42008D, 1))]),
+        (talk.LOCATE, [structure(0x420125, talk.TAGGED_NAME)], [identifier("2")]),
+        (talk.CREATE, NEW, (talk.INVALID_FIELD, "there are no templates in KMIP 2.0")),
     ]),
 ]
 

@@ -53,7 +53,7 @@ impl<K: Allocator + Copy> Server<K> {
         asked: &CreateRequest<A>,
         now: i64,
     ) -> Result<ResponsePayload<A>, Refusal> {
-        let about = self.objects.wanted(asked)?;
+        let about = self.objects.wanted(alloc, asked)?;
         let size = match (about.algorithm, about.length) {
             (Some(cryptographic_algorithm::AES), Some(128)) => 16,
             (Some(cryptographic_algorithm::AES), Some(192)) => 24,
@@ -83,7 +83,7 @@ impl<K: Allocator + Copy, A: Allocator + Copy> Handler<A> for Server<K> {
 
     // It has no users, so it takes nobody's credentials. The ID Placeholder is of one request.
     fn admits(&mut self, header: &RequestHeader<A>) -> bool {
-        self.objects.last = None;
+        self.objects.begin(header);
         header.authentication.is_none()
     }
 

@@ -1,4 +1,4 @@
-//! A server of KMIP 1.0 to 1.4 that keeps keys in memory: requests come on standard input, responses go to standard output, and the log,
+//! A server of KMIP 1.0 to 2.0 that keeps keys in memory: requests come on standard input, responses go to standard output, and the log,
 //! which shows no value, to standard error. `socat` or `stunnel` gives it TLS.
 //!
 //! `server` is what is done of one item, and `making` has Create and Register. `kmip_operations` has the other operations on objects, and

@@ -1,10 +1,13 @@
 //! Register, and which keys Create makes (KMIP 1.0, sections 4.1 and 4.3).
 
-ghost use Rattle.std.specs.Prelude.{◌≡◌, Some, IfOk};
+ghost use Rattle.std.specs.Prelude.{◌≡◌, Some, IfOk, OnOk};
 ghost use Rattle.kmip_memory_server.specs.Effects.{Adds, MakesOne, bytes_of_object};
 ghost use Rattle.kmip_operations.specs.Answers.{bytes_of_block};
+ghost use Rattle.kmip_operations.specs.Known.{Grows, Stays};
 
 use crate::server::Server;
+use kmip_attribute_set::attributes::Attributes;
+use kmip_attribute_set::tags::Tagged;
 use kmip_messages::key::{KeyBlock, KeyMaterial, KeyValue};
 use kmip_messages::object::ManagedObject;
 use kmip_messages::request_payload::{CreateRequest, RegisterRequest};
@@ -14,6 +17,7 @@ use kmip_messages::values::{
     CryptographicAlgorithm, ObjectType, cryptographic_algorithm, object_type,
 };
 use kmip_operations::about::About;
+use kmip_operations::making::check_storage;
 use kmip_operations::system::random_bytes;
 use kmip_server::refusal::Refusal;
 use std::alloc::Allocator;
@@ -51,12 +55,22 @@ fn size<K: Allocator>(about: &About<K>) -> Result<usize, Refusal> {
     }
 }
 
+// Keeps a value, unless there is one.
+fn fill<T: Copy>(place: &mut Option<T>, value: Option<T>)
+    ensures { Stays place.old place.new }
+{
+    if place.is_none() {
+        *place = value;
+    }
+}
+
 // Keeps the bytes of a key, and what its block says of it.
 fn block<'k, K: Allocator, A: Allocator>(
     about: &mut About<K>,
     block: &'k KeyBlock<A>,
 ) -> Result<&'k [u8], Refusal>
-    ensures { IfOk result (λ bytes. bytes_of_block block.now ≡ Some bytes.now) }
+    ensures bytes { IfOk result (λ bytes. bytes_of_block block.now ≡ Some bytes.now) }
+    ensures grows { OnOk result (Grows about.old about.new) }
 {
     if block.key_wrapping_data.is_some() {
         return Err(lacking("the server keeps no wrapped keys"));
@@ -67,12 +81,8 @@ fn block<'k, K: Allocator, A: Allocator>(
             "the server keeps no compressed keys",
         ));
     }
-    if about.algorithm.is_none() {
-        about.algorithm = block.cryptographic_algorithm;
-    }
-    if about.length.is_none() {
-        about.length = block.cryptographic_length;
-    }
+    fill(&mut about.algorithm, block.cryptographic_algorithm);
+    fill(&mut about.length, block.cryptographic_length);
     if (block.cryptographic_algorithm.is_some() && about.algorithm != block.cryptographic_algorithm)
         || (block.cryptographic_length.is_some() && about.length != block.cryptographic_length)
     {
@@ -96,7 +106,8 @@ fn object<'k, K: Allocator, A: Allocator>(
     about: &mut About<K>,
     object: ManagedObject<'k, A>,
 ) -> Result<(ObjectType, &'k [u8]), Refusal>
-    ensures { IfOk result (λ found. bytes_of_object object.entry ≡ Some found.1.now) }
+    ensures bytes { IfOk result (λ found. bytes_of_object object.entry ≡ Some found.1.now) }
+    ensures grows { OnOk result (Grows about.old about.new) }
 {
     match object {
         ManagedObject::SymmetricKey(key) => {
@@ -131,10 +142,10 @@ impl<K: Allocator + Copy> Server<K> {
         alloc: A,
         asked: &CreateRequest<A>,
     ) -> Result<ResponsePayload<A>, Refusal>
-        ensures { MakesOne self.old.objects result self.new.objects }
+        ensures { MakesOne ⟦<Attributes<A> as Tagged<A>>⟧.IsOfTags asked.now self.old.objects result self.new.objects }
     {
         self.objects.last = None;
-        let about = self.objects.wanted(asked)?;
+        let about = self.objects.wanted(alloc, asked)?;
         let key = random_bytes(self.objects.alloc, &self.rt, size(&about)?)?;
         let now = self.seconds();
         let made = self.objects.create(alloc, about, key, now)?;
@@ -148,13 +159,14 @@ impl<K: Allocator + Copy> Server<K> {
         alloc: A,
         asked: &RegisterRequest<A>,
     ) -> Result<ResponsePayload<A>, Refusal>
-        ensures { Adds asked.now self.old.objects result self.new.objects }
+        ensures { Adds ⟦<Attributes<A> as Tagged<A>>⟧.IsOfTags asked.now self.old.objects result self.new.objects }
     {
         self.objects.last = None;
-        let by_tags = [&asked.attributes_by_tag, &asked.protection_storage_masks];
+        check_storage(&asked.protection_storage_masks)?;
+        let (template, by_tags) = (&asked.template_attribute, &asked.attributes_by_tag);
         let mut about = self
             .objects
-            .describe(asked.object_type, &asked.template_attribute, by_tags)?;
+            .describe(alloc, asked.object_type, template, by_tags)?;
         let Some(given) = asked.object() else {
             return Err(bad("there is no object, or more than one"));
         };

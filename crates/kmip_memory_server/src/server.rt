@@ -2,11 +2,14 @@
 
 ghost use Rattle.std.specs.Prelude.{codes};
 
-use kmip_messages::header::{Operation, ProtocolVersion, RequestHeader, operation};
+use kmip_attribute_set::attributes::Attributes;
+use kmip_attribute_set::tags::Tagged;
+use kmip_messages::header::{Operation, RequestHeader, operation};
 use kmip_messages::request_payload::RequestPayload;
 use kmip_messages::response::result_reason;
 use kmip_messages::response_payload::ResponsePayload;
 use kmip_messages::values::{ObjectType, object_type};
+use kmip_operations::VERSIONS;
 use kmip_operations::objects::Objects;
 use kmip_operations::system::seconds;
 use kmip_server::abilities::Abilities;
@@ -14,14 +17,6 @@ use kmip_server::handler::Handler;
 use kmip_server::refusal::Refusal;
 use kmip_ttlv::reader::DateTime;
 use std::alloc::Allocator;
-
-const VERSIONS: [ProtocolVersion; 5] = [
-    ProtocolVersion { major: 1, minor: 4 },
-    ProtocolVersion { major: 1, minor: 3 },
-    ProtocolVersion { major: 1, minor: 2 },
-    ProtocolVersion { major: 1, minor: 1 },
-    ProtocolVersion { major: 1, minor: 0 },
-];
 
 const OPERATIONS: [Operation; 11] = [
     operation::CREATE,
@@ -73,12 +68,16 @@ impl<K: Allocator + Copy> Server<K> {
 }
 
 impl<K: Allocator + Copy, A: Allocator + Copy> Handler<A> for Server<K> {
-    ghost use Rattle.kmip_memory_server.specs.declared.server.TheConstants.{OBJECT_TYPES, OPERATIONS, VERSIONS};
+    ghost use Rattle.kmip_memory_server.specs.declared.server.TheConstants.{OBJECT_TYPES, OPERATIONS};
+    ghost use Rattle.kmip_operations.specs.declared.TheConstants.{VERSIONS};
     ghost use Rattle.kmip_memory_server.specs.Effects.{Handles};
+    ghost use Rattle.kmip_operations.specs.Effects.{Begins};
 
     ghost declaration = { λ _. record { versions = VERSIONS; operations = OPERATIONS; object_types = OBJECT_TYPES; vendor = codes "Sieveebony" } };
 
-    ghost Does = { λ old _ asked result new. Handles old.objects asked result new.objects };
+    ghost Admits = { λ old header _ new. Begins header old.objects new.objects };
+
+    ghost Does = { λ old _ asked result new. Handles ⟦<Attributes<A> as Tagged<A>>⟧.IsTagged ⟦<Attributes<A> as Tagged<A>>⟧.IsOfTags old.objects asked result new.objects };
 
     fn abilities(&self) -> Abilities {
         Abilities {
@@ -95,7 +94,7 @@ impl<K: Allocator + Copy, A: Allocator + Copy> Handler<A> for Server<K> {
 
     // It can't check who its credentials say that a client is: that is for TLS.
     fn admits(&mut self, header: &RequestHeader<A>) -> bool {
-        self.objects.last = None;
+        self.objects.begin(header);
         header.authentication.is_none()
     }
 

@@ -1,3 +1,9 @@
+pub mod Found
 pub mod Knowing
+pub mod Listed
+pub mod Mapped
+pub mod Matched
 pub mod Naming
 pub mod Stepping
+pub mod Tags
+pub mod Tested

@@ -1,10 +1,12 @@
 -- What operations do to a server's objects, and what they answer.
-use Rattle.std.specs.Prelude.{if◌then◌else◌, nat_eq, nat_lt, ◌≡◌, ◌+◌, ◌<◌, ◌^◌, ℕ, ℤ, List, Option, Some, None, Result, Ok, MatchResult, String, option_map, string_bytes, vec_items}
+use Rattle.std.specs.Prelude.{if◌then◌else◌, int_lt, nat_eq, nat_lt, pos, ◌≡◌, ◌+◌, ◌<◌, ◌^◌, ℕ, ℤ}
+use Rattle.std.specs.Prelude.{List, Option, Some, None, Result, Ok, MatchResult, String, option_map, string_bytes, vec_items}
 use Rattle.std.specs.Fmt.{decimal}
 use Rattle.kmip_memory_store.specs.declared.object.Object.{Object}
 use Rattle.kmip_memory_store.specs.declared.object.Step.{Step}
 use Rattle.kmip_memory_store.specs.declared.object.Step.TheVariants.{Compromise, Deactivate}
 use Rattle.kmip_memory_store.specs.Objects.{Comes, KeepsOthers, Steps, at, objects_of}
+use Rattle.kmip_headers.specs.declared.header.RequestHeader.{RequestHeader}
 use Rattle.kmip_requests.specs.declared.request_payload.RevokeRequest.{RevokeRequest}
 use Rattle.kmip_responses.specs.declared.response_payload.GetResponse.{GetResponse}
 use Rattle.kmip_responses.specs.declared.response_payload.ObjectResponse.{ObjectResponse}
@@ -21,6 +23,10 @@ item_not_found = 1
 -- the objects are as they were
 abbrev pub SameObjects : {K : Type 0} → Objects K → Objects K → Type 0
 SameObjects old new = objects_of new.store ≡ objects_of old.store
+
+-- a request with this header is at hand: whether it has attributes by tags goes by its version, and the ID Placeholder is empty
+abbrev pub Begins : {K A : Type 0} → RequestHeader A → Objects K → Objects K → Type 0
+Begins header old new = new ≡ record old { by_tags = int_lt (pos 1) header.version.major; last = None }
 
 -- this is no Unique Identifier of an object: those are numbers from 1, as texts
 abbrev pub IsNoName : List ℕ → Type 0
@@ -44,9 +50,11 @@ pub record IsMeant {K A : Type 0} (objects : Objects K) (name : Option (String A
 abbrev pub NoneIsMeant : {K A : Type 0} → Objects K → Option (String A) → Type 0
 NoneIsMeant objects name = (id : ℕ) → Means objects name id → at objects.store id ≡ None
 
--- an object of this material came, under an identifier that none ever had, which is its name and the ID Placeholder; no other changed
-pub record OneComes {K : Type 0} (name : List ℕ) (bytes : Option (List ℕ)) (old new : Objects K) : Type 0 where
+-- an object of which this is known, of this material, came, under an identifier that none ever had, which is its name and the ID Placeholder;
+-- no other changed
+pub record OneComes {K : Type 0} (about : About K) (name : List ℕ) (bytes : Option (List ℕ)) (old new : Objects K) : Type 0 where
   pub object : Object (About K) K
+  pub about_is : object.about ≡ about
   pub material : option_map vec_items object.material ≡ bytes
   pub id : ℕ
   pub comes : Comes object id old.store new.store
@@ -93,13 +101,13 @@ Revokes now asked old result new =
     × Names step now asked.unique_identifier responses.Revoke old payload new) (λ _. SameObjects old new)
 
 -- a payload of Create names the object of this key, which came
-abbrev pub Creates : {K A : Type 0} → List ℕ → Objects K → ResponsePayload A → Objects K → Type 0
-Creates key old (responses.Create made) new = OneComes (string_bytes made.unique_identifier) (Some key) old new
-Creates key old _ new = ⊥
+abbrev pub Creates : {K A : Type 0} → About K → List ℕ → Objects K → ResponsePayload A → Objects K → Type 0
+Creates about key old (responses.Create made) new = OneComes about (string_bytes made.unique_identifier) (Some key) old new
+Creates about key old _ new = ⊥
 
 -- an object of this key comes, unless that is refused: then nothing changes
-abbrev pub Makes : {K A E : Type 0} → List ℕ → Objects K → Result (ResponsePayload A) E → Objects K → Type 0
-Makes key old result new = MatchResult result (λ payload. Creates key old payload new) (λ _. SameObjects old new)
+abbrev pub Makes : {K A E : Type 0} → About K → List ℕ → Objects K → Result (ResponsePayload A) E → Objects K → Type 0
+Makes about key old result new = MatchResult result (λ payload. Creates about key old payload new) (λ _. SameObjects old new)
 
 -- a response has the whole material of the object that is meant, under its name
 pub record IsWhole {K A : Type 0} (objects : Objects K) (asked : Option (String A)) (r : GetResponse A) : Type 0 where
@@ -113,23 +121,6 @@ pub record IsWhole {K A : Type 0} (objects : Objects K) (asked : Option (String 
 abbrev pub Gives : {K A : Type 0} → Objects K → Option (String A) → ResponsePayload A → Type 0
 Gives objects asked (responses.Get answer) = IsWhole objects asked answer.inner.value
 Gives objects asked _ = ⊥
-
--- this is the name of the object that is meant, which is there
-pub record IsNameOf {K A : Type 0} (objects : Objects K) (asked : Option (String A)) (name : List ℕ) : Type 0 where
-  pub id : ℕ
-  pub object : Object (About K) K
-  pub is_meant : IsMeant objects asked id object
-  pub name_is : name ≡ decimal (id + 1)
-
--- a payload of Get Attributes is about the object that is meant
-abbrev pub GivesAttributes : {K A : Type 0} → Objects K → Option (String A) → ResponsePayload A → Type 0
-GivesAttributes objects asked (responses.GetAttributes r) = IsNameOf objects asked (string_bytes r.unique_identifier)
-GivesAttributes objects asked _ = ⊥
-
--- a payload of Get Attribute List is about the object that is meant
-abbrev pub GivesNames : {K A : Type 0} → Objects K → Option (String A) → ResponsePayload A → Type 0
-GivesNames objects asked (responses.GetAttributeList r) = IsNameOf objects asked (string_bytes r.unique_identifier)
-GivesNames objects asked _ = ⊥
 
 -- a Get is answered so, or refused
 abbrev pub Gets : {K A E : Type 0} → Objects K → Option (String A) → Result (ResponsePayload A) E → Type 0

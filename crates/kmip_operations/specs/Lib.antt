@@ -1,3 +1,10 @@
 pub mod Answers
 pub mod Effects
+pub mod Finding
 pub mod Known
+pub mod Listing
+pub mod Listings
+pub mod Matching
+pub mod Showing
+pub mod Streams
+pub mod Tagging

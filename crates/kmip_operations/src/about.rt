@@ -97,8 +97,23 @@ impl<K: Allocator + Copy> About<K> {
         }
     }
 
-    /// Keeps the attributes of a template. It is refused with Invalid Field if there is one that the server doesn't keep, or sets itself,
-    /// and with Item Not Found if a template is named, since there are none (KMIP 1.0, sections 11.2 and 11.4).
+    /// Keeps attributes. They are refused with Invalid Field if there is one that the server doesn't keep, or sets itself (KMIP 1.0,
+    /// sections 11.2 and 11.4).
+    pub fn attributes<A: Allocator>(
+        &mut self,
+        alloc: K,
+        attributes: &[Attribute<A>],
+    ) -> Result<(), Refusal>
+        ensures known { OnOk result (KnowsAll attributes.now self.new) }
+        ensures grows { OnOk result (Grows self.old self.new) }
+    {
+        for attribute in attributes {
+            self.attribute(alloc, attribute)?;
+        }
+        Ok(())
+    }
+
+    /// Keeps the attributes of a template. It is refused as they are, and with Item Not Found if a template is named, since there are none.
     pub fn template<A: Allocator>(
         &mut self,
         alloc: K,
@@ -110,9 +125,7 @@ impl<K: Allocator + Copy> About<K> {
         if !template.names.is_empty() {
             return Err(Refusal::new(result_reason::ITEM_NOT_FOUND, "there are no templates"));
         }
-        for attribute in &template.attributes {
-            self.attribute(alloc, attribute)?;
-        }
+        self.attributes(alloc, template.attributes.as_slice())?;
         Ok(())
     }
 

@@ -3,12 +3,13 @@
 ghost use Rattle.std.specs.Prelude.{◌≡◌, ◌+◌, ◌<◌, ◌^◌, Some, IfOk, MatchOption, MatchResult, string_bytes};
 ghost use Rattle.std.specs.Fmt.{decimal};
 ghost use Rattle.kmip_server.specs.Refusals.{reason_of};
-ghost use Rattle.kmip_operations.specs.Effects.{item_not_found, IsMeant, IsNoName, Means, MeansNone, NoneIsMeant, OneComes, SameObjects};
+ghost use Rattle.kmip_operations.specs.Effects.{item_not_found, Begins, IsMeant, IsNoName, Means, MeansNone, NoneIsMeant, OneComes, SameObjects};
 
 use crate::about::About;
 use itoa::Buffer;
 use kmip_memory_store::object::Object;
 use kmip_memory_store::store::Store;
+use kmip_messages::header::RequestHeader;
 use kmip_messages::response::result_reason;
 use kmip_server::refusal::Refusal;
 use std::alloc::{AllocError, Allocator, Global};
@@ -20,8 +21,9 @@ pub struct Objects<K: Allocator = Global> {
     pub alloc: K,
     /// The objects.
     pub store: Store<About<K>, K>,
-    /// The ID Placeholder: the object that an item of this request made, registered or located last (KMIP 1.0, section 4). A handler
-    /// clears it as it admits a request.
+    /// Whether the request at hand has attributes by tags, as KMIP 2.0 does, and not by names.
+    pub by_tags: bool,
+    /// The ID Placeholder: the object that an item of the request at hand made, registered or located last (KMIP 1.0, section 4).
     pub last: Option<usize>,
 }
 
@@ -62,8 +64,17 @@ impl<K: Allocator + Copy> Objects<K> {
         Objects {
             alloc,
             store: Store::new(alloc),
+            by_tags: false,
             last: None,
         }
+    }
+
+    /// A request with this header is at hand: a handler calls it as it admits one. The ID Placeholder of the request before is cleared.
+    pub fn begin<A: Allocator>(&mut self, header: &RequestHeader<A>)
+        ensures { Begins header.now self.old self.new }
+    {
+        self.by_tags = 1 < header.version.major;
+        self.last = None;
     }
 
     // The number of the object that an item is about.
@@ -105,7 +116,7 @@ impl<K: Allocator + Copy> Objects<K> {
         material: Vec<u8, K>,
         now: i64,
     ) -> Result<String<A>, Refusal>
-        ensures { MatchResult result (λ name. OneComes (string_bytes name) (Some material.items) self.old self.new) (λ _. SameObjects self.old self.new) }
+        ensures { MatchResult result (λ name. OneComes about (string_bytes name) (Some material.items) self.old self.new) (λ _. SameObjects self.old self.new) }
     {
         for id in 0..self.store.count() {
             if let Some(object) = self.store.get(id)

@@ -1,12 +1,18 @@
 //! Get, Get Attributes and Get Attribute List (KMIP 1.0, sections 4.10 to 4.12).
 
-ghost use Rattle.std.specs.Prelude.{◌≡◌, Some, IfOk, OnOk};
+ghost use Rattle.std.specs.Prelude.{◌≡◌, [], ◌∷◌, ◌++◌, Some, IfOk, OnOk, map, string_bytes};
 ghost use Rattle.kmip_operations.specs.Answers.{IsEmpty, bytes_of_block, bytes_of_response};
-ghost use Rattle.kmip_operations.specs.Effects.{Gets, GivesAttributes, GivesNames};
+ghost use Rattle.kmip_operations.specs.Effects.{Gets};
+ghost use Rattle.kmip_operations.specs.Listing.{saying_of};
+ghost use Rattle.kmip_operations.specs.Showing.{GivesAttributes, GivesNames, is_first, names_of};
 
 use crate::about::About;
-use crate::attributes::attributes;
+use crate::attributes::{all_attributes, attributes};
 use crate::objects::{Objects, identifier};
+use crate::tagging::{referred, referring, tagged};
+use kmip_attribute_set::attributes::Attributes;
+use kmip_attribute_set::tags::Tagged;
+use kmip_messages::attribute::Attribute;
 use kmip_messages::key::{KeyBlock, KeyMaterial, KeyValue, PlainKeyValue};
 use kmip_messages::object::{
     Certificate, PrivateKey, PublicKey, SecretData, SecretDataType, SymmetricKey,
@@ -131,6 +137,45 @@ fn put<K: Allocator, A: Allocator + Copy>(
     Ok(())
 }
 
+// Whether an attribute is the first of its name.
+fn is_first<A: Allocator>(attribute: &Attribute<A>) -> bool
+    ensures { result ≡ is_first (saying_of attribute.now) }
+{
+    match attribute.index {
+        None => true,
+        Some(index) => index == 0,
+    }
+}
+
+// Adds the name of an attribute, if it is the first of it.
+fn push_first<A: Allocator + Copy>(
+    alloc: A,
+    names: &mut Vec<String<A>, A>,
+    attribute: &Attribute<A>,
+) -> Result<(), AllocError>
+    ensures { OnOk result (map string_bytes names.new.items ≡ map string_bytes names.old.items ++ names_of (saying_of attribute.now ∷ [])) }
+{
+    if !is_first(attribute) {
+        return Ok(());
+    }
+    names.push(attribute.name.as_str().to_string(alloc)?)?;
+    Ok(())
+}
+
+// The names of attributes, each once: an index above 0 repeats one.
+fn first_names<A: Allocator + Copy>(
+    alloc: A,
+    attributes: &[Attribute<A>],
+) -> Result<Vec<String<A>, A>, AllocError>
+    ensures { IfOk result (λ names. map string_bytes names.items ≡ names_of (map saying_of attributes.now)) }
+{
+    let mut names = Vec::new(alloc);
+    for attribute in attributes {
+        push_first(alloc, &mut names, attribute)?;
+    }
+    Ok(names)
+}
+
 impl<K: Allocator + Copy> Objects<K> {
     /// An object, as it was registered or made. Refused with Item Not Found if there is none, or its material was destroyed (KMIP 1.0,
     /// section 11.11).
@@ -152,45 +197,61 @@ impl<K: Allocator + Copy> Objects<K> {
         Ok(ResponsePayload::Get(Boxed::new(alloc, response)?))
     }
 
-    /// The attributes of an object that are asked for. Refused with Item Not Found if there is no such object (KMIP 1.0, section 11.12).
+    /// The attributes of an object that are asked for: by names up to KMIP 1.4, and by tags from KMIP 2.0 on. Refused with Item Not Found if
+    /// there is no such object (KMIP 1.0, section 11.12), and as `referred`.
     pub fn get_attributes<A: Allocator + Copy>(
         &self,
         alloc: A,
         asked: &GetAttributesRequest<A>,
     ) -> Result<ResponsePayload<A>, Refusal>
-        ensures { IfOk result (λ payload. GivesAttributes self.now asked.now.unique_identifier payload) }
+        ensures { IfOk result (λ payload. GivesAttributes ⟦<Attributes<A> as Tagged<A>>⟧.IsTagged self.now asked.now payload) }
     {
         let (id, object) = self.find(&asked.unique_identifier)?;
-        let attributes = attributes(alloc, id, object, asked.attribute_names.as_slice())?;
         let unique_identifier = identifier(alloc, id)?;
+        if !self.by_tags {
+            let attributes = attributes(alloc, id, object, asked.attribute_names.as_slice())?;
+            return Ok(ResponsePayload::GetAttributes(GetAttributesResponse {
+                unique_identifier,
+                attributes,
+                attributes_by_tag: None,
+            }));
+        }
+        let names = referred(alloc, asked)?;
+        let list = attributes(alloc, id, object, names.as_slice())?;
+        let attributes = Attributes { list };
+        let items = tagged(alloc, &attributes)?;
         Ok(ResponsePayload::GetAttributes(GetAttributesResponse {
             unique_identifier,
-            attributes,
-            attributes_by_tag: None,
+            attributes: Vec::new(alloc),
+            attributes_by_tag: Some(items),
         }))
     }
 
-    /// The names of all attributes of an object. Refused with Item Not Found if there is no such object (KMIP 1.0, section 11.13).
+    /// The names of all attributes of an object, as texts up to KMIP 1.4, and as references to tags from KMIP 2.0 on. Refused with Item Not
+    /// Found if there is no such object (KMIP 1.0, section 11.13).
     pub fn get_attribute_list<A: Allocator + Copy>(
         &self,
         alloc: A,
         asked: &ObjectRequest<A>,
     ) -> Result<ResponsePayload<A>, Refusal>
-        ensures { IfOk result (λ payload. GivesNames self.now asked.now.unique_identifier payload) }
+        ensures { IfOk result (λ payload. GivesNames ⟦<Attributes<A> as Tagged<A>>⟧.IsTagged self.now asked.now payload) }
     {
         let (id, object) = self.find(&asked.unique_identifier)?;
-        let all = Vec::new(alloc);
-        let mut attribute_names = Vec::new(alloc);
-        for attribute in attributes(alloc, id, object, all.as_slice())? {
-            if matches!(attribute.index, None | Some(0)) {
-                attribute_names.push(attribute.name)?;
-            }
-        }
         let unique_identifier = identifier(alloc, id)?;
+        let attributes = all_attributes(alloc, id, object)?;
+        let attribute_names = first_names(alloc, attributes.as_slice())?;
+        if !self.by_tags {
+            return Ok(ResponsePayload::GetAttributeList(GetAttributeListResponse {
+                unique_identifier,
+                attribute_names,
+                other_items: Kept::none(alloc),
+            }));
+        }
+        let other_items = referring(alloc, attribute_names.as_slice())?;
         Ok(ResponsePayload::GetAttributeList(GetAttributeListResponse {
             unique_identifier,
-            attribute_names,
-            other_items: Kept::none(alloc),
+            attribute_names: Vec::new(alloc),
+            other_items,
         }))
     }
 }

@@ -1,9 +1,14 @@
 //! What a server takes of the system that it runs on: the time, random bytes, and its standard streams.
 
-ghost use Rattle.std.specs.Prelude.{◌≡◌, IfOk, IfSome, length};
+ghost use Rattle.std.specs.Prelude.{◌≡◌, IfOk, IfSome, Some, length, true};
+ghost use Rattle.kmip_server.specs.Items.{IsDone};
+ghost use Rattle.kmip_server.specs.Messages.{Replies};
+ghost use Rattle.kmip_server.specs.Replies.{Sends};
+ghost use Rattle.kmip_server.specs.Serving.{Serves};
+ghost use Rattle.kmip_operations.specs.Streams.{IsServed};
 
 use kmip_messages::response::result_reason;
-use kmip_server::codec::Kmip;
+use kmip_server::codec::{Codec, Kmip};
 use kmip_server::handler::Handler;
 use kmip_server::refusal::Refusal;
 use kmip_server::serve::{End, Limits, ServeError, serve};
@@ -51,7 +56,11 @@ pub fn serve_streams<H: Handler<A>, A: Allocator + Copy>(
     rt: HostRuntime,
     alloc: A,
     handler: &mut H,
-) -> Result<End, ServeError<A>> {
+) -> Result<End, ServeError<A>>
+    ensures { IsServed (λ first last. Serves ⟦<Kmip as Codec<A>>⟧.ReadsRequest (Sends ⟦<Kmip as Codec<A>>⟧.stated (Replies H.Admits
+        (IsDone H.Does H.declaration ⟦<Kmip as Codec<A>>⟧.ReadsItem) ⟦<Kmip as Codec<A>>⟧.IsSound ⟦<Kmip as Codec<A>>⟧.ReadsHeader H.declaration 65536) H.declaration 65536)
+        true (Some 65536) first result last) handler.old handler.new }
+{
     let limits = Limits {
         request: 65_536,
         response: 65_536,

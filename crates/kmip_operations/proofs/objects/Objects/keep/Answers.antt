@@ -5,6 +5,7 @@ use Rattle.kmip_operations.proofs.objects.Objects.keep.Goals as goal
 pub returns : goal.returns
 returns g c = record {
   object = _;
+  about_is = refl;
   material = refl;
   id = c.in_ok-id.id;
   comes = c.in_ok-id.ensures.comes;
