@@ -220,8 +220,8 @@ func ToJSON(message []byte, redact Redact) (string, error) {
 	return string(text), refusal(status, fault, nil, 0)
 }
 
-// FromJSON returns the canonical bytes of the message whose JSON a text is, in the forms that ToJSON has. For another text it returns a
-// *MalformedError without items.
+// FromJSON returns the canonical bytes of the message whose JSON a text is, in any form of OASIS's encoding, as that of ToJSON or with
+// names. For another text it returns a *MalformedError without items.
 func FromJSON(json string) ([]byte, error) {
 	from, length := lent([]byte(json))
 	var fault C.kmip_ttlv_fault

@@ -444,8 +444,8 @@ def to_json(message, redact=False):
 
 
 def from_json(text):
-    """Returns the canonical bytes of the message whose JSON a text is, in the forms of to_json: from_json(to_json(m)) is m, with zeros for its
-    padding, if no Structure in it is in more than 62 others.
+    """Returns the canonical bytes of the message whose JSON a text is, in any form of OASIS's encoding, with digits or with names.
+    from_json(to_json(m)) is m, with zeros for its padding, if no Structure in it is in more than 62 others.
 
     Raises Malformed if it is the JSON of none; the fault's offset is in bytes of the text in UTF-8.
     """

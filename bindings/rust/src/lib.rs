@@ -232,7 +232,7 @@ pub fn to_json(bytes: &[u8], redact: Redact) -> Result<String, Error> {
     made.map_err(|status| faulty(status, fault))
 }
 
-/// Reads a message from JSON, in the forms that [`to_json`] prints, and returns its canonical bytes.
+/// Reads a message from JSON, in any form of OASIS's encoding, as that of [`to_json`] or with names, and returns its canonical bytes.
 ///
 /// # Errors
 ///

@@ -214,7 +214,7 @@ public final class KmipTtlv {
         return new String(sound(toJson0(Objects.requireNonNull(message), redact.ordinal(), told), told), StandardCharsets.UTF_8);
     }
 
-    /** The canonical bytes of the message whose JSON a text is, in the forms of {@link #toJson}; for another text MalformedException. */
+    /** The canonical bytes of the message whose JSON a text is, in digits or with names; for another text MalformedException. */
     public static byte[] fromJson(String json) throws MalformedException {
         long[] told = new long[3];
         return sound(fromJson0(utf8(json), told), told);
