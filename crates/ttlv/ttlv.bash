@@ -8,6 +8,7 @@ _ttlv() {
     --redact=) COMPREPLY=($(compgen -W 'all keys' -- "$word")); return ;;
     --width | --width=) COMPREPLY=(); return ;;
     --tag | --tag=) COMPREPLY=(); return ;;
+    --get | --get=) COMPREPLY=(); return ;;
     --color | --color=) COMPREPLY=($(compgen -W 'always never auto' -- "$word")); return ;;
     --input | --input=) COMPREPLY=($(compgen -W 'raw hex base64 base64url pem xxd hexdump od tcpdump pcap pcapng' -- "$word")); return ;;
     --port | --port=) COMPREPLY=(); return ;;
@@ -16,7 +17,7 @@ _ttlv() {
     [ "$COMP_CWORD" -gt 1 ] && command=${COMP_WORDS[1]}
     case $command in
     '') options='show diag undiag check hex json from-json --help --version' ;;
-    show) options='--redact --redact=all --redact=keys --secrets --strict --raw --find --offsets --lengths --width --tag --color --names --input --port --help' ;;
+    show) options='--redact --redact=all --redact=keys --secrets --strict --raw --find --offsets --lengths --width --tag --get --color --names --input --port --help' ;;
     diag) options='--prefix --closed --unclosed --strict --input --port --help' ;;
     undiag) options='--prefix --names --help' ;;
     check) options='--kmip --allow-empty --input --port --help' ;;

@@ -116,7 +116,7 @@ const COLORED_ONE: &str =
 const LEAK_LINES: &str =
     "Tag: Key Block (0x420040), Type: Structure (0x01), Data:\n  Tag: Key Material (0x420043), Type: Structure (0x01), Data:\n";
 
-const ROWS: [Row; 52] = [
+const ROWS: [Row; 65] = [
     ("show --redact=keys key", PLAIN, 0, SHOWN_KEY, ""),
     ("show --raw --redact=keys key", PLAIN, 0, SHOWN_KEY, ""),
     ("show --redact key", PLAIN, 0, REDACTED_KEY, ""),
@@ -202,6 +202,86 @@ const ROWS: [Row; 52] = [
         0,
         ONE,
         "",
+    ),
+    // Values alone, by the path of their tags, in any spelling.
+    (
+        "show --get Key-Block/key_format_type key",
+        PLAIN,
+        0,
+        "Raw\n",
+        "",
+    ),
+    (
+        "show --get 420040/420045/420043/42003F key",
+        PLAIN,
+        0,
+        "0909090909090909\n",
+        "",
+    ),
+    (
+        "show --redact=keys --get 420040/420045/420043/42003F key",
+        PLAIN,
+        0,
+        "<redacted>\n",
+        "",
+    ),
+    ("show --get 420040/42002A key", COLORED, 0, "128\n", ""),
+    (
+        "show --redact --get 420040/42002A key",
+        PLAIN,
+        0,
+        "<redacted>\n",
+        "",
+    ),
+    ("show --get key-block key", PLAIN, 0, "\n", ""),
+    (
+        "show --names own.txt --width 2 --get 540003/540004 own own",
+        PLAIN,
+        0,
+        "0001.. (8 bytes)\n0001.. (8 bytes)\n",
+        "",
+    ),
+    (
+        "show --names own.txt --get 540003/own_secret own",
+        PLAIN,
+        0,
+        "0A0B0C\n",
+        "",
+    ),
+    (
+        "show --get 420040/42003F key",
+        PLAIN,
+        1,
+        "",
+        "key: no item has this path\n",
+    ),
+    (
+        "show --get 42003F key",
+        PLAIN,
+        1,
+        "",
+        "key: no item has this path\n",
+    ),
+    (
+        "show --get key-block/nothing key",
+        PLAIN,
+        2,
+        "",
+        "nothing: no tag has this name\n",
+    ),
+    (
+        "show --get 420040/420043 leak",
+        PLAIN,
+        1,
+        "\n",
+        "leak: byte 16: 0x303132: unknown type\n",
+    ),
+    (
+        "show --strict --get 420040/420043 leak",
+        PLAIN,
+        1,
+        "",
+        "leak: byte 16: no tag: unknown type\n",
     ),
     // What is printed of bytes where an item is due: of a message that is to be redacted nothing, and no tag.
     (

@@ -301,8 +301,15 @@ const ASKED: [Row; 27] = [
 ];
 
 // Arguments that ask for no run, and the exit status: help, the version, and mistakes.
-const OTHERS: [(&str, i32); 16] = [
+const OTHERS: [(&str, i32); 23] = [
     ("ttlv show --find --port 5696", 2),
+    ("ttlv show --get 420078 --find", 2),
+    ("ttlv show --get 420078 --tag 420078", 2),
+    ("ttlv show --get 420078 --offsets", 2),
+    ("ttlv show --get 420078 --lengths", 2),
+    ("ttlv diag --get 420078", 2),
+    ("ttlv show --port 5696 --input hex", 2),
+    ("ttlv check --input raw --port 5696", 2),
     ("ttlv from-json --input raw", 2),
     ("ttlv --help", 0),
     ("ttlv show --help", 0),

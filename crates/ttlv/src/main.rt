@@ -69,7 +69,7 @@ fn shows_progress(rt: &HostRuntime, asked: Asked<'_>) -> bool {
             task: Task::Check { .. },
             ..
         } => false,
-        Asked::Print { .. } | Asked::Find { .. } => true,
+        Asked::Print { .. } | Asked::Get { .. } | Asked::Find { .. } => true,
         Asked::ReadBack { .. } | Asked::FromJson { .. } => false,
     };
     rt.stderr().is_terminal() && !(is_printing && rt.stdout().is_terminal())

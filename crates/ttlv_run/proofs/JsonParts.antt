@@ -1,17 +1,17 @@
 -- Where values of JSON end: what stands in front of a value's end, and the values of a text.
-use Rattle.std.proofs.Common.{arith, ◌≡◌, ◌∙◌, ℕ, suc, ◌+◌, ◌-◌, ◌<◌, ◌≤◌, ◌||◌, ◌&&◌, Bool, true, false, List, [], ◌∷◌, ◌++◌, length}
-use Rattle.std.proofs.Common.{get_or, take, drop, Option, Some, None}
-use Rattle.std.proofs.Common.{take-add, ap, sym, refl, subst, append-nil, append_assoc, length-append, if◌then◌else◌, nat_le, ◌==◌, take_all}
+use Rattle.std.proofs.Common.{arith, ◌≡◌, ◌∙◌, ℕ, suc, ◌+◌, ◌-◌, ◌<◌, ◌≤◌, ◌||◌, Bool, true, false, List, [], ◌∷◌, ◌++◌, length}
+use Rattle.std.proofs.Common.{take, drop, Some, None}
+use Rattle.std.proofs.Common.{take-add, ap, sym, refl, subst, append-nil, append_assoc, length-append, if◌then◌else◌, ◌==◌, take_all}
 use Rattle.std.specs.{Str.IsUtf8, Prelude.slice_index}
 use Rattle.std.proofs.lemmas.Bool.{eqb-true}
 use Rattle.std.proofs.lemmas.Bool.Decides.{nat_tests}
 use Rattle.std.proofs.lemmas.Str.{IsUtf8-append, IsUtf8-from_ascii}
 use Rattle.std.proofs.lemmas.Str.Ascii.{IsAscii-cons, IsAscii-nil}
-use Rattle.std.proofs.lemmas.List.{length-take-le, take-append-le, length-drop}
+use Rattle.std.proofs.lemmas.List.{length-take-le, take-append-le}
 use Rattle.std.proofs.Math.Seq.{take-suc}
 use Rattle.ttlv_run.specs.declared.json_ends.Part.{Part}
 use Rattle.ttlv_run.specs.declared.json_ends.Part.TheVariants.{Front, Line, Brackets, Text, Backslash}
-use Rattle.ttlv_run.specs.JsonEnds.{is_opening, is_closing, is_in_front, is_in_line, ends_line, closes, is_end, part_after, depth_of, goes_on, values_from}
+use Rattle.ttlv_run.specs.JsonEnds.{is_opening, is_closing, is_in_front, ends_line, closes, is_end, part_after, depth_of, goes_on, values_from}
 use Rattle.ttlv_run.specs.JsonEnds.{values_of, IsOpen, IsWhole, by_feed, by_bracket, IsFirst, IsSeen}
 
 -- bytes behind others, none of which ends the value

@@ -2,11 +2,11 @@
 use Rattle.std.proofs.Common.{arith, ◌≡◌, ◌∙◌, inl, inr, ℕ, ◌+◌, ◌<◌, ◌≤◌, ◌^◌, Bool, true, false, List, [], ◌∷◌, ◌++◌, length, take, drop}
 use Rattle.std.proofs.Common.{take-add, Option, Some, None, Ok, refl, ap, sym, subst, append_assoc, append-nil, length-append, take-append-drop}
 use Rattle.std.specs.Io.KnownBytes.{Consumes, IsAtEnd, Keeps}
-use Rattle.std.specs.{Prelude.slice_index, Prelude.IfSome, Str.IsUtf8}
+use Rattle.std.specs.{Prelude.IfSome, Str.IsUtf8}
 use Rattle.std.proofs.KnownBytes.{Consumes-trans, Consumes-kept}
 use Rattle.kmip_ttlv_types.specs.Held.{Held, Gets}
 use Rattle.kmip_ttlv_types.proofs.Held.{gets_none, gets_both}
-use Rattle.std.proofs.lemmas.List.{drop-drop, length-drop, take-append-le, drop-append-le, get_or-drop}
+use Rattle.std.proofs.lemmas.List.{drop-drop, length-drop, take-append-le, drop-append-le}
 use Rattle.std.proofs.lemmas.Str.{IsUtf8-append, IsUtf8-nil}
 use Rattle.kmip_ttlv_json.specs.{declared.failure.JsonError.JsonError, Readings.error_offset}
 use Rattle.ttlv_run.specs.{declared.run_error.RunError.RunError, declared.run_error.RunError.TheVariants.NotUtf8}

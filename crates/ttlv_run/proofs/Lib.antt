@@ -12,12 +12,14 @@ pub mod DigitRuns
 pub mod DumpLines
 pub mod Entries
 pub mod FrontsDecided
+pub mod Getting
 pub mod Good
 pub mod Groups
 pub mod Inputs
 pub mod Naming
 pub mod Packets
 pub mod Parts
+pub mod Paths
 pub mod Plain
 pub mod Prefixes
 pub mod Printing

@@ -1,11 +1,13 @@
 -- The value of an item in its line.
-use Rattle.std.proofs.Common.{◌≡◌, ◌≢◌, ℕ, ◌+◌, ◌-◌, Bool, List, [], ◌∷◌, take, drop, ap, sym, refl, arith}
+use Rattle.std.proofs.Common.{◌≡◌, ◌≢◌, ℕ, ◌+◌, ◌-◌, Bool, List, [], ◌∷◌, ◌++◌, Option, take, drop, ap, sym, refl, arith}
 use Rattle.std.specs.Prelude.{codes}
 use Rattle.kmip_ttlv_types.specs.{declared.typ.TtlvType.TtlvType, declared.typ.TtlvType.TheVariants.Structure, Places.length_at}
 use Rattle.kmip_ttlv_items.specs.{declared.found.FoundItem.FoundItem, ItemWalks.content_at}
 use Rattle.ttlv_run.specs.declared.{job.Look.Look, job.Values.Values, lines.Reach.Reach}
 use Rattle.ttlv_run.specs.Attributes.{naming_tag}
-use Rattle.ttlv_run.specs.Texts.{Names, value_text, paint, painted_value, values_shown, value_part}
+use Rattle.ttlv_run.specs.Texts.{Names, value_text, paint, painted_value, values_shown, value_part, bare_text, bare_line}
+use Rattle.kmip_ttlv_types.specs.declared.typ.TtlvType.TheVariants.{Integer, LongInteger, BigInteger, Enumeration, Boolean, TextString, ByteString}
+use Rattle.kmip_ttlv_types.specs.declared.typ.TtlvType.TheVariants.{DateTime, Interval}
 
 painted_leaf : (colored : Bool) (t : TtlvType) (text : List ℕ) → t ≢ Structure → paint colored (27 ∷ codes "[32m") text ≡ painted_value colored t text
 painted_leaf colored Structure text ne = absurd (ne refl)
@@ -37,3 +39,28 @@ module _ (names : Names) (look : Look) (r : Reach) (bytes : List ℕ) (i : Found
   unfolding value_part
   value_leaf values tag v t leaf len =
       rw (v, t, content_is bytes i len) (painted_leaf look.colored i.typ (said i.typ (content_at bytes i.offset)) leaf)
+
+-- ---- values alone
+
+-- a structure's is the same whatever is taken for its content
+bare_same : (names : Names) (values : Values) (width : Option ℕ) (tag : ℕ) (typ : TtlvType) (a b : List ℕ) → (typ ≢ Structure → a ≡ b)
+    → bare_text names values width tag typ a ≡ bare_text names values width tag typ b
+unfolding bare_text
+bare_same names values width tag Structure a b h = refl
+bare_same names values width tag Integer a b h = ap (bare_text names values width tag Integer) (h (λ is. absurd (cc)))
+bare_same names values width tag LongInteger a b h = ap (bare_text names values width tag LongInteger) (h (λ is. absurd (cc)))
+bare_same names values width tag BigInteger a b h = ap (bare_text names values width tag BigInteger) (h (λ is. absurd (cc)))
+bare_same names values width tag Enumeration a b h = ap (bare_text names values width tag Enumeration) (h (λ is. absurd (cc)))
+bare_same names values width tag Boolean a b h = ap (bare_text names values width tag Boolean) (h (λ is. absurd (cc)))
+bare_same names values width tag TextString a b h = ap (bare_text names values width tag TextString) (h (λ is. absurd (cc)))
+bare_same names values width tag ByteString a b h = ap (bare_text names values width tag ByteString) (h (λ is. absurd (cc)))
+bare_same names values width tag DateTime a b h = ap (bare_text names values width tag DateTime) (h (λ is. absurd (cc)))
+bare_same names values width tag Interval a b h = ap (bare_text names values width tag Interval) (h (λ is. absurd (cc)))
+
+-- the line of a value alone, by its parts as the code has them
+pub bare_line_is : (names : Names) (look : Look) (r : Reach) (bytes : List ℕ) (i : FoundItem) (values : Values) (tag : ℕ) (content : List ℕ)
+    → values ≡ values_shown look r.secret i → tag ≡ naming_tag r.attribute i → (i.typ ≢ Structure → content ≡ content_at bytes i.offset)
+    → bare_text names values look.width tag i.typ content ++ 10 ∷ [] ≡ bare_line names look r bytes i
+unfolding bare_line
+bare_line_is names look r bytes i values tag content v t is = rw (v, t) (ap (λ (s : List ℕ). s ++ 10 ∷ [])
+    (bare_same names (values_shown look r.secret i) look.width (naming_tag r.attribute i) i.typ content (content_at bytes i.offset) is))

@@ -14,7 +14,7 @@ use Rattle.ttlv_run.specs.declared.{job.Job.Job, messages.Place.Place}
 use Rattle.ttlv_run.specs.declared.{messages.Reached.Reached, run_error.RunError.RunError, run_error.RunError.TheVariants.NoMemory}
 use Rattle.ttlv_run.specs.declared.{messages.Reached.TheVariants.Behind, messages.Reached.TheVariants.Fault as AtFault}
 use Rattle.ttlv_packets.specs.Captures.{IsRead}
-use Rattle.ttlv_run.specs.Ends.{Responds, RespondsAlone, RespondsPrint}
+use Rattle.ttlv_run.specs.{Ends.Responds, Prints.RespondsAlone, Prints.RespondsPrint}
 use Rattle.ttlv_run.specs.declared.job.Asked.TheVariants.{Print}
 use Rattle.ttlv_run.specs.declared.job.Encoding.{Encoding}
 use Rattle.ttlv_run.specs.Fronts.{front_size}
@@ -191,7 +191,7 @@ has_of job s port {before} {old} input capture bytes shown messages listed end t
 -- what came of it is what came of an input
 pub by_packets : (names : Names) (job : Job) (s : Streams) (errors errors_now : Held) (r : Result Bool RunError)
     → RespondsPackets names job s errors errors_now r → RespondsPrint names job s errors errors_now r
-by_packets names job s errors errors_now (Ok true) h = (inr h.0, subst (Rests errors) (sym h.1) (rests errors))
+by_packets names job s errors errors_now (Ok true) h = (inr h.0, h.1)
 by_packets names job s errors errors_now (Ok false) h = (h.0, inr h.1, h.2)
 by_packets names job s errors errors_now (Err why) h = (inr h.0, h.1)
 
@@ -210,6 +210,6 @@ came_first {old} {new} none yields =
 -- and that is what was asked
 pub of_print : (names : Names) (job : Job) (s : Streams) (errors errors_now : Held) (r : Result Bool RunError)
     → RespondsPrint names job s errors errors_now r → Responds names (Print job.task job.encoding) job.name s errors errors_now r
-of_print names job s errors errors_now (Ok true) h = h
+of_print names job s errors errors_now (Ok true) h = (h.0, subst (Rests errors) (sym h.1) (rests errors))
 of_print names job s errors errors_now (Ok false) h = h
 of_print names job s errors errors_now (Err why) h = h

@@ -1,51 +1,26 @@
 -- How a run over an input ends, by what was asked.
 use Rattle.std.specs.Borrow.{Bor}
-use Rattle.std.specs.Prelude.{◌≡◌, ◌⊎◌, ℕ, Bool, true, false, List, Some, None, Result, Ok, Err}
+use Rattle.std.specs.Prelude.{◌≡◌, ℕ, Bool, true, false, List, Some, None, Result, Ok, Err}
 use Rattle.kmip_ttlv_types.specs.Held.{Held, Rests, Says}
 use Rattle.ttlv_run.specs.declared.back.BackFault.{BackFault}
 use Rattle.ttlv_run.specs.declared.find.FindFault.{FindFault}
 use Rattle.ttlv_run.specs.declared.from_json.ValueFault.{ValueFault}
 use Rattle.ttlv_run.specs.declared.job.Asked.{Asked}
-use Rattle.ttlv_run.specs.declared.job.Asked.TheVariants.{Print, ReadBack, FromJson, Find}
+use Rattle.ttlv_run.specs.declared.job.Asked.TheVariants.{Print, Get, ReadBack, FromJson, Find}
 use Rattle.ttlv_run.specs.declared.run_error.RunError.{RunError}
 use Rattle.ttlv_run.specs.Backs.{back_line}
+use Rattle.ttlv_run.specs.Prints.{IsWholePrint, IsMalformedPrint, EndsPrint}
+use Rattle.ttlv_run.specs.Gets.{GotValues, LacksValues, FailsToGet}
 use Rattle.ttlv_run.specs.Finds.{FoundAll, LacksSome, FailsToFind, find_line}
 use Rattle.ttlv_run.specs.JsonValues.{PrintedJson, FaultsJson, FailsJson, bad_line}
 use Rattle.ttlv_run.specs.Reasons.{status_in, error_line}
-use Rattle.ttlv_run.specs.Runs.{Streams, Printed, Breaks, Fails, PrintedBack, FailsBack}
+use Rattle.ttlv_run.specs.Runs.{Streams, PrintedBack, FailsBack}
 use Rattle.ttlv_run.specs.Texts.{Names}
-use Rattle.ttlv_run.specs.Traffic.{Took, WholePackets, TroubledPackets, FailsPackets}
-use Rattle.ttlv_run.specs.declared.job.Job.{Job}
-
--- an input's messages were printed, or those of a packet capture
-abbrev pub IsWholePrint : Names → Job → Streams → Type 0
-IsWholePrint names job s = (Took job.encoding s None × Printed names job s) ⊎ WholePackets names job s
-
-abbrev pub IsMalformedPrint : Names → Job → Streams → List ℕ → Type 0
-IsMalformedPrint names job s line = (Took job.encoding s None × Breaks names job s line) ⊎ TroubledPackets names job s line
-
--- an input is no packet capture, or nothing was printed of it
-abbrev pub IsAlone : Job → Streams → Type 0
-IsAlone job s = Took job.encoding s None ⊎ Rests s.output s.output_now
-
-abbrev pub EndsPrint : Names → Job → Streams → RunError → Type 0
-EndsPrint names job s why = (IsAlone job s × Fails names job s why) ⊎ FailsPackets names job s why
-
--- what came of an input that is no packet capture
-abbrev pub RespondsAlone : Names → Job → Streams → Held → Held → Result Bool RunError → Type 0
-RespondsAlone names job s errors errors_now (Ok true) = Printed names job s × Rests errors errors_now
-RespondsAlone names job s errors errors_now (Ok false) = (line : List ℕ) × Breaks names job s line × Says errors errors_now line
-RespondsAlone names job s errors errors_now (Err why) = Fails names job s why × (errors_now ≡ errors)
-
--- or of any that is to be printed
-abbrev pub RespondsPrint : Names → Job → Streams → Held → Held → Result Bool RunError → Type 0
-RespondsPrint names job s errors errors_now (Ok true) = IsWholePrint names job s × Rests errors errors_now
-RespondsPrint names job s errors errors_now (Ok false) = (line : List ℕ) × IsMalformedPrint names job s line × Says errors errors_now line
-RespondsPrint names job s errors errors_now (Err why) = EndsPrint names job s why × (errors_now ≡ errors)
 
 -- the whole input was taken, all of it is whole, and exactly what is printed of it was appended to the output
 abbrev pub IsWhole : Names → Asked → Bor (List ℕ) → Streams → Type 0
 IsWhole names (Print task encoding) name s = IsWholePrint names (record { name = name; task = task; encoding = encoding }) s
+IsWhole names (Get task encoding) name s = GotValues names (record { name = name; task = task; encoding = encoding }) s
 IsWhole names (ReadBack prefix) name s = PrintedBack names prefix.now s None
 IsWhole names (FromJson raw) name s = PrintedJson raw s
 IsWhole names (Find look) name s = FoundAll names look s
@@ -54,6 +29,7 @@ IsWhole names (Find look) name s = FoundAll names look s
 -- front of it, or what all lines of diagnostics are read back as, each as far as it goes
 abbrev pub IsMalformed : Names → Asked → Bor (List ℕ) → Streams → List ℕ → Type 0
 IsMalformed names (Print task encoding) name s line = IsMalformedPrint names (record { name = name; task = task; encoding = encoding }) s line
+IsMalformed names (Get task encoding) name s line = LacksValues names (record { name = name; task = task; encoding = encoding }) s line
 IsMalformed names (ReadBack prefix) name s line =
     (fault : BackFault) × PrintedBack names prefix.now s (Some fault) × (line ≡ back_line name.now fault)
 IsMalformed names (FromJson raw) name s line = (fault : ValueFault) × FaultsJson raw s fault × (line ≡ bad_line name.now fault)
@@ -62,6 +38,7 @@ IsMalformed names (Find look) name s line = (fault : FindFault) × LacksSome nam
 -- it ended early for this reason, which is true of the input or of the output, and what was printed by then was appended
 abbrev pub EndsEarly : Names → Asked → Bor (List ℕ) → Streams → RunError → Type 0
 EndsEarly names (Print task encoding) name s why = EndsPrint names (record { name = name; task = task; encoding = encoding }) s why
+EndsEarly names (Get task encoding) name s why = FailsToGet names (record { name = name; task = task; encoding = encoding }) s why
 EndsEarly names (ReadBack prefix) name s why = FailsBack names prefix.now s why
 EndsEarly names (FromJson raw) name s why = FailsJson raw s why
 EndsEarly names (Find look) name s why = FailsToFind names look s why

@@ -9,6 +9,7 @@ pub mod Ends
 pub mod Escapes
 pub mod Files
 pub mod Fronts
+pub mod Gets
 pub mod Guesses
 pub mod Headings
 pub mod Inputs
@@ -18,6 +19,8 @@ pub mod JsonValues
 pub mod Masks
 pub mod Messages
 pub mod Misreadings
+pub mod Paths
+pub mod Prints
 pub mod Reasons
 pub mod Redactions
 pub mod Requests

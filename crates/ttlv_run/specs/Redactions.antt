@@ -17,6 +17,7 @@ redacted_look width colored = record {
   width = width;
   colored = colored;
   only = None;
+  path = None;
 }
 
 -- what is seen of an item: how many structures it is in, its tag, its type, and the value of an enumeration

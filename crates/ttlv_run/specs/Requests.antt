@@ -1,12 +1,13 @@
 -- What the options of a command ask for, by the word that the command line has for each.
-use Rattle.std.specs.Prelude.{◌≡◌, ℕ, ◌<◌, ◌^◌, Bool, true, false, not, ◌||◌, ◌&&◌, List, [], map, bytes_eq, codes, is_some, Option, Some, None, unwrap_or, option_map, if◌then◌else◌}
+use Rattle.std.specs.Prelude.{◌≡◌, ℕ, ◌<◌, ◌^◌, Bool, true, false, not, ◌==◌, ◌||◌, ◌&&◌, List, [], map, bytes_eq, codes, is_some, Option, Some, None, unwrap_or, option_map, if◌then◌else◌}
+use Rattle.std.specs.List.{slice_split}
 use Rattle.std.specs.Str.Parse.{IsNumeral, digits_value, without_leading_plus}
 use Rattle.clap.specs.Matches.{matched_of, raw_values, first_value, one_text}
 use Rattle.clap.specs.declared.parser.matches.Found.{Found}
 use Rattle.kmip_ttlv_json.specs.declared.print.Hiding.{Hiding}
 use Rattle.kmip_ttlv_json.specs.declared.print.Hiding.TheVariants as hiding
 use Rattle.ttlv_run.specs.declared.job.Asked.{Asked}
-use Rattle.ttlv_run.specs.declared.job.Asked.TheVariants.{Print, ReadBack, FromJson, Find}
+use Rattle.ttlv_run.specs.declared.job.Asked.TheVariants.{Print, Get, ReadBack, FromJson, Find}
 use Rattle.ttlv_run.specs.declared.job.Encoding.{Encoding}
 use Rattle.ttlv_run.specs.declared.job.Encoding.TheVariants as encoding
 use Rattle.ttlv_run.specs.declared.guess.TheConstants.{KMIP_PORT}
@@ -105,6 +106,7 @@ pub record IsLook (f : Found) (look : Look) : Type 0 where
   pub width : IsWidth (one_text f (codes "width")) look.width
   pub colored : look.colored ≡ false
   pub only : look.only ≡ None
+  pub path : look.path ≡ None
 
 -- `--prefix`
 abbrev pub prefix_in : Found → List ℕ
@@ -150,10 +152,19 @@ IsAsked command f (Print task encoding) = IsTask command f task × IsEncoding f 
 IsAsked command f (ReadBack prefix) = (command ≡ codes "undiag") × (prefix.now ≡ prefix_in f)
 IsAsked command f (FromJson raw) = (command ≡ codes "from-json") × (raw ≡ is_set f (codes "raw"))
 IsAsked command f (Find look) = (finds command f ≡ true) × IsLook f look
+IsAsked command f (Get task encoding) = ⊥
 
 -- the words of an option that may be given several times
 abbrev pub texts_in : Found → List ℕ → List (List ℕ)
 texts_in f option = unwrap_or (option_map raw_values (matched_of f option)) []
+
+-- the names between the slashes of a path
+abbrev pub path_words : List ℕ → List (List ℕ)
+path_words path = slice_split (λ b. b == 47) path
+
+-- `--get`
+abbrev pub path_in : Found → List (List ℕ)
+path_in f = unwrap_or (option_map path_words (first_value f (codes "get"))) []
 
 -- a request is what a command asks for
 pub record IsRequest (command : List ℕ) (f : Found) (r : Request) : Type 0 where
@@ -161,6 +172,7 @@ pub record IsRequest (command : List ℕ) (f : Found) (r : Request) : Type 0 whe
   pub names : option_map (λ s. s.now) r.names ≡ first_value f (codes "names")
   pub secrets : option_map (λ s. s.now) r.secrets ≡ first_value f (codes "secrets")
   pub tags : map (λ s. s.now) r.tags.items ≡ texts_in f (codes "tag")
+  pub path : map (λ s. s.now) r.path.items ≡ path_in f
   pub color : r.color ≡ color_in f
   pub files : map (λ s. s.now) r.files.items ≡ texts_in f (codes "files")
 
@@ -172,6 +184,22 @@ is_useless f = is_some (matched_of f (codes "secrets")) && not (is_given f (code
 abbrev pub tells_lengths : Found → Bool
 tells_lengths f =
     is_set f (codes "lengths") && (is_given f (codes "redact") (codes "all") || is_given f (codes "redact") (codes "keys"))
+
+-- values alone are asked for, and what stands in lines of items or in front of them
+abbrev pub gets_lines : Found → Bool
+gets_lines f =
+    is_some (matched_of f (codes "get"))
+    && (is_set f (codes "find") || is_some (matched_of f (codes "tag")) || is_set f (codes "offsets") || is_set f (codes "lengths"))
+
+-- the encoding that is named is that of a packet capture
+abbrev pub names_capture : Found → Bool
+names_capture f =
+    is_given f (codes "input") (codes "tcpdump") || is_given f (codes "input") (codes "pcap")
+    || is_given f (codes "input") (codes "pcapng")
+
+-- a port is named, and an encoding that has none
+abbrev pub names_port : Found → Bool
+names_port f = is_some (matched_of f (codes "port")) && is_some (matched_of f (codes "input")) && not (names_capture f)
 
 -- messages are looked for in any notation, and an encoding or a port is named
 abbrev pub names_encoding : Found → Bool

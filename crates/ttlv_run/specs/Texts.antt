@@ -1,15 +1,15 @@
 -- What is printed of one message.
 use Rattle.std.specs.Borrow.{Bor}
 use Rattle.std.specs.Prelude.{◌≡◌, ℕ, ◌+◌, ◌==◌, Bool, false, ◌&&◌, List, [], ◌∷◌, ◌++◌}
-use Rattle.std.specs.Prelude.{length, take, nat_lt, nat_le}
+use Rattle.std.specs.Prelude.{length, take, nat_lt, nat_le, slice_index}
 use Rattle.std.specs.Prelude.{Option, Some, None, if◌then◌else◌, codes}
 use Rattle.std.specs.List.{flat_map, list_any}
-use Rattle.std.specs.Fmt.{decimal}
+use Rattle.std.specs.Fmt.{decimal, signed_decimal}
 use Rattle.std.specs.Str.{trim_end}
-use Rattle.std.specs.Int.{w32, w64, from_be_bytes}
+use Rattle.std.specs.Int.{w32, w64, from_be_bytes, cast_signed}
 use Rattle.hex.specs.Hex.{encode_upper}
 use Rattle.kmip_ttlv_types.specs.declared.typ.TtlvType.{TtlvType}
-use Rattle.kmip_ttlv_types.specs.declared.typ.TtlvType.TheVariants.{Structure, Integer, Enumeration, TextString, ByteString, DateTime}
+use Rattle.kmip_ttlv_types.specs.declared.typ.TtlvType.TheVariants.{Structure, Integer, LongInteger, Enumeration, TextString, ByteString, DateTime, Interval}
 use Rattle.kmip_ttlv_util.specs.Diagnostics.{hostile}
 use Rattle.kmip_ttlv_util.specs.Lines.{bounded_part, data_part, hidden}
 use Rattle.kmip_ttlv_util.specs.Pretty.{value_shown}
@@ -86,6 +86,26 @@ value_text names values width tag DateTime content = value_shown DateTime conten
 value_text names values width tag ByteString content = bytes_shown width content
 value_text names values width tag typ content = value_shown typ content
 
+-- the name of an enumeration's value, or `0x` and its digits if it has none
+abbrev pub name_alone : Option (List ℕ) → List ℕ → List ℕ
+name_alone None content = codes "0x" ++ value_shown ByteString content
+name_alone (Some name) content = name
+
+-- the value of a leaf alone: an enumeration's by its name, other numbers and dates in decimal, the rest as in a line
+unfoldable pub bare_text : Names → Values → Option ℕ → ℕ → TtlvType → List ℕ → List ℕ
+bare_text names values width tag Structure content = []
+bare_text names Secret width tag typ content = hidden
+bare_text names values width tag Enumeration content =
+    name_alone (enumeration_name names.values names.tags tag (from_be_bytes w32 content)) content
+bare_text names Hidden width tag typ content = hidden
+bare_text names Escaped width tag TextString content = escape content
+bare_text names values width tag Integer content = signed_decimal (cast_signed w32 (from_be_bytes w32 content))
+bare_text names values width tag LongInteger content = signed_decimal (cast_signed w64 (from_be_bytes w64 content))
+bare_text names values width tag DateTime content = signed_decimal (cast_signed w64 (from_be_bytes w64 content))
+bare_text names values width tag Interval content = decimal (from_be_bytes w32 content)
+bare_text names values width tag ByteString content = bytes_shown width content
+bare_text names values width tag typ content = value_shown typ content
+
 -- what sets a colour, where lines are coloured
 abbrev pub color_part : Bool → List ℕ → List ℕ
 color_part colored color = if colored then color else []
@@ -120,7 +140,19 @@ is_asked (Some tags) tag = list_any (λ asked. asked == tag) tags.now
 abbrev pub values_shown : Look → ℕ → FoundItem → Values
 values_shown look secret i = if look.secrets_hidden && nat_lt i.offset secret then Secret else look.values
 
--- how far the secret items reach, and those that are asked for; and which attribute is named
+-- how many tags of a path, from its first, the structures around an item and it itself have, where so many were those of the last one
+abbrev pub path_reach : Option (Bor (List ℕ)) → ℕ → FoundItem → ℕ
+path_reach None met i = 0
+path_reach (Some path) met i =
+    if nat_lt i.depth (length path.now) && (nat_le i.depth met && slice_index path.now i.depth == i.tag) then i.depth + 1
+    else if nat_lt i.depth met then i.depth
+    else met
+
+-- an item is at the end of a path
+abbrev pub ends_path : List ℕ → ℕ → FoundItem → Bool
+ends_path path met i = met == length path && met == i.depth + 1
+
+-- how far the secret items reach, and those that are asked for; which attribute is named; and how far a path is met
 abbrev pub reach_after : Names → Look → List ℕ → Reach → FoundItem → Reach
 reach_after names look bytes r i =
     let secret = reach_end (names.secrets i.tag) r.secret i in
@@ -128,6 +160,7 @@ reach_after names look bytes r i =
       secret = secret;
       asked = reach_end (is_asked look.only i.tag) r.asked i;
       attribute = attribute_after names.named (values_shown look secret i) bytes r.attribute i;
+      path = path_reach look.path r.path i;
     }
 
 -- where several items were met
@@ -137,7 +170,7 @@ reach_all names look bytes r (i ∷ is) = reach_all names look bytes (reach_afte
 
 -- no item was met
 abbrev pub no_reach : Reach
-no_reach = record { secret = 0; asked = 0; attribute = None }
+no_reach = record { secret = 0; asked = 0; attribute = None; path = 0 }
 
 -- the value of an item among the bytes of a message, named as the attribute around has it
 unfoldable pub value_part : Names → Look → Reach → List ℕ → FoundItem → List ℕ
@@ -164,10 +197,18 @@ is_passed (Some tags) r i = nat_le r.asked i.offset
 abbrev pub covers : List ℕ → ℕ → FoundItem → Bool
 covers tags place i = list_any (λ tag. tag == i.tag) tags && nat_lt place (i.offset + 8 + i.length)
 
--- the line of an item, if it is asked for
+-- the line of an item's value alone, named as the attribute around has it
+unfoldable pub bare_line : Names → Look → Reach → List ℕ → FoundItem → List ℕ
+bare_line names look r bytes i =
+    bare_text names (values_shown look r.secret i) look.width (naming_tag r.attribute i) i.typ (content_at bytes i.offset) ++ 10 ∷ []
+
+-- the line of an item, if it is asked for; where the items of a path are, that of its value
+abbrev pub item_text_by : Option (Bor (List ℕ)) → Names → Look → Reach → ℕ → List ℕ → FoundItem → List ℕ
+item_text_by None names look r at bytes i = if is_passed look.only r i then [] else item_line names look r at bytes i
+item_text_by (Some path) names look r at bytes i = if ends_path path.now r.path i then bare_line names look r bytes i else []
+
 unfoldable pub item_text : Names → Look → Reach → ℕ → List ℕ → FoundItem → List ℕ
-item_text names look r at bytes i =
-    if is_passed look.only r i then [] else item_line names look r at bytes i
+item_text names look r at bytes i = item_text_by look.path names look r at bytes i
 
 -- the lines of items that a walk met one after the other, where those before them reach so far
 abbrev pub lines_from : Names → Look → ℕ → List ℕ → Reach → List FoundItem → List ℕ

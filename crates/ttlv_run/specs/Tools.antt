@@ -12,7 +12,9 @@ use Rattle.kmip_ttlv_names.specs.declared.masks.TheConstants.{STANDARD_MASKS}
 use Rattle.kmip_ttlv_names.specs.declared.secrets.TheConstants.{STANDARD_SECRETS}
 use Rattle.kmip_ttlv_json.specs.Printings.{is_there}
 use Rattle.ttlv_run.specs.declared.job.Asked.{Asked}
-use Rattle.ttlv_run.specs.declared.job.Asked.TheVariants.{Print, Find}
+use Rattle.ttlv_run.specs.declared.job.Asked.TheVariants.{Print, Get, Find}
+use Rattle.ttlv_run.specs.declared.job.Encoding.{Encoding}
+use Rattle.ttlv_run.specs.declared.job.Task.{Task}
 use Rattle.ttlv_run.specs.declared.job.Strict.TheVariants.{Show as ShowWhole}
 use Rattle.ttlv_run.specs.declared.job.Task.TheVariants.{Show, Whole}
 use Rattle.ttlv_run.specs.declared.run_error.RunError.TheVariants.{UnopenedInput, NoMemory}
@@ -98,6 +100,17 @@ with_look (Print (Whole (ShowWhole look)) encoding) colored tags =
 with_look (Find look) colored tags = Find (record look { colored = colored; only = only_of tags })
 with_look asked colored tags = asked
 
+-- what is asked of messages, for the values of a path
+abbrev pub getting : Task → Bor (List ℕ) → Encoding → Asked
+getting (Show look) path encoding = Get (Show (record look { path = Some path })) encoding
+getting (Whole (ShowWhole look)) path encoding = Get (Whole (ShowWhole (record look { path = Some path }))) encoding
+getting task path encoding = Print task encoding
+
+-- so is it if a path is named
+abbrev pub with_path : Asked → Bor (List ℕ) → Asked
+with_path (Print task encoding) path = if length path.now == 0 then Print task encoding else getting task path encoding
+with_path asked path = asked
+
 -- the line of a table that names nothing: of that of tags, or of that of secrets, where a line that names a value does not either
 pub data HasBadLine (tags secret : List ℕ) (n : ℕ) : Type 0 where
   of_tags : bad_own_line tags ≡ Some n → HasBadLine tags secret n
@@ -127,6 +140,10 @@ pub data IsRefused
   lacks_tag :
       (tags secret : List ℕ) → AreRead tables r.names r.secrets old new tags secret
       → LacksTag tags r.tags.items status line
+      → IsRefused tables r old new status line
+  lacks_path :
+      (tags secret : List ℕ) → AreRead tables r.names r.secrets old new tags secret
+      → LacksTag tags r.path.items status line
       → IsRefused tables r old new status line
   bad_names :
       (tags secret : List ℕ) (path : Bor (List ℕ)) (n : ℕ) → AreRead tables r.names r.secrets old new tags secret
@@ -161,12 +178,13 @@ pub data RequestDone
     {T J O I : Type 0} (tables : Opening T J) (files : Opening O I) (r : Request) (terminal : Terminal) (old_tables new_tables : T)
     (old new : At O) (can_fail : Bool) (input input_left : Option (List ℕ)) (status : ℕ) : Type 0 where
   done :
-      (tags secret : List ℕ) (only : Bor (List ℕ))
+      (tags secret : List ℕ) (only path : Bor (List ℕ))
       → AreRead tables r.names r.secrets old_tables new_tables tags secret
       → bad_line secret ≡ None
       → AreTags tags r.tags.items only.now
+      → AreTags tags r.path.items path.now
       → InputsDone files (names_for tags secret)
-      (with_look r.asked (is_colored r.color terminal.is_one (option_map (λ s. s.now) terminal.no_color)) only)
+      (with_path (with_look r.asked (is_colored r.color terminal.is_one (option_map (λ s. s.now) terminal.no_color)) only) path)
       r.files.items old new can_fail input input_left status
       → RequestDone tables files r terminal old_tables new_tables old new can_fail input input_left status
   refused :

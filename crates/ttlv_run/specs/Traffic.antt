@@ -1,6 +1,6 @@
 -- What is printed of a packet capture, and what is said of it.
 use Rattle.std.specs.Prelude.{◌≡◌, ◌⊎◌, ℕ, ◌+◌, ◌-◌, ◌<◌, ◌≤◌, ◌^◌, Bool, true, false, not, ◌&&◌, ◌==◌, List, [], ◌∷◌, ◌++◌, length, take, nat_lt, min, codes}
-use Rattle.std.specs.Prelude.{IsTrue, Option, Some, None, Result, Ok, Err, if◌then◌else◌, string_bytes}
+use Rattle.std.specs.Prelude.{is_none, IsTrue, Option, Some, None, Result, Ok, Err, if◌then◌else◌, string_bytes}
 use Rattle.std.specs.Fmt.{decimal}
 use Rattle.std.specs.Io.KnownBytes.{Consumes, IsAtEnd}
 use Rattle.kmip_ttlv_types.specs.Held.{Held, Gets, Rests, Says}
@@ -28,10 +28,10 @@ use Rattle.ttlv_run.specs.Reasons.{IsOfPrinting, PrintsFront}
 use Rattle.ttlv_run.specs.Runs.{Streams}
 use Rattle.ttlv_run.specs.Texts.{Names}
 
--- a task prints readable lines
+-- a task prints readable lines of items
 abbrev pub prints_lines : Task → Bool
-prints_lines (Show look) = true
-prints_lines (OfWhole (ShowWhole look)) = true
+prints_lines (Show look) = is_none look.path
+prints_lines (OfWhole (ShowWhole look)) = is_none look.path
 prints_lines task = false
 
 -- what a stream of an input is called

@@ -15,7 +15,7 @@ const EXAMPLES: &str = "Examples:
   ttlv check *.bin               the first fault of each file, if there is one
   ttlv hex capture.b64           one line of hexadecimal digits for each message
   ttlv json capture.bin          one line of JSON for each message
-  ttlv from-json messages.json   the message of each line of JSON, in hexadecimal
+  ttlv from-json messages.json   the message of each value of JSON, in hexadecimal
   ttlv show --find server.log    the messages within anything else
   ttlv show capture.pcapng       the messages that TCP carries in a packet capture
   tcpdump -xr a.pcap | ttlv show the same of what tcpdump -x, -X, -xx or -XX prints
@@ -53,6 +53,7 @@ enum Part {
     Find,
     Width,
     Tag,
+    Get,
     Color,
     Redact,
     Secrets,
@@ -80,6 +81,7 @@ const COMMANDS: [(&str, &str, &[Part]); 7] = [
             Part::Lengths,
             Part::Width,
             Part::Tag,
+            Part::Get,
             Part::Color,
             Part::Names,
             Part::Input,
@@ -135,7 +137,7 @@ const COMMANDS: [(&str, &str, &[Part]); 7] = [
     ),
     (
         "from-json",
-        "Prints the messages that lines of JSON are, in hexadecimal digits, a line each",
+        "Prints the messages that values of JSON are, in hexadecimal digits, a line each",
         &[Part::Bytes, Part::Files],
     ),
 ];
@@ -223,6 +225,12 @@ fn tag<'w>(alloc: Global) -> Arg<'w> {
         .help(
             "Prints only the items of this tag, with what is in them: its name in any spelling, or six hexadecimal digits; given again, of that one too",
         )
+}
+
+fn get<'w>(alloc: Global) -> Arg<'w> {
+    Arg::new(alloc, "get").long("get").value_name("PATH").help(
+        "Prints only the values of the items of this path, a line each: the names of the tags from a message's root, as for --tag, with slashes between; status 1 if there is none",
+    )
 }
 
 fn color<'w>(alloc: Global) -> Arg<'w> {
@@ -317,6 +325,7 @@ fn arg<'w>(alloc: Global, part: Part) -> Arg<'w> {
         Part::Find => find(alloc),
         Part::Width => width(alloc),
         Part::Tag => tag(alloc),
+        Part::Get => get(alloc),
         Part::Color => color(alloc),
         Part::Redact => redact(alloc),
         Part::Secrets => secrets(alloc),

@@ -39,6 +39,8 @@ pub struct Look<'w> {
     pub colored: bool,
     /// The tags, as numbers, of the items that are printed, with what is in them; all items where none are named.
     pub only: Option<&'w [u32]>,
+    /// The tags, as numbers, from a message's root to the items of which the values alone are printed, a line each; none for lines of items.
+    pub path: Option<&'w [u32]>,
 }
 
 impl Look<'_> {
@@ -51,6 +53,7 @@ impl Look<'_> {
         width: None,
         colored: false,
         only: None,
+        path: None,
     };
 }
 
@@ -136,9 +139,11 @@ impl Encoding {
 pub enum Asked<'w> {
     /// To print its messages, which stand in it so.
     Print { task: Task<'w>, encoding: Encoding },
+    /// To print the values of the items of a path in its messages, at its end; an input that has none of them is malformed.
+    Get { task: Task<'w>, encoding: Encoding },
     /// To read back its diagnostics, which leave these digits out of tags.
     ReadBack { prefix: &'w str },
-    /// To print the messages that its lines are the JSON of: as raw bytes, or in hexadecimal, each in a line of its own.
+    /// To print the messages that its values of JSON are: as raw bytes, or in hexadecimal, each in a line of its own.
     FromJson { raw: bool },
     /// To print the messages that stand anywhere in it, as readable lines, each behind a line that says where it begins.
     Find { look: Look<'w> },

@@ -1,7 +1,7 @@
 //! Laws of the definitions that the run's contract cites, each on a function without a body.
 
 ghost use Rattle.std.specs.Borrow.{Bor};
-ghost use Rattle.std.specs.Prelude.{◌≡◌, ◌<◌, ◌≤◌, ◌++◌, ℕ, Bool, not, List, [], Option, Some, None, length};
+ghost use Rattle.std.specs.Prelude.{◌≡◌, ◌≢◌, ◌<◌, ◌≤◌, ◌++◌, ℕ, Bool, not, List, [], ◌∷◌, Option, Some, None, length};
 ghost use Rattle.std.specs.List.{list_any};
 ghost use Rattle.kmip_ttlv_items.specs.declared.found.Fault.{Fault as AFault};
 ghost use Rattle.kmip_ttlv_items.specs.declared.found.FoundItem.{FoundItem as AnItem};
@@ -22,9 +22,10 @@ ghost use Rattle.ttlv_run.specs.AttributeNames.{NamesAttribute};
 ghost use Rattle.ttlv_run.specs.Fronts.{StandsFront};
 ghost use Rattle.ttlv_run.specs.Inputs.{Stands};
 ghost use Rattle.ttlv_run.specs.Messages.{Whole, message_at, Continues, place_told};
+ghost use Rattle.ttlv_run.specs.Paths.{tags_to};
 ghost use Rattle.ttlv_run.specs.Redactions.{redacted_look, outline};
 ghost use Rattle.ttlv_run.specs.Runs.{Streams as TheStreams, HasText, Faults, Unwritten};
-ghost use Rattle.ttlv_run.specs.Texts.{Names as TheNames, lines_from, no_reach, reach_all, is_passed, covers, IsMessageText};
+ghost use Rattle.ttlv_run.specs.Texts.{Names as TheNames, lines_from, no_reach, reach_all, is_passed, covers, bare_line, item_text, IsMessageText};
 
 /// What is printed of an input exists, whatever its bytes are; and it goes on behind what is printed of
 /// whole messages in front, and behind the lines of the items that were met of the next one.
@@ -78,6 +79,20 @@ pub fn an_item_is_shown_by_a_tag_of_its_own_or_around_it()
     ensures { (names : TheNames) (look : TheLook) (bytes : List ℕ) (met : List AnItem) (i : AnItem) (tags : Bor (List ℕ))
         → look.only ≡ Some tags
         → is_passed look.only (reach_all names look bytes no_reach met) i ≡ not (list_any (covers tags.now i.offset) met) }
+{}
+
+/// Where a path is asked for, of an item that a walk over a message meets next the line of its value alone is printed if the path is the
+/// tags of the structures around it, from the root on, and its own; and otherwise nothing.
+pub fn an_item_is_got_by_the_tags_around_it_and_its_own()
+    ensures got { (names : TheNames) (look : TheLook) (at : ℕ) (bytes : List ℕ) (p : ℕ) (es : List ℕ)
+        (met : List AnItem) (i : AnItem) (path : Bor (List ℕ))
+        → look.path ≡ Some path → Meets bytes p es met → i.depth ≡ length es → tags_to (met ++ i ∷ []) ≡ path.now
+        → item_text names look (reach_all names look bytes no_reach (met ++ i ∷ [])) at bytes i
+        ≡ bare_line names look (reach_all names look bytes no_reach (met ++ i ∷ [])) bytes i }
+    ensures others { (names : TheNames) (look : TheLook) (at : ℕ) (bytes : List ℕ) (p : ℕ) (es : List ℕ)
+        (met : List AnItem) (i : AnItem) (path : Bor (List ℕ))
+        → look.path ≡ Some path → Meets bytes p es met → i.depth ≡ length es → tags_to (met ++ i ∷ []) ≢ path.now
+        → item_text names look (reach_all names look bytes no_reach (met ++ i ∷ [])) at bytes i ≡ [] }
 {}
 
 /// Where some items of a message were met, the attribute by which values are named is that which the last Attribute Name

@@ -8,7 +8,7 @@
 //! Below it `files` is the entry for several inputs, whose names `headings` prints, and `run` for one, whatever is asked. `job` says what that is,
 //! `window` holds what was read and not printed yet, `guess` finds the encoding, `digits` prints a text as it comes, which `decoder`
 //! decodes group by group, `coding` says what the digits of a group stand for, `form` which bytes of a text are digits, and `misread`
-//! why it stands for no bytes. `messages` goes from message to message, `texts`, `lines`, `values`, `attributes`, `dates`, `masks`,
+//! why it stands for no bytes. `messages` goes from message to message, `texts`, `lines`, `values`, `bare`, `attributes`, `dates`, `masks`,
 //! `colors` and `escape` print one to any sink of texts, `back` reads diagnostics back, `from_json` JSON, whose values end as `json_ends` says, `find` prints messages within anything else, which
 //! ttlv_captures finds, `traffic` the messages of packet captures, which ttlv_packets puts together, `peers` who sent them and when, `kind` says what an input without messages looks like, and `run_error` has the
 //! reasons for statuses 2 and 3. `table` reads a file of names, `progress` reports how far the reading is, and `memory` says where a run
@@ -17,6 +17,7 @@
 
 mod attributes;
 mod back;
+mod bare;
 mod coding;
 mod colors;
 mod command;

@@ -1,14 +1,17 @@
 //! The readable lines of one message: a line for each item that a walk over it meets, or for those that are asked for.
 
-ghost use Rattle.std.specs.Prelude.{◌≡◌, ◌<◌, ◌+◌, ◌^◌, ◌++◌, codes, length, Option, IfOk, OnOk, OnErr};
+ghost use Rattle.std.specs.Prelude.{◌≡◌, ◌≢◌, ◌<◌, ◌+◌, ◌^◌, ◌++◌, codes, length, Option, IfOk, OnOk, OnErr};
 ghost use Rattle.std.specs.Fmt.{decimal};
 ghost use Rattle.ttlv_run.specs.declared.job.Task.TheVariants.{Show as ToShow};
+ghost use Rattle.kmip_ttlv_types.specs.declared.typ.TtlvType.TheVariants.{Structure as TheStructure};
 ghost use Rattle.kmip_ttlv_items.specs.declared.found.Fault.{Fault as AFault};
+ghost use Rattle.kmip_ttlv_items.specs.ItemWalks.{content_at};
 ghost use Rattle.kmip_ttlv_util.specs.Pieces.{SomeText};
 ghost use Rattle.ttlv_run.specs.Items.{IsGood};
-ghost use Rattle.ttlv_run.specs.Texts.{names_of, column_part, tag_part, value_part, item_line, values_shown, is_passed, item_text, is_asked, reach_end, reach_after, IsMessageText};
+ghost use Rattle.ttlv_run.specs.Texts.{names_of, column_part, tag_part, value_part, item_line, values_shown, is_passed, bare_line, path_reach, ends_path, item_text, is_asked, reach_end, reach_after, IsMessageText};
 
 use crate::attributes::{Attribute, attribute_after, naming_tag};
+use crate::bare::push_bare;
 use crate::colors::{NONE, TAG, VALUE, push_color};
 use crate::job::{Look, Names, Values};
 use crate::values::push_shown;
@@ -28,6 +31,8 @@ pub struct Reach {
     pub asked: u128,
     /// The attribute that the last Attribute Name names, while the walk is in the structure of that.
     pub attribute: Option<Attribute>,
+    /// How many tags of the path, if one is asked for, the structures around the last item and it itself have.
+    pub path: usize,
 }
 
 // How far items reach, where one more was met.
@@ -69,7 +74,27 @@ fn values_shown(look: &Look<'_>, secret: u128, item: &FoundItem) -> Values
     }
 }
 
-// How far the items of both kinds reach, and the attribute, where one more item was met.
+// How many tags of a path an item and the structures around it have, where so many were those of the last one.
+fn path_reach(path: Option<&[u32]>, met: usize, item: &FoundItem) -> usize
+    ensures { result ≡ path_reach path.entry met item.now }
+{
+    let Some(path) = path else {
+        return 0;
+    };
+    if item.depth < path.len() && item.depth <= met && path[item.depth] == *item.tag {
+        return item.depth + 1;
+    }
+    item.depth.min(met)
+}
+
+// Whether an item is at the end of a path.
+fn ends_path(path: &[u32], met: usize, item: &FoundItem) -> bool
+    ensures { result ≡ ends_path path.now met item.now }
+{
+    met == path.len() && met > 0 && met - 1 == item.depth
+}
+
+// How far the items of both kinds and the path reach, and the attribute, where one more item was met.
 fn reach_after<A: Allocator>(
     names: &Names<'_, A>,
     look: &Look<'_>,
@@ -88,6 +113,7 @@ fn reach_after<A: Allocator>(
         secret,
         asked,
         attribute,
+        path: path_reach(look.path, reach.path, item),
     }
 }
 
@@ -173,6 +199,38 @@ fn push_line<S: TextSink, A: Allocator>(
     out.push_str("\n")
 }
 
+// The value of an item; nothing of a structure, which has none of its own.
+fn content_of<'b>(bytes: &'b [u8], item: &FoundItem) -> &'b [u8]
+    requires { IsGood bytes.now item.now }
+    ensures { item.now.typ ≢ TheStructure → result.now ≡ content_at bytes.now item.now.offset }
+{
+    if item.typ == TtlvType::Structure {
+        return &[];
+    }
+    &bytes[item.offset + 8..item.offset + 8 + item.length as usize]
+}
+
+// Adds the line of an item's value alone.
+#[tactic(auto, unfolding(crate::specs::Texts::bare_line))]
+fn push_bare_line<S: TextSink, A: Allocator>(
+    out: &mut S,
+    names: &Names<'_, A>,
+    look: &Look<'_>,
+    reach: &Reach,
+    bytes: &[u8],
+    item: &FoundItem,
+) -> Result<(), S::Error>
+    requires { IsGood bytes.now item.now }
+    ensures ok { OnOk result (S.adds out.old (bare_line (names_of names.now) look.now reach.now bytes.now item.now) out.new) }
+    ensures err { OnErr result (S.breaks out.old (bare_line (names_of names.now) look.now reach.now bytes.now item.now) out.new) }
+{
+    let values = values_shown(look, reach.secret, item);
+    let tag = naming_tag(&reach.attribute, item);
+    let content = content_of(bytes, item);
+    push_bare(out, names, values, look.width, tag, item.typ, content)?;
+    out.push_str("\n")
+}
+
 // Whether an item is passed over, where tags are asked for and their items reach so far.
 fn is_passed(look: &Look<'_>, reach: &Reach, item: &FoundItem) -> bool
     ensures { result ≡ is_passed look.now.only reach.now item.now }
@@ -199,6 +257,12 @@ fn push_item<S: TextSink, A: Allocator>(
     ensures ok { OnOk result (S.adds out.old (item_text (names_of names.now) look.now reach.now at bytes.now item.now) out.new) }
     ensures err { OnErr result (S.breaks out.old (item_text (names_of names.now) look.now reach.now at bytes.now item.now) out.new) }
 {
+    if let Some(path) = look.path {
+        if ends_path(path, reach.path, item) {
+            return push_bare_line(out, names, look, reach, bytes, item);
+        }
+        return Ok(());
+    }
     if is_passed(look, reach, item) {
         return Ok(());
     }
@@ -231,6 +295,7 @@ pub fn push_lines<S: TextSink, A: Allocator + Copy>(
         secret: 0,
         asked: 0,
         attribute: None,
+        path: 0,
     };
     'items: loop {
         match walk.next()? {

@@ -3,7 +3,7 @@
 ghost use Rattle.std.specs.Prelude.{◌≡◌, ℕ, List, false, map, bytes_eq, codes, IfOk};
 ghost use Rattle.clap.specs.Matches.{found_of, one_text};
 ghost use Rattle.clap.specs.declared.parser.matches.Found.{Found};
-ghost use Rattle.ttlv_run.specs.Requests.{is_given, is_set, port_or, by_port, encoding_in, IsEncoding, prefix_in, values_in, IsWidth, IsLook, hiding_in, color_in, is_closed, is_strict, IsTask, texts_in, IsAsked, IsRequest, is_useless, tells_lengths, finds, names_encoding};
+ghost use Rattle.ttlv_run.specs.Requests.{is_given, is_set, port_or, by_port, encoding_in, IsEncoding, prefix_in, values_in, IsWidth, IsLook, hiding_in, color_in, is_closed, is_strict, IsTask, texts_in, IsAsked, IsRequest, is_useless, tells_lengths, finds, names_encoding, path_words, path_in, gets_lines, names_capture, names_port};
 
 use crate::command::program;
 use crate::guess::KMIP_PORT;
@@ -22,6 +22,13 @@ const TELLS: &str = "--lengths tells how long the values are that --redact hides
 /// Why an encoding and a port are refused where messages are looked for.
 const ANY_NOTATION: &str =
     "--find looks for messages in any notation, so it takes no --input and no --port";
+
+/// Why what stands in lines of items is refused where values are asked for.
+const VALUES_ALONE: &str =
+    "--get prints values alone, so it takes no --find, --tag, --offsets and --lengths";
+
+/// Why a port is refused.
+const NO_PORT: &str = "--port is that of a packet capture, and --input names another encoding";
 
 /// When lines are coloured.
 #[derive(Clone, Copy, Debug, PartialEq, Eq)]
@@ -45,6 +52,8 @@ pub struct Request<'w> {
     pub secrets: Option<&'w str>,
     /// The tags whose items alone are shown, each by its name or its hexadecimal digits; none for all items.
     pub tags: Vec<&'w str>,
+    /// The tags from a message's root to the items of which the values alone are printed, likewise; none for lines of items.
+    pub path: Vec<&'w str>,
     /// When lines are coloured.
     pub color: Color,
     /// The files to be read; none for standard input.
@@ -174,6 +183,7 @@ fn look_of<'w>(matches: &ArgMatches<'w>) -> Look<'w>
         width: width_of(matches),
         colored: false,
         only: None,
+        path: None,
     }
 }
 
@@ -288,6 +298,22 @@ fn texts_of<'w>(
     }
 }
 
+// The names between the slashes of a path.
+fn path_words<'w>(alloc: Global, path: &'w str) -> Result<Vec<&'w str>, AllocError>
+    ensures { IfOk result (λ words. map (λ s. s.now) words.items ≡ path_words path.now) }
+{
+    path.split('/').collect(alloc)
+}
+
+fn path_of<'w>(alloc: Global, matches: &ArgMatches<'w>) -> Result<Vec<&'w str>, AllocError>
+    ensures { IfOk result (λ words. map (λ s. s.now) words.items ≡ path_in (found_of matches.now)) }
+{
+    match matches.get_str("get") {
+        Some(path) => path_words(alloc, path),
+        None => Ok(Vec::new(alloc)),
+    }
+}
+
 // Whether messages are looked for within anything else.
 fn finds(command: &str, matches: &ArgMatches<'_>) -> bool
     ensures { result ≡ finds command.now (found_of matches.now) }
@@ -333,6 +359,7 @@ pub fn request_in<'w>(
         names: matches.get_str("names"),
         secrets: matches.get_str("secrets"),
         tags: texts_of(alloc, matches, "tag")?,
+        path: path_of(alloc, matches)?,
         color: color_of(matches),
         files: texts_of(alloc, matches, "files")?,
     })
@@ -360,11 +387,40 @@ fn names_encoding(matches: &ArgMatches<'_>) -> bool
     is_set(matches, "find") && (matches.contains_id("input") || matches.contains_id("port"))
 }
 
+// Whether values alone are asked for, and what stands in lines of items or in front of them.
+fn gets_lines(matches: &ArgMatches<'_>) -> bool
+    ensures { result ≡ gets_lines (found_of matches.now) }
+{
+    matches.contains_id("get")
+        && (is_set(matches, "find")
+            || matches.contains_id("tag")
+            || is_set(matches, "offsets")
+            || is_set(matches, "lengths"))
+}
+
+// Whether an encoding is that of a packet capture.
+fn names_capture(matches: &ArgMatches<'_>) -> bool
+    ensures { result ≡ names_capture (found_of matches.now) }
+{
+    is_given(matches, "input", "tcpdump")
+        || is_given(matches, "input", "pcap")
+        || is_given(matches, "input", "pcapng")
+}
+
+// Whether a port is named where the input is no packet capture.
+fn names_port(matches: &ArgMatches<'_>) -> bool
+    ensures { result ≡ names_port (found_of matches.now) }
+{
+    matches.contains_id("port") && matches.contains_id("input") && !names_capture(matches)
+}
+
 /// What words ask for, the first of which is the program's name. `--secrets` without `--redact=keys` is wrong usage, and so are
-/// `--lengths` with any `--redact` and `--find` with `--input` or `--port`. The error is to be printed, on standard output for help and the version, and has the exit status.
+/// `--lengths` with any `--redact`, `--find` with `--input` or `--port`, `--get` with `--find`, `--tag`, `--offsets` or `--lengths`, and
+/// `--port` with an `--input` that is no packet capture. The error is to be printed, on standard output for help and the version, and has the exit status.
 pub fn request_of<'w>(alloc: Global, words: &'w [String]) -> Result<Request<'w>, Error>
     ensures { IfOk result (λ r. (command : List ℕ) × (f : Found) × IsRequest command f r
-        × (is_useless f ≡ false) × (tells_lengths f ≡ false) × (names_encoding f ≡ false)) }
+        × (is_useless f ≡ false) × (tells_lengths f ≡ false) × (names_encoding f ≡ false)
+        × (gets_lines f ≡ false) × (names_port f ≡ false)) }
 {
     let mut program = program(alloc)?;
     let matches = program.try_get_matches_from_mut(words)?;
@@ -379,6 +435,12 @@ pub fn request_of<'w>(alloc: Global, words: &'w [String]) -> Result<Request<'w>,
     }
     if names_encoding(found) {
         return Err(program.error(ErrorKind::ArgumentConflict, ANY_NOTATION)?);
+    }
+    if gets_lines(found) {
+        return Err(program.error(ErrorKind::ArgumentConflict, VALUES_ALONE)?);
+    }
+    if names_port(found) {
+        return Err(program.error(ErrorKind::ArgumentConflict, NO_PORT)?);
     }
     Ok(request_in(alloc, command, found)?)
 }

@@ -7,10 +7,10 @@ ghost use Rattle.kmip_ttlv_names.specs.NameTables.{bad_line};
 ghost use Rattle.kmip_ttlv_names.specs.declared.table.TableError.TheVariants.{BadLine as ABadLine};
 ghost use Rattle.ttlv_run.specs.Texts.{names_of};
 ghost use Rattle.ttlv_run.specs.Tags.{AreTags};
-ghost use Rattle.ttlv_run.specs.Tools.{is_colored, IsUsage, no_memory_line, IsTable, LacksFile, AreRead, LacksOne, HasBadLine, word_of, LacksTag, only_of, with_look, names_for, InputsDone, RequestDone};
+ghost use Rattle.ttlv_run.specs.Tools.{is_colored, IsUsage, no_memory_line, IsTable, LacksFile, AreRead, LacksOne, HasBadLine, word_of, LacksTag, only_of, getting, with_path, with_look, names_for, InputsDone, RequestDone};
 
 use crate::files::{Opener, run_files};
-use crate::job::{Asked, Look, Names, Strict, Task};
+use crate::job::{Asked, Encoding, Look, Names, Strict, Task};
 use crate::memory::Memory;
 use crate::request::{Color, Request};
 use crate::run::{report_words, run};
@@ -146,6 +146,45 @@ fn only_of(tags: &[u32]) -> Option<&[u32]>
     ensures { result ≡ only_of tags.entry }
 {
     if tags.is_empty() { None } else { Some(tags) }
+}
+
+// What is asked of messages, for the values of a path.
+fn getting<'w>(task: Task<'w>, path: &'w [u32], encoding: Encoding) -> Asked<'w>
+    ensures { result ≡ getting task.entry path.entry encoding }
+{
+    match task {
+        Task::Show { look } => {
+            let path = Some(path);
+            let task = Task::Show {
+                look: Look { path, ..look },
+            };
+            Asked::Get { task, encoding }
+        }
+        Task::Whole {
+            strict: Strict::Show { look },
+        } => {
+            let path = Some(path);
+            let strict = Strict::Show {
+                look: Look { path, ..look },
+            };
+            let task = Task::Whole { strict };
+            Asked::Get { task, encoding }
+        }
+        task => Asked::Print { task, encoding },
+    }
+}
+
+// What is asked, for the values of a path if one is named.
+fn with_path<'w>(asked: Asked<'w>, path: &'w [u32]) -> Asked<'w>
+    ensures { result ≡ with_path asked.entry path.entry }
+{
+    if path.is_empty() {
+        return asked;
+    }
+    match asked {
+        Asked::Print { task, encoding } => getting(task, path, encoding),
+        asked => asked,
+    }
 }
 
 // What is asked, with the colours and the tags of readable lines.
@@ -296,6 +335,10 @@ pub fn run_request<B: Allocator + Copy, T: Opener, O: Opener, R: Source, W: Sink
         Ok(only) => only,
         Err(status) => return status,
     };
+    let path = match tags_of(alloc, tags.as_str(), request.path.as_slice(), errors) {
+        Ok(path) => path,
+        Err(status) => return status,
+    };
     let names = match names_in(alloc, tags.as_str(), secret.as_str()) {
         Ok(names) => names,
         Err(TableError::BadLine(_)) => {
@@ -309,7 +352,8 @@ pub fn run_request<B: Allocator + Copy, T: Opener, O: Opener, R: Source, W: Sink
         Err(TableError::OutOfMemory) => return no_memory(errors),
     };
     let colored = is_colored(request.color, terminal);
-    let asked = with_look(request.asked, colored, only.as_slice());
+    let looked = with_look(request.asked, colored, only.as_slice());
+    let asked = with_path(looked, path.as_slice());
     let memory = Memory {
         input: alloc,
         rest: alloc,

@@ -40,15 +40,15 @@ pub(crate) struct Notes<A: Allocator> {
     pub lines: String<A>,
 }
 
-// Whether a task prints readable lines.
+// Whether a task prints readable lines of items.
 fn prints_lines(task: Task<'_>) -> bool
     ensures { result ≡ prints_lines task.entry }
 {
     match task {
-        Task::Show { .. } => true,
+        Task::Show { look } => look.path.is_none(),
         Task::Whole {
-            strict: Strict::Show { .. },
-        } => true,
+            strict: Strict::Show { look },
+        } => look.path.is_none(),
         _ => false,
     }
 }

@@ -88,8 +88,8 @@ fn push_integer<S: TextSink, A: Allocator>(
     push_bits(out, names, tag, mask)
 }
 
-// The number of eight bytes.
-fn number_of(content: &[u8]) -> u64
+/// The number of eight bytes.
+pub fn number_of(content: &[u8]) -> u64
     requires { is_valid ADateTime content.now ≡ true }
     ensures { result ≡ from_be_bytes w64 content.now }
 {
@@ -129,8 +129,8 @@ fn push_count<S: TextSink>(out: &mut S, count: usize) -> Result<(), S::Error>
     out.push_str(" bytes)")
 }
 
-// Adds a string of bytes, as many as may be printed.
-fn push_bytes<S: TextSink>(
+/// Adds a string of bytes, as many as may be printed.
+pub fn push_bytes<S: TextSink>(
     out: &mut S,
     width: Option<usize>,
     content: &[u8],
