@@ -1,16 +1,19 @@
--- A message as JSON (OASIS "KMIP Additional Message Encodings", JSON).
-use Rattle.std.specs.Prelude.{ℕ, Bool, true, false, List, [], ◌∷◌, ◌++◌, nat_lt, codes}
-use Rattle.std.specs.Int.{w64, from_be_bytes, bytes_high_first}
+-- A message as JSON (OASIS "KMIP Additional Message Encodings", JSON), in two styles: by digits, or with the standard's words.
+use Rattle.std.specs.Prelude.{ℕ, Bool, true, false, List, [], ◌∷◌, ◌++◌, nat_lt, codes, Option, Some, None, unwrap_or, if◌then◌else◌}
+use Rattle.std.specs.Int.{w32, w64, from_be_bytes, bytes_high_first}
 use Rattle.hex.specs.Hex.{encode_upper}
-use Rattle.serde_json.specs.Data.{Data, null, boolean, string, array, object, Items, no_items, item, no_members, member}
+use Rattle.serde_json.specs.Data.{Data, null, boolean, string, array, object, Items, no_items, item, Members, no_members, member}
 use Rattle.kmip_ttlv_types.specs.declared.typ.TtlvType.{TtlvType}
 use Rattle.kmip_ttlv_types.specs.declared.typ.TtlvType.TheVariants.{Structure, Integer, LongInteger, BigInteger}
 use Rattle.kmip_ttlv_types.specs.declared.typ.TtlvType.TheVariants.{Enumeration, Boolean, TextString, ByteString}
 use Rattle.kmip_ttlv_types.specs.declared.typ.TtlvType.TheVariants.{DateTime, Interval}
+use Rattle.kmip_words.specs.{Words.word_of, Words.tag_word, Dates.date_text}
+use Rattle.kmip_ttlv_json.specs.declared.print.Style.{Style}
+use Rattle.kmip_ttlv_json.specs.declared.print.Style.TheVariants.{Digits, Names}
 use Rattle.kmip_ttlv_json.specs.declared.print.Shown.{Shown}
 use Rattle.kmip_ttlv_json.specs.declared.print.Shown.TheVariants.{All, Enumerations, Nothing}
 use Rattle.kmip_ttlv_types.specs.Trees.{Tree, Trees, leaf, node, no_trees, tree}
-use Rattle.kmip_ttlv_json.specs.Spellings.{data_text}
+use Rattle.kmip_ttlv_json.specs.{Spellings.data_text, Masks.mask_text}
 
 -- the name of a type
 abbrev pub type_word : TtlvType → List ℕ
@@ -33,23 +36,60 @@ hex_text bytes = 48 ∷ 120 ∷ encode_upper bytes
 abbrev pub is_true : List ℕ → Bool
 is_true content = nat_lt 0 (from_be_bytes w64 content)
 
--- the value of a leaf; null for one that is hidden
-abbrev pub value_json : Shown → TtlvType → List ℕ → Data
-value_json Nothing typ content = null
-value_json shown Enumeration content = string (hex_text content)
-value_json Enumerations typ content = null
-value_json All Boolean content = boolean (is_true content)
-value_json All TextString content = string content
-value_json All ByteString content = string (encode_upper content)
-value_json All typ content = string (hex_text content)
+-- ---- words
 
--- an item: its tag, its type and its value
-abbrev pub item_json : ℕ → TtlvType → Data → Data
-item_json tag typ value =
-    object (
-    member (codes "tag") (string (hex_text (bytes_high_first 3 tag))) (
-    member (codes "type") (string (type_word typ)) (
-    member (codes "value") value no_members)))
+-- the word of a tag, and words for a value: of an enumeration, of a mask, or the text of a date; where there are any
+abbrev pub word_of_tag : Style → ℕ → Option (List ℕ)
+word_of_tag Digits tag = None
+word_of_tag Names tag = tag_word tag
+
+abbrev pub value_words : ℕ → TtlvType → List ℕ → Option (List ℕ)
+value_words tag Enumeration content = word_of tag (from_be_bytes w32 content)
+value_words tag Integer content = mask_text tag (from_be_bytes w32 content)
+value_words tag DateTime content = date_text (from_be_bytes w64 content)
+value_words tag typ content = None
+
+abbrev pub words_for : Style → ℕ → TtlvType → List ℕ → Option (List ℕ)
+words_for Digits tag typ content = None
+words_for Names tag typ content = value_words tag typ content
+
+-- ---- items
+
+-- a value without words
+abbrev pub plain_json : TtlvType → List ℕ → Data
+plain_json Boolean content = boolean (is_true content)
+plain_json TextString content = string content
+plain_json ByteString content = string (encode_upper content)
+plain_json typ content = string (hex_text content)
+
+-- a value, by its words if there are any
+abbrev pub worded_json : Option (List ℕ) → TtlvType → List ℕ → Data
+worded_json (Some words) typ content = string words
+worded_json None typ content = plain_json typ content
+
+-- the value of a leaf is hidden
+abbrev pub is_hidden : Shown → TtlvType → Bool
+is_hidden All typ = false
+is_hidden Enumerations Enumeration = false
+is_hidden Enumerations typ = true
+is_hidden Nothing typ = true
+
+-- the value of a leaf; null for one that is hidden
+abbrev pub value_json : Style → Shown → ℕ → TtlvType → List ℕ → Data
+value_json style shown tag typ content =
+    if is_hidden shown typ then null else worded_json (words_for style tag typ content) typ content
+
+-- a tag: its word, if it has one, or its digits
+abbrev pub tag_text : Style → ℕ → List ℕ
+tag_text style tag = unwrap_or (word_of_tag style tag) (hex_text (bytes_high_first 3 tag))
+
+-- an item: its tag, its type and its value; a Structure with names does without its type
+abbrev pub typed_members : Style → TtlvType → Data → Members
+typed_members Names Structure value = member (codes "value") value no_members
+typed_members style typ value = member (codes "type") (string (type_word typ)) (member (codes "value") value no_members)
+
+abbrev pub item_json : Style → ℕ → TtlvType → Data → Data
+item_json style tag typ value = object (member (codes "tag") (string (tag_text style tag)) (typed_members style typ value))
 
 -- what is shown of a leaf: nothing of one with a secret tag, or in an item with one
 abbrev pub within : Shown → Bool → Shown
@@ -58,16 +98,16 @@ within shown true = Nothing
 
 -- a tree, of whose values so much is shown; nothing of those of secret tags, and of what is in them
 abbrev mutual
-  pub tree_json : (ℕ → Bool) → Shown → Tree → Data
-  tree_json secrets shown (leaf tag typ content) =
-      item_json tag typ (value_json (within shown (secrets tag)) typ content)
-  tree_json secrets shown (node tag below) =
-      item_json tag Structure (array (trees_json secrets (within shown (secrets tag)) below))
+  pub tree_json : Style → (ℕ → Bool) → Shown → Tree → Data
+  tree_json style secrets shown (leaf tag typ content) =
+      item_json style tag typ (value_json style (within shown (secrets tag)) tag typ content)
+  tree_json style secrets shown (node tag below) =
+      item_json style tag Structure (array (trees_json style secrets (within shown (secrets tag)) below))
 
-  pub trees_json : (ℕ → Bool) → Shown → Trees → Items
-  trees_json secrets shown no_trees = no_items
-  trees_json secrets shown (tree t ts) = item (tree_json secrets shown t) (trees_json secrets shown ts)
+  pub trees_json : Style → (ℕ → Bool) → Shown → Trees → Items
+  trees_json style secrets shown no_trees = no_items
+  trees_json style secrets shown (tree t ts) = item (tree_json style secrets shown t) (trees_json style secrets shown ts)
 
 -- the line of a message
-abbrev pub json_line : (ℕ → Bool) → Shown → Tree → List ℕ
-json_line secrets shown t = data_text (tree_json secrets shown t) ++ 10 ∷ []
+abbrev pub json_line : Style → (ℕ → Bool) → Shown → Tree → List ℕ
+json_line style secrets shown t = data_text (tree_json style secrets shown t) ++ 10 ∷ []

@@ -5,6 +5,7 @@ use Rattle.serde_json.specs.Read.{max_depth}
 use Rattle.kmip_ttlv_items.specs.declared.found.FoundItem.{FoundItem}
 use Rattle.kmip_ttlv_items.specs.FoundItems.{Lists}
 use Rattle.kmip_ttlv_items.specs.ItemWalks.{AreBytes}
+use Rattle.kmip_ttlv_json.specs.declared.print.Style.{Style}
 use Rattle.kmip_ttlv_json.specs.declared.print.Shown.TheVariants.{All}
 use Rattle.kmip_ttlv_json.specs.Spellings.{data_text}
 use Rattle.kmip_ttlv_json.specs.Jsons.{tree_json, json_line}
@@ -15,25 +16,25 @@ use Rattle.kmip_ttlv_json.specs.Readings.{Stands}
 abbrev pub no_secrets : ℕ → Bool
 no_secrets tag = false
 
--- whole messages with the same line, in which nothing is hidden, have the same tags, types and contents
+-- whole messages with the same line, whatever the style of each, in which nothing is hidden, have the same tags, types and contents
 abbrev pub DeterminesAll : Type 0
 DeterminesAll =
-    (a b : List ℕ) (xs ys : List FoundItem)
+    (style other : Style) (a b : List ℕ) (xs ys : List FoundItem)
     → AreBytes a
     → AreBytes b
     → (h : Lists a xs)
     → (k : Lists b ys)
-    → json_line no_secrets All h.message ≡ json_line no_secrets All k.message
+    → json_line style no_secrets All h.message ≡ json_line other no_secrets All k.message
     → h.message ≡ k.message
 
--- the line of a whole message, without its line feed, is the JSON of that message
+-- the line of a whole message in either style, without its line feed, is the JSON of that message
 abbrev pub ComesBack : Type 0
 ComesBack =
-    (bytes : List ℕ) (xs : List FoundItem)
+    (style : Style) (bytes : List ℕ) (xs : List FoundItem)
     → AreBytes bytes
     → (h : Lists bytes xs)
-    → depth (tree_json no_secrets All h.message) ≤ max_depth
-    → Stands (data_text (tree_json no_secrets All h.message)) h.message
+    → depth (tree_json style no_secrets All h.message) ≤ max_depth
+    → Stands (data_text (tree_json style no_secrets All h.message)) h.message
 
 -- what a text stands for is a whole message: its canonical bytes encode it
 abbrev pub ReadsMessages : Type 0

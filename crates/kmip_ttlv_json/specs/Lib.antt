@@ -1,4 +1,5 @@
 pub mod Spellings
+pub mod Masks
 pub mod Jsons
 pub mod Parts
 pub mod Printings

@@ -1,19 +1,19 @@
 -- The text of a message's JSON, item by item.
 use Rattle.std.specs.Prelude.{ℕ, zero, suc, ◌-◌, ◌==◌, Bool, true, false, not, ◌&&◌, List, [], ◌∷◌, ◌++◌, nat_lt, codes}
 use Rattle.std.specs.Prelude.{Option, Some, None, if◌then◌else◌}
-use Rattle.std.specs.Int.{bytes_high_first}
 use Rattle.hex.specs.Hex.{encode_upper}
 use Rattle.serde_json.specs.Written.{comma_if}
 use Rattle.kmip_ttlv_types.specs.declared.typ.TtlvType.{TtlvType}
-use Rattle.kmip_ttlv_types.specs.declared.typ.TtlvType.TheVariants.{Structure, Enumeration, Boolean, TextString, ByteString}
+use Rattle.kmip_ttlv_types.specs.declared.typ.TtlvType.TheVariants.{Structure, Boolean, TextString, ByteString}
 use Rattle.kmip_ttlv_types.specs.ItemTypes.{is_structure, type_of}
 use Rattle.kmip_ttlv_write.specs.FlatWrites.{opened}
 use Rattle.kmip_ttlv_write.specs.GivenItems.{Line}
 use Rattle.kmip_ttlv_json.specs.declared.print.Spot.{Spot}
+use Rattle.kmip_ttlv_json.specs.declared.print.Style.{Style}
+use Rattle.kmip_ttlv_json.specs.declared.print.Style.TheVariants.{Names}
 use Rattle.kmip_ttlv_json.specs.declared.print.Shown.{Shown}
-use Rattle.kmip_ttlv_json.specs.declared.print.Shown.TheVariants.{All, Enumerations, Nothing}
 use Rattle.kmip_ttlv_json.specs.Spellings.{spelled}
-use Rattle.kmip_ttlv_json.specs.Jsons.{type_word, is_true, within}
+use Rattle.kmip_ttlv_json.specs.Jsons.{type_word, is_true, within, tag_text, words_for, is_hidden}
 
 -- the ends of so many structures
 abbrev pub closes : ℕ → List ℕ
@@ -45,54 +45,57 @@ spot_after secrets s depth tag typ = record {
 abbrev pub gap : Spot → ℕ → List ℕ
 gap s depth = closes (s.depth - depth) ++ comma_if (not (s.first && s.depth == depth))
 
--- an item up to its value
-abbrev pub type_part : TtlvType → List ℕ
-type_part typ = codes "\",\"type\":\"" ++ (type_word typ ++ codes "\",\"value\":")
+-- an item up to the end of its tag, and from there to its value
+abbrev pub tag_part : Style → ℕ → List ℕ
+tag_part style tag = codes "{\"tag\":\"" ++ tag_text style tag
 
-unfoldable pub opening : ℕ → TtlvType → List ℕ
-opening tag typ = (codes "{\"tag\":\"0x" ++ encode_upper (bytes_high_first 3 tag)) ++ type_part typ
+abbrev pub type_part : Style → TtlvType → List ℕ
+type_part Names Structure = codes "\",\"value\":"
+type_part style typ = codes "\",\"type\":\"" ++ (type_word typ ++ codes "\",\"value\":")
+
+unfoldable pub opening : Style → ℕ → TtlvType → List ℕ
+opening style tag typ = tag_part style tag ++ type_part style typ
 
 -- digits as a JSON string, with what stands in front of them in it
 abbrev pub digits_text : List ℕ → List ℕ → List ℕ
 digits_text front content = front ++ (encode_upper content ++ codes "\"")
 
--- the value of a leaf is hidden
-abbrev pub is_hidden : Shown → TtlvType → Bool
-is_hidden All typ = false
-is_hidden Enumerations Enumeration = false
-is_hidden Enumerations typ = true
-is_hidden Nothing typ = true
+-- the text of a value without words, and by its words if there are any
+abbrev pub plain_text : TtlvType → List ℕ → List ℕ
+plain_text Boolean content = if is_true content then codes "true" else codes "false"
+plain_text TextString content = spelled content
+plain_text ByteString content = digits_text (codes "\"") content
+plain_text typ content = digits_text (codes "\"0x") content
+
+abbrev pub worded_text : Option (List ℕ) → TtlvType → List ℕ → List ℕ
+worded_text (Some words) typ content = spelled words
+worded_text None typ content = plain_text typ content
 
 -- the text of a leaf's value
-abbrev pub value_text : Shown → TtlvType → List ℕ → List ℕ
-value_text Nothing typ content = codes "null"
-value_text shown Enumeration content = digits_text (codes "\"0x") content
-value_text Enumerations typ content = codes "null"
-value_text All Boolean content = if is_true content then codes "true" else codes "false"
-value_text All TextString content = spelled content
-value_text All ByteString content = digits_text (codes "\"") content
-value_text All typ content = digits_text (codes "\"0x") content
+abbrev pub value_text : Style → Shown → ℕ → TtlvType → List ℕ → List ℕ
+value_text style shown tag typ content =
+    if is_hidden shown typ then codes "null" else worded_text (words_for style tag typ content) typ content
 
 -- the rest of an item: of a structure no more than where the items in it begin
-abbrev pub value_part : Shown → TtlvType → List ℕ → List ℕ
-value_part shown Structure content = codes "["
-value_part shown typ content = value_text shown typ content ++ codes "}"
+abbrev pub value_part : Style → Shown → ℕ → TtlvType → List ℕ → List ℕ
+value_part style shown tag Structure content = codes "["
+value_part style shown tag typ content = value_text style shown tag typ content ++ codes "}"
 
 -- an item with what stands in front of it
-abbrev pub item_part : (ℕ → Bool) → Shown → Spot → ℕ → ℕ → TtlvType → List ℕ → List ℕ
-item_part secrets shown s depth tag typ content =
-    gap s depth ++ (opening tag typ ++ value_part (shown_at secrets shown s depth tag) typ content)
+abbrev pub item_part : Style → (ℕ → Bool) → Shown → Spot → ℕ → ℕ → TtlvType → List ℕ → List ℕ
+item_part style secrets shown s depth tag typ content =
+    gap s depth ++ (opening style tag typ ++ value_part style (shown_at secrets shown s depth tag) tag typ content)
 
 -- the type of a code
 abbrev pub kind : ℕ → TtlvType
 kind n = elim (type_of n) [ None ↦ Structure | Some typ ↦ typ ]
 
 -- several items, one after the other; and where printing stands behind them
-abbrev pub parts : (ℕ → Bool) → Shown → Spot → List Line → List ℕ
-parts secrets shown s [] = []
-parts secrets shown s (l ∷ ls) =
-    item_part secrets shown s l.depth l.tag (kind l.code) l.content
-    ++ parts secrets shown (spot_after secrets s l.depth l.tag (kind l.code)) ls
+abbrev pub parts : Style → (ℕ → Bool) → Shown → Spot → List Line → List ℕ
+parts style secrets shown s [] = []
+parts style secrets shown s (l ∷ ls) =
+    item_part style secrets shown s l.depth l.tag (kind l.code) l.content
+    ++ parts style secrets shown (spot_after secrets s l.depth l.tag (kind l.code)) ls
 
 abbrev pub spot_behind : (ℕ → Bool) → Spot → List Line → Spot
 spot_behind secrets s [] = s

@@ -1,7 +1,8 @@
 //! TTLV messages as JSON, by the JSON encoding of OASIS "KMIP Additional Message Encodings".
 //!
-//! `print` prints a message as a line of JSON, item by item, over the walk of kmip_ttlv_items, and `quoted` a text in
-//! it. The JSON of a message is defined over trees in specs/Jsons, in the words of the toolchain's `serde_json`.
+//! `print` prints a message as a line of JSON, item by item, over the walk of kmip_ttlv_items, `plain` a value in it, and `quoted` a text;
+//! with the standard's names, `worded` prints a value's words, and `masks` those of a mask. The JSON of a message is defined over trees in
+//! specs/Jsons, in both styles, in the words of the toolchain's `serde_json`.
 //!
 //! `read` reads a message back from JSON as `serde_json` parses it, into canonical bytes, with no tree between: `tokens` counts the tokens
 //! that are taken, `seen` has what a value is seen as, `number` which numbers there are, and which are whole, `members` what the members of
@@ -13,16 +14,19 @@
 mod adding;
 mod failure;
 pub mod laws;
+mod masks;
 mod members;
 mod nesting;
 mod number;
 mod places;
+mod plain;
 mod print;
 mod quoted;
 mod read;
 mod seen;
 mod tokens;
+mod worded;
 
 pub use failure::{BadMember, JsonError};
-pub use print::{Hiding, push_json};
+pub use print::{Hiding, push_json, push_named_json};
 pub use read::from_json;

@@ -1,7 +1,7 @@
-//! A message as a line of JSON, item by item.
+//! A message as a line of JSON, item by item: by its digits, or with the standard's names.
 
-ghost use Rattle.std.specs.Prelude.{◌≡◌, ◌++◌, ℕ, Bool, true, Option, None, IfOk, OnOk, OnErr, codes};
-ghost use Rattle.kmip_ttlv_types.specs.declared.typ.TtlvType.TheVariants.{Boolean as ABoolean};
+ghost use Rattle.std.specs.Prelude.{◌≡◌, ◌++◌, ℕ, Bool, true, Option, None, IfOk, OnOk, OnErr, codes, option_map};
+ghost use Rattle.kmip_ttlv_types.specs.declared.typ.TtlvType.TheVariants.{Structure as AStructure};
 ghost use Rattle.kmip_ttlv_types.specs.Leaves.{is_valid};
 ghost use Rattle.kmip_ttlv_items.specs.declared.found.Fault.{Fault as AFault};
 ghost use Rattle.kmip_ttlv_items.specs.ItemWalks.{content_at, Judges};
@@ -9,15 +9,28 @@ ghost use Rattle.kmip_ttlv_util.specs.Pieces.{SomeText};
 ghost use Rattle.kmip_ttlv_write.specs.FlatWrites.{opened};
 ghost use Rattle.hex.specs.Hex.{encode_upper};
 ghost use Rattle.std.specs.Int.{bytes_high_first};
-ghost use Rattle.kmip_ttlv_json.specs.Jsons.{is_true, within};
-ghost use Rattle.kmip_ttlv_json.specs.Parts.{closes, is_inside, is_hidden, spot_after, gap, type_part, opening, value_text, value_part};
-ghost use Rattle.kmip_ttlv_json.specs.Printings.{secrets_of, shown_of, has_line, IsJson, IsThere};
+ghost use Rattle.kmip_ttlv_json.specs.declared.print.Style.TheVariants.{Digits as ByDigits, Names as ByNames};
+ghost use Rattle.kmip_ttlv_json.specs.Jsons.{within, is_hidden, word_of_tag, words_for};
+ghost use Rattle.kmip_ttlv_json.specs.Parts.{closes, is_inside, spot_after, gap, tag_part, type_part, opening, worded_text, value_text, value_part};
+ghost use Rattle.kmip_ttlv_json.specs.Printings.{style_of, secrets_of, shown_of, has_line, IsJson, IsThere};
 
-use crate::quoted::{push_digits_text, push_hex, push_quoted};
+use crate::plain::push_plain;
+use crate::quoted::push_hex;
+use crate::worded::push_worded;
 use kmip_ttlv_items::{Fault, FoundItem, ItemWalk, Step, find_fault};
 use kmip_ttlv_types::{TtlvTag, TtlvType};
 use kmip_ttlv_util::{LentTagMap, TextSink};
+use kmip_words::Words;
 use std::alloc::Allocator;
+
+/// How items are written.
+#[derive(Clone, Copy)]
+pub enum Style {
+    /// By the digits of their tags and values, each with its type.
+    Digits,
+    /// With the standard's words for their tags and values, and without the type of a Structure.
+    Names,
+}
 
 /// Which values are hidden.
 #[derive(Clone, Copy, Debug, PartialEq, Eq)]
@@ -52,12 +65,22 @@ pub struct Spot {
     pub secret: Option<usize>,
 }
 
-// What stands between the digits of a tag and the value of an item of this type.
-fn type_part(typ: TtlvType) -> &'static str
-    ensures { result.now ≡ type_part typ }
+// What stands between the tag of a Structure and its value.
+fn structure_part<A: Allocator>(words: Option<&Words<A>>) -> &'static str
+    ensures { result.now ≡ type_part (style_of words.entry) AStructure }
+{
+    match words {
+        Some(_) => "\",\"value\":",
+        None => "\",\"type\":\"Structure\",\"value\":",
+    }
+}
+
+// What stands between the tag and the value of an item of this type.
+fn type_part<A: Allocator>(words: Option<&Words<A>>, typ: TtlvType) -> &'static str
+    ensures { result.now ≡ type_part (style_of words.entry) typ }
 {
     match typ {
-        TtlvType::Structure => "\",\"type\":\"Structure\",\"value\":",
+        TtlvType::Structure => structure_part(words),
         TtlvType::Integer => "\",\"type\":\"Integer\",\"value\":",
         TtlvType::LongInteger => "\",\"type\":\"LongInteger\",\"value\":",
         TtlvType::BigInteger => "\",\"type\":\"BigInteger\",\"value\":",
@@ -165,8 +188,27 @@ fn push_gap<S: TextSink>(out: &mut S, spot: Spot, depth: usize) -> Result<(), S:
     })
 }
 
+// The word of a tag, if it has one, and words are at hand.
+fn word_of_tag<A: Allocator>(words: Option<&Words<A>>, tag: TtlvTag) -> Option<&'static str>
+    ensures { option_map (λ s. s.now) result ≡ word_of_tag (style_of words.entry) tag }
+{
+    match words {
+        Some(words) => words.tag_word(tag),
+        None => None,
+    }
+}
+
+// Adds the beginning of an item, up to its tag's word.
+fn push_tag_word<S: TextSink>(out: &mut S, word: &str) -> Result<(), S::Error>
+    ensures ok { OnOk result (S.adds out.old (codes "{\"tag\":\"" ++ word.now) out.new) }
+    ensures err { OnErr result (S.breaks out.old (codes "{\"tag\":\"" ++ word.now) out.new) }
+{
+    out.push_str("{\"tag\":\"")?;
+    out.push_str(word)
+}
+
 // Adds the beginning of an item, up to the digits of its tag.
-fn push_tag_part<S: TextSink>(out: &mut S, tag: TtlvTag) -> Result<(), S::Error>
+fn push_tag_digits<S: TextSink>(out: &mut S, tag: TtlvTag) -> Result<(), S::Error>
     ensures ok { OnOk result (S.adds out.old (codes "{\"tag\":\"0x" ++ encode_upper (bytes_high_first 3 tag)) out.new) }
     ensures err { OnErr result (S.breaks out.old (codes "{\"tag\":\"0x" ++ encode_upper (bytes_high_first 3 tag)) out.new) }
 {
@@ -175,26 +217,34 @@ fn push_tag_part<S: TextSink>(out: &mut S, tag: TtlvTag) -> Result<(), S::Error>
     push_hex(out, &bytes)
 }
 
-// Adds an item up to its value.
-#[tactic(auto, unfolding(crate::specs::Parts::opening))]
-fn push_opening<S: TextSink>(out: &mut S, tag: TtlvTag, typ: TtlvType) -> Result<(), S::Error>
-    ensures ok { OnOk result (S.adds out.old (opening tag typ) out.new) }
-    ensures err { OnErr result (S.breaks out.old (opening tag typ) out.new) }
+// Adds the beginning of an item, up to its tag.
+fn push_tag_part<S: TextSink, A: Allocator>(
+    out: &mut S,
+    words: Option<&Words<A>>,
+    tag: TtlvTag,
+) -> Result<(), S::Error>
+    ensures ok { OnOk result (S.adds out.old (tag_part (style_of words.entry) tag) out.new) }
+    ensures err { OnErr result (S.breaks out.old (tag_part (style_of words.entry) tag) out.new) }
 {
-    push_tag_part(out, tag)?;
-    out.push_str(type_part(typ))
+    match word_of_tag(words, tag) {
+        Some(word) => push_tag_word(out, word),
+        None => push_tag_digits(out, tag),
+    }
 }
 
-// The value of a Boolean.
-fn is_true(content: &[u8]) -> bool
-    requires { is_valid ABoolean content.now ≡ true }
-    ensures { result ≡ is_true content.now }
+// Adds an item up to its value.
+#[tactic(auto, unfolding(crate::specs::Parts::opening))]
+fn push_opening<S: TextSink, A: Allocator>(
+    out: &mut S,
+    words: Option<&Words<A>>,
+    tag: TtlvTag,
+    typ: TtlvType,
+) -> Result<(), S::Error>
+    ensures ok { OnOk result (S.adds out.old (opening (style_of words.entry) tag typ) out.new) }
+    ensures err { OnErr result (S.breaks out.old (opening (style_of words.entry) tag typ) out.new) }
 {
-    let number = u64::from_be_bytes([
-        content[0], content[1], content[2], content[3], content[4], content[5], content[6],
-        content[7],
-    ]);
-    number > 0
+    push_tag_part(out, words, tag)?;
+    out.push_str(type_part(words, typ))
 }
 
 // Whether the value of a leaf is hidden.
@@ -208,67 +258,91 @@ fn is_hidden(shown: Shown, typ: TtlvType) -> bool
     }
 }
 
-// Adds the value of a leaf.
-fn push_leaf<S: TextSink>(
+// Adds the value of a leaf that is shown: its words, if it has some, and words are at hand.
+fn push_shown<S: TextSink, A: Allocator>(
+    alloc: A,
     out: &mut S,
-    shown: Shown,
+    words: Option<&Words<A>>,
+    tag: TtlvTag,
     typ: TtlvType,
     content: &[u8],
 ) -> Result<(), S::Error>
     requires { is_valid typ content.now ≡ true }
-    ensures ok { OnOk result (S.adds out.old (value_text shown typ content.now) out.new) }
-    ensures err { OnErr result (S.breaks out.old (value_text shown typ content.now) out.new) }
+    ensures ok { OnOk result (S.adds out.old (worded_text (words_for (style_of words.entry) tag typ content.now) typ content.now) out.new) }
+    ensures err { OnErr result (S.breaks out.old (worded_text (words_for (style_of words.entry) tag typ content.now) typ content.now) out.new) }
+{
+    match words {
+        Some(words) => push_worded(alloc, out, words, tag, typ, content),
+        None => push_plain(out, typ, content),
+    }
+}
+
+// Adds the value of a leaf.
+fn push_leaf<S: TextSink, A: Allocator>(
+    alloc: A,
+    out: &mut S,
+    words: Option<&Words<A>>,
+    shown: Shown,
+    tag: TtlvTag,
+    typ: TtlvType,
+    content: &[u8],
+) -> Result<(), S::Error>
+    requires { is_valid typ content.now ≡ true }
+    ensures ok { OnOk result (S.adds out.old (value_text (style_of words.entry) shown tag typ content.now) out.new) }
+    ensures err { OnErr result (S.breaks out.old (value_text (style_of words.entry) shown tag typ content.now) out.new) }
 {
     if is_hidden(shown, typ) {
-        return out.push_str("null");
-    }
-    match typ {
-        TtlvType::Boolean => out.push_str(if is_true(content) { "true" } else { "false" }),
-        TtlvType::TextString => push_quoted(out, content),
-        TtlvType::ByteString => push_digits_text(out, "\"", content),
-        _ => push_digits_text(out, "\"0x", content),
+        out.push_str("null")
+    } else {
+        push_shown(alloc, out, words, tag, typ, content)
     }
 }
 
 // Adds the value of an item and its end; of a structure the beginning of it.
-fn push_value_part<S: TextSink>(
+fn push_value_part<S: TextSink, A: Allocator>(
+    alloc: A,
     out: &mut S,
+    words: Option<&Words<A>>,
     shown: Shown,
     bytes: &[u8],
     item: &FoundItem,
 ) -> Result<(), S::Error>
     requires { IsThere bytes.now item.now }
-    ensures ok { OnOk result (S.adds out.old (value_part shown item.now.typ (content_at bytes.now item.now.offset)) out.new) }
-    ensures err { OnErr result (S.breaks out.old (value_part shown item.now.typ (content_at bytes.now item.now.offset)) out.new) }
+    ensures ok { OnOk result (S.adds out.old (value_part (style_of words.entry) shown item.now.tag item.now.typ (content_at bytes.now item.now.offset)) out.new) }
+    ensures err { OnErr result (S.breaks out.old (value_part (style_of words.entry) shown item.now.tag item.now.typ (content_at bytes.now item.now.offset)) out.new) }
 {
     if item.typ == TtlvType::Structure {
         return out.push_str("[");
     }
     let content = &bytes[item.offset + 8..item.offset + 8 + item.length as usize];
-    push_leaf(out, shown, item.typ, content)?;
+    push_leaf(alloc, out, words, shown, item.tag, item.typ, content)?;
     out.push_str("}")
 }
 
 // Adds an item.
-fn push_own<S: TextSink>(
+fn push_own<S: TextSink, A: Allocator>(
+    alloc: A,
     out: &mut S,
+    words: Option<&Words<A>>,
     shown: Shown,
     bytes: &[u8],
     item: &FoundItem,
 ) -> Result<(), S::Error>
     requires { IsThere bytes.now item.now }
-    ensures ok { OnOk result (S.adds out.old (opening item.now.tag item.now.typ
-        ++ value_part shown item.now.typ (content_at bytes.now item.now.offset)) out.new) }
-    ensures err { OnErr result (S.breaks out.old (opening item.now.tag item.now.typ
-        ++ value_part shown item.now.typ (content_at bytes.now item.now.offset)) out.new) }
+    ensures ok { OnOk result (S.adds out.old (opening (style_of words.entry) item.now.tag item.now.typ
+        ++ value_part (style_of words.entry) shown item.now.tag item.now.typ (content_at bytes.now item.now.offset)) out.new) }
+    ensures err { OnErr result (S.breaks out.old (opening (style_of words.entry) item.now.tag item.now.typ
+        ++ value_part (style_of words.entry) shown item.now.tag item.now.typ (content_at bytes.now item.now.offset)) out.new) }
 {
-    push_opening(out, item.tag, item.typ)?;
-    push_value_part(out, shown, bytes, item)
+    push_opening(out, words, item.tag, item.typ)?;
+    push_value_part(alloc, out, words, shown, bytes, item)
 }
 
 // Adds an item, with what stands in front of it.
-fn push_item<S: TextSink>(
+fn push_item<S: TextSink, A: Allocator>(
+    alloc: A,
     out: &mut S,
+    words: Option<&Words<A>>,
     spot: Spot,
     shown: Shown,
     bytes: &[u8],
@@ -276,14 +350,14 @@ fn push_item<S: TextSink>(
 ) -> Result<(), S::Error>
     requires { IsThere bytes.now item.now }
     ensures ok { OnOk result (S.adds out.old
-        (gap spot item.now.depth ++ (opening item.now.tag item.now.typ
-        ++ value_part shown item.now.typ (content_at bytes.now item.now.offset))) out.new) }
+        (gap spot item.now.depth ++ (opening (style_of words.entry) item.now.tag item.now.typ
+        ++ value_part (style_of words.entry) shown item.now.tag item.now.typ (content_at bytes.now item.now.offset))) out.new) }
     ensures err { OnErr result (S.breaks out.old
-        (gap spot item.now.depth ++ (opening item.now.tag item.now.typ
-        ++ value_part shown item.now.typ (content_at bytes.now item.now.offset))) out.new) }
+        (gap spot item.now.depth ++ (opening (style_of words.entry) item.now.tag item.now.typ
+        ++ value_part (style_of words.entry) shown item.now.tag item.now.typ (content_at bytes.now item.now.offset))) out.new) }
 {
     push_gap(out, spot, item.depth)?;
-    push_own(out, shown, bytes, item)
+    push_own(alloc, out, words, shown, bytes, item)
 }
 
 // What is shown of an item's value, where its tag is secret or not.
@@ -306,19 +380,20 @@ fn push_end<S: TextSink>(out: &mut S, depth: u128) -> Result<(), S::Error>
 }
 
 // Adds the line of a message that has no fault, and gives the end of the walk over it.
-fn push_line<S: TextSink, A: Allocator>(
+fn push_line<S: TextSink, A: Allocator + Copy>(
     alloc: A,
     out: &mut S,
+    words: Option<&Words<A>>,
     hiding: Hiding,
     secrets: &LentTagMap<'_, A>,
     message: &[u8],
 ) -> Result<Option<Fault>, S::Error>
     requires { Judges message.now None }
     ensures ok { IfOk result (λ fault. SomeText
-        (λ t. IsJson (secrets_of hiding (has_line secrets.now)) (shown_of hiding) message.now t fault)
+        (λ t. IsJson (style_of words.entry) (secrets_of hiding (has_line secrets.now)) (shown_of hiding) message.now t fault)
         (λ t. S.adds out.old t out.new)) }
     ensures err { OnErr result (SomeText
-        (λ t. (fault : Option AFault) × IsJson (secrets_of hiding (has_line secrets.now)) (shown_of hiding) message.now t fault)
+        (λ t. (fault : Option AFault) × IsJson (style_of words.entry) (secrets_of hiding (has_line secrets.now)) (shown_of hiding) message.now t fault)
         (λ t. S.breaks out.old t out.new)) }
 {
     let mut walk = ItemWalk::new(alloc, message);
@@ -332,7 +407,7 @@ fn push_line<S: TextSink, A: Allocator>(
             Step::Item(item) => {
                 let is_secret = is_secret(hiding, secrets, item.tag);
                 let shown = shown_at(hiding, spot, is_secret, item.depth);
-                push_item(out, spot, shown, message, &item)?;
+                push_item(alloc, out, words, spot, shown, message, &item)?;
                 spot = spot_after(spot, is_secret, &item);
             }
             Step::End(fault) => {
@@ -341,6 +416,28 @@ fn push_line<S: TextSink, A: Allocator>(
             }
         }
     }
+}
+
+// Adds a message as a line of JSON, if it has no fault.
+fn push_message<S: TextSink, A: Allocator + Copy>(
+    alloc: A,
+    out: &mut S,
+    words: Option<&Words<A>>,
+    hiding: Hiding,
+    secrets: &LentTagMap<'_, A>,
+    message: &[u8],
+) -> Result<Option<Fault>, S::Error>
+    ensures ok { IfOk result (λ fault. SomeText
+        (λ t. IsJson (style_of words.entry) (secrets_of hiding (has_line secrets.now)) (shown_of hiding) message.now t fault)
+        (λ t. S.adds out.old t out.new)) }
+    ensures err { OnErr result (SomeText
+        (λ t. (fault : Option AFault) × IsJson (style_of words.entry) (secrets_of hiding (has_line secrets.now)) (shown_of hiding) message.now t fault)
+        (λ t. S.breaks out.old t out.new)) }
+{
+    if let Some(fault) = find_fault(alloc, message)? {
+        return Ok(Some(fault));
+    }
+    push_line(alloc, out, words, hiding, secrets, message)
 }
 
 /// Adds a message as a line of JSON, and gives its first fault; of a message with a fault it adds nothing.
@@ -355,14 +452,34 @@ pub fn push_json<S: TextSink, A: Allocator + Copy>(
     message: &[u8],
 ) -> Result<Option<Fault>, S::Error>
     ensures ok { IfOk result (λ fault. SomeText
-        (λ t. IsJson (secrets_of hiding (has_line secrets.now)) (shown_of hiding) message.now t fault)
+        (λ t. IsJson ByDigits (secrets_of hiding (has_line secrets.now)) (shown_of hiding) message.now t fault)
         (λ t. S.adds out.old t out.new)) }
     ensures err { OnErr result (SomeText
-        (λ t. (fault : Option AFault) × IsJson (secrets_of hiding (has_line secrets.now)) (shown_of hiding) message.now t fault)
+        (λ t. (fault : Option AFault) × IsJson ByDigits (secrets_of hiding (has_line secrets.now)) (shown_of hiding) message.now t fault)
         (λ t. S.breaks out.old t out.new)) }
 {
-    if let Some(fault) = find_fault(alloc, message)? {
-        return Ok(Some(fault));
-    }
-    push_line(alloc, out, hiding, secrets, message)
+    push_message(alloc, out, None, hiding, secrets, message)
+}
+
+/// The same with the standard's names, as other implementations write JSON: the words of tags, of the values of enumerations and of the
+/// bits of masks, and the texts of dates. A Structure has no `type`.
+///
+/// A tag or a value without words, or whose words would be read as another, is written as by [`push_json`], and so is any other value;
+/// a value that is hidden is `null`. Make the words once, by `standard_words`. It takes memory for the words of a mask, too.
+pub fn push_named_json<S: TextSink, A: Allocator + Copy>(
+    alloc: A,
+    out: &mut S,
+    words: &Words<A>,
+    hiding: Hiding,
+    secrets: &LentTagMap<'_, A>,
+    message: &[u8],
+) -> Result<Option<Fault>, S::Error>
+    ensures ok { IfOk result (λ fault. SomeText
+        (λ t. IsJson ByNames (secrets_of hiding (has_line secrets.now)) (shown_of hiding) message.now t fault)
+        (λ t. S.adds out.old t out.new)) }
+    ensures err { OnErr result (SomeText
+        (λ t. (fault : Option AFault) × IsJson ByNames (secrets_of hiding (has_line secrets.now)) (shown_of hiding) message.now t fault)
+        (λ t. S.breaks out.old t out.new)) }
+{
+    push_message(alloc, out, Some(words), hiding, secrets, message)
 }

@@ -1,0 +1,104 @@
+//! What items with names have in place of digits: the standard's words for tags and values.
+
+ghost use Rattle.std.specs.Prelude.{◌≡◌, ◌++◌, true, codes, OnOk, OnErr};
+ghost use Rattle.kmip_ttlv_types.specs.declared.typ.TtlvType.TheVariants.{Integer as AnInteger, Enumeration as AnEnumeration, DateTime as ADate};
+ghost use Rattle.kmip_ttlv_types.specs.Leaves.{is_valid};
+ghost use Rattle.kmip_words.specs.Words.{is_word};
+ghost use Rattle.kmip_ttlv_json.specs.Spellings.{spelled};
+ghost use Rattle.kmip_ttlv_json.specs.Jsons.{value_words};
+ghost use Rattle.kmip_ttlv_json.specs.Parts.{worded_text};
+
+use crate::masks::mask_text;
+use crate::plain::{eight_bytes, four_bytes, push_plain};
+use crate::quoted::push_quoted;
+use kmip_ttlv_types::{TtlvTag, TtlvType};
+use kmip_ttlv_util::TextSink;
+use kmip_words::{Words, date_text};
+use std::alloc::Allocator;
+
+// Adds a word and the end of its JSON string.
+fn push_word_end<S: TextSink>(out: &mut S, word: &str) -> Result<(), S::Error>
+    ensures ok { OnOk result (S.adds out.old (word.now ++ codes "\"") out.new) }
+    ensures err { OnErr result (S.breaks out.old (word.now ++ codes "\"") out.new) }
+{
+    out.push_str(word)?;
+    out.push_str("\"")
+}
+
+// Adds a word as a JSON string.
+fn push_word<S: TextSink>(out: &mut S, word: &str) -> Result<(), S::Error>
+    requires { is_word word.now ≡ true }
+    ensures ok { OnOk result (S.adds out.old (spelled word.now) out.new) }
+    ensures err { OnErr result (S.breaks out.old (spelled word.now) out.new) }
+{
+    out.push_str("\"")?;
+    push_word_end(out, word)
+}
+
+// Adds an enumeration's value: its word, if it has one.
+fn push_enumeration<S: TextSink, A: Allocator>(
+    out: &mut S,
+    words: &Words<A>,
+    tag: TtlvTag,
+    content: &[u8],
+) -> Result<(), S::Error>
+    requires { is_valid AnEnumeration content.now ≡ true }
+    ensures ok { OnOk result (S.adds out.old (worded_text (value_words tag AnEnumeration content.now) AnEnumeration content.now) out.new) }
+    ensures err { OnErr result (S.breaks out.old (worded_text (value_words tag AnEnumeration content.now) AnEnumeration content.now) out.new) }
+{
+    match words.value_word(tag, four_bytes(content)) {
+        Some(word) => push_word(out, word),
+        None => push_plain(out, TtlvType::Enumeration, content),
+    }
+}
+
+// Adds an Integer: the words of its bits, if it is a mask.
+fn push_integer<S: TextSink, A: Allocator>(
+    alloc: A,
+    out: &mut S,
+    words: &Words<A>,
+    tag: TtlvTag,
+    content: &[u8],
+) -> Result<(), S::Error>
+    requires { is_valid AnInteger content.now ≡ true }
+    ensures ok { OnOk result (S.adds out.old (worded_text (value_words tag AnInteger content.now) AnInteger content.now) out.new) }
+    ensures err { OnErr result (S.breaks out.old (worded_text (value_words tag AnInteger content.now) AnInteger content.now) out.new) }
+{
+    match mask_text(alloc, words, tag, four_bytes(content))? {
+        Some(text) => push_quoted(out, text.as_bytes()),
+        None => push_plain(out, TtlvType::Integer, content),
+    }
+}
+
+// Adds a Date-Time: the text of its date, if it has one.
+fn push_date<S: TextSink>(out: &mut S, tag: TtlvTag, content: &[u8]) -> Result<(), S::Error>
+    requires { is_valid ADate content.now ≡ true }
+    ensures ok { OnOk result (S.adds out.old (worded_text (value_words tag ADate content.now) ADate content.now) out.new) }
+    ensures err { OnErr result (S.breaks out.old (worded_text (value_words tag ADate content.now) ADate content.now) out.new) }
+{
+    match date_text(eight_bytes(content)) {
+        Some(text) => push_quoted(out, &text),
+        None => push_plain(out, TtlvType::DateTime, content),
+    }
+}
+
+/// Adds the value of a leaf: its words, if it has some.
+pub fn push_worded<S: TextSink, A: Allocator>(
+    alloc: A,
+    out: &mut S,
+    words: &Words<A>,
+    tag: TtlvTag,
+    typ: TtlvType,
+    content: &[u8],
+) -> Result<(), S::Error>
+    requires { is_valid typ content.now ≡ true }
+    ensures ok { OnOk result (S.adds out.old (worded_text (value_words tag typ content.now) typ content.now) out.new) }
+    ensures err { OnErr result (S.breaks out.old (worded_text (value_words tag typ content.now) typ content.now) out.new) }
+{
+    match typ {
+        TtlvType::Enumeration => push_enumeration(out, words, tag, content),
+        TtlvType::Integer => push_integer(alloc, out, words, tag, content),
+        TtlvType::DateTime => push_date(out, tag, content),
+        _ => push_plain(out, typ, content),
+    }
+}
