@@ -2,7 +2,7 @@
 """Writes data/named.json, the tests of JSON with names: worked.py [--check]
 
 Each row has JSON by hand, in the forms of OASIS "KMIP Additional Message Encodings" that have names and numbers, and the items that it is,
-which are encoded here, apart from the library, or what is wrong and where. With --check it writes nothing, and says where the file differs; the status is 1 then.
+which are encoded here, apart from the library, or what is wrong and where. NAMED has the JSON with names of those items, by hand, too. With --check it writes nothing, and says where the file differs; the status is 1 then.
 """
 
 import datetime
@@ -53,6 +53,69 @@ def date(tag, *parts):
 
 def interval(tag, number):
     return item(tag, 10, number.to_bytes(4, "big"))
+
+
+# What is printed of a row's items with names: whole messages, and of a value in an Attribute the value.
+NAMED = {
+    "version": (
+        '{"tag":"ProtocolVersion","value":[{"tag":"ProtocolVersionMajor","type":"Integer","value":"0x00000001"},'
+        '{"tag":"ProtocolVersionMinor","type":"Integer","value":"0x00000004"}]}'
+    ),
+    "empty": '{"tag":"Attributes","value":[]}',
+    "nested": '{"tag":"0xAAAAAA","value":[{"tag":"0xBBBBBB","value":[]},{"tag":"CRTCoefficient","value":[]}]}',
+    "integer_low": '"0x80000000"',
+    "integer_high": '"0x7FFFFFFF"',
+    "integer_zero": '"0x00000000"',
+    "integer_minus_one": '"0xFFFFFFFF"',
+    "mask": '"Encrypt|Decrypt"',
+    "mask_of_one": '"MACGenerate"',
+    "mask_number": '"Encrypt|Decrypt"',
+    "mask_twice": '"Sign|Verify"',
+    "mask_of_all": (
+        '"Sign|Verify|Encrypt|Decrypt|WrapKey|UnwrapKey|Export|MACGenerate|MACVerify|DeriveKey|ContentCommitment|KeyAgreement|CertificateSign|CRLSign|'
+        'GenerateCryptogram|ValidateCryptogram|TranslateEncrypt|TranslateDecrypt|TranslateWrap|TranslateUnwrap|Authenticate|Unrestricted|FPEEncrypt|FPEDecrypt"'
+    ),
+    "mask_of_a_nameless_bit": '"0x80000001"',
+    "mask_of_no_bit": '"0x00000000"',
+    "long_integer": '"0x0010000000000000"',
+    "long_integer_low": '"0xFFF0000000000000"',
+    "big_integer": '"0x0000000000010001"',
+    "big_integer_low": '"0xFFFFFFFFFFFFFFFE"',
+    "enumeration": '"DES3"',
+    "enumeration_digits": '"0x80000001"',
+    "enumeration_underscore": '"SHA_256"',
+    "enumeration_of_no_list": '"0x00000003"',
+    "boolean": "true",
+    "date": '"2009-11-12T10:47:30+00:00"',
+    "date_with_offset": '"2009-11-12T08:47:30+00:00"',
+    "date_behind": '"2010-01-01T00:00:00+00:00"',
+    "date_before_1970": '"1969-12-31T23:59:59+00:00"',
+    "date_first": '"0001-01-01T00:00:00+00:00"',
+    "date_last": '"9999-12-31T23:59:59+00:00"',
+    "date_before_all": '"0x8000000000000000"',
+    "date_leap": '"2024-02-29T12:00:00+00:00"',
+    "interval": '"0x00000E10"',
+    "interval_high": '"0xFFFFFFFF"',
+    "text_of_a_word": '"ProtocolVersion"',
+    "bytes_of_digits": '"0F1E"',
+}  # fmt: skip
+
+
+# The same where values are hidden, but those of Enumerations.
+HIDDEN = {
+    "version": (
+        '{"tag":"ProtocolVersion","value":[{"tag":"ProtocolVersionMajor","type":"Integer","value":null},'
+        '{"tag":"ProtocolVersionMinor","type":"Integer","value":null}]}'
+    ),
+    "mask": '{"tag":"Attribute","value":[{"tag":"CryptographicUsageMask","type":"Integer","value":null}]}',
+    "date": '{"tag":"Attribute","value":[{"tag":"ActivationDate","type":"DateTime","value":null}]}',
+    "enumeration": '{"tag":"Attribute","value":[{"tag":"CryptographicAlgorithm","type":"Enumeration","value":"DES3"}]}',
+}
+
+
+# The JSON with names of a value in an Attribute.
+def named_in(tag, rest, value):
+    return f'{{"tag":"Attribute","value":[{{"tag":"{tag}","type":{rest.split(",")[0]},"value":{value}}}]}}'
 
 
 # A value in an Attribute: the item's members behind its tag, and what it is or None.
@@ -122,11 +185,23 @@ def rows():
         ("interval_high", "LeaseTime", '"Interval","value":4294967295', interval(0x420049, 2**32 - 1)),
         ("interval_too_high", "LeaseTime", '"Interval","value":4294967296', None),
         ("interval_below_zero", "LeaseTime", '"Interval","value":-1', None),
+        ("mask_of_all", "CryptographicUsageMask", '"Integer","value":16777215', integer(0x42002C, 0xFFFFFF)),
+        ("mask_of_a_nameless_bit", "CryptographicUsageMask", '"Integer","value":-2147483647', integer(0x42002C, -(2**31) + 1)),
+        ("mask_of_no_bit", "CryptographicUsageMask", '"Integer","value":0', integer(0x42002C, 0)),
+        ("enumeration_of_no_list", "AttributeValue", '"Enumeration","value":"0x00000003"', enumeration(0x42000B, 3)),
+        ("date_first", "ActivationDate", '"DateTime","value":"0xFFFFFFF1886E0900"', date(0x420001, 1, 1, 1)),
+        ("date_last", "ActivationDate", '"DateTime","value":"0x0000003AFFF4417F"', date(0x420001, 9999, 12, 31, 23, 59, 59)),
+        ("date_before_all", "ActivationDate", '"DateTime","value":"0x8000000000000000"', item(0x420001, 9, bytes([128, 0, 0, 0, 0, 0, 0, 0]))),
+        ("date_leap", "ActivationDate", '"DateTime","value":"2024-02-29T12:00:00Z"', date(0x420001, 2024, 2, 29, 12)),
+        ("text_of_a_word", "UniqueIdentifier", '"TextString","value":"ProtocolVersion"', item(0x420094, 7, b"ProtocolVersion")),
+        ("bytes_of_digits", "KeyMaterial", '"ByteString","value":"0f1e"', item(0x420043, 8, bytes([15, 30]))),
         ("text_number", "UniqueIdentifier", '"TextString","value":1', None),
         ("bytes_number", "KeyMaterial", '"ByteString","value":12', None),
     ]  # fmt: skip
     for name, tag, rest, content in values:
         text = f'{{"tag":"0x420008","value":[{{"tag":"{tag}","type":{rest}}}]}}'
+        if name in NAMED:
+            NAMED[name] = named_in(tag, rest, NAMED[name])
         yield name, f"{tag}, {rest}", text, f"byte 27: {VALUE}" if content is None else structure(0x420008, content)
     yield "root", "A leaf is no message", '{"tag":"BatchCount","type":"Integer","value":1}', f"byte 0: {ROOT}"
 
@@ -135,7 +210,9 @@ def main():
     tests = []
     for name, comment, text, wanted in rows():
         expected = {"error": wanted} if isinstance(wanted, str) else {"bytes": wanted.hex().upper()}
-        tests.append({"name": name, "comment": comment, "json": text} | expected)
+        named = {"named": NAMED[name]} if name in NAMED else {}
+        hidden = {"hidden_named": HIDDEN[name]} if name in HIDDEN else {}
+        tests.append({"name": name, "comment": comment, "json": text} | expected | named | hidden)
     held = {
         "description": "JSON with names and numbers, as other implementations write it, that is read back as a message.",
         "source": 'The JSON encoding of OASIS "KMIP Additional Message Encodings", and rows worked by hand, encoded by worked.py.',

@@ -1,6 +1,7 @@
 pub mod Hexadecimal
 pub mod Escapes
 pub mod Spelling
+pub mod Wordings
 pub mod Lexing
 pub mod TreeTexts
 pub mod Found

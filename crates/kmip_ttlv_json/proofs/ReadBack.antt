@@ -1,21 +1,22 @@
 -- A message's JSON is read back from its text.
-use Rattle.std.proofs.Common.{◌≡◌, ◌∙◌, ℕ, suc, ◌≤◌, Bool, List, [], Option, Some, option_map, option_and_then, refl, ap, ap₂, sym, arith}
+use Rattle.std.proofs.Common.{◌≡◌, ◌∙◌, ℕ, suc, ◌≤◌, Bool, true, false, List, [], Option, Some, None, if◌then◌else◌, option_map, option_and_then, refl, ap, ap₂, sym, arith}
 use Rattle.std.proofs.Common.{append-nil}
-use Rattle.std.specs.{Prelude.max, Prelude.codes, Int.bytes_high_first}
+use Rattle.std.specs.Prelude.{max, codes}
 use Rattle.json.specs.{Token.Token, Lex.tokens}
 use Rattle.json.specs.Tree.{json_tokens, HasNumbers, ItemsHaveNumbers}
 use Rattle.json.proofs.Printed.{Tokens.tokens-print, Trees.value-json_tokens, Trees.ArePrintable-json_tokens}
-use Rattle.serde_json.specs.Data.{Data, string, array, object, Items, item, no_members, member, put, depth, items_depth}
+use Rattle.serde_json.specs.Data.{Data, null, string, array, object, Items, item, no_members, member, put, depth, items_depth}
 use Rattle.serde_json.specs.Read.{read, max_depth, of_json, of_items}
 use Rattle.serde_json.specs.Written.{outline, items_outline}
 use Rattle.kmip_ttlv_json.specs.Spellings.{data_text}
 use Rattle.kmip_ttlv_json.proofs.Lexing.{IsNumberless, AreNumberless, same_tokens}
 use Rattle.serde_json.proofs.{OnLiterals.serde_json_on_literals, Texts.print-outline}
-use Rattle.kmip_ttlv_types.specs.declared.typ.TtlvType.{TtlvType, TheVariants.Structure, TheVariants.Enumeration}
+use Rattle.kmip_ttlv_types.specs.declared.typ.TtlvType.{TtlvType, TheVariants.Structure, TheVariants.Boolean}
 use Rattle.kmip_ttlv_types.specs.Trees.{Tree, Trees, leaf, node, no_trees}
 use Rattle.kmip_ttlv_json.specs.declared.print.Shown.{Shown}
-use Rattle.kmip_ttlv_json.specs.declared.print.Shown.TheVariants.{All, Enumerations, Nothing}
-use Rattle.kmip_ttlv_json.specs.Jsons.{type_word, hex_text, value_json, item_json, within, tree_json, trees_json}
+use Rattle.kmip_ttlv_json.specs.declared.print.Style.{Style}
+use Rattle.kmip_ttlv_json.specs.declared.print.Style.TheVariants.{Digits, Names}
+use Rattle.kmip_ttlv_json.specs.Jsons.{type_word, is_hidden, words_for, plain_json, worded_json, value_json, tag_text, item_json, within, tree_json, trees_json}
 use Rattle.json.specs.Json as json
 use Rattle.json.specs.Tree as tree
 use Rattle.kmip_ttlv_types.specs.Trees as trees
@@ -33,12 +34,20 @@ record AllBack (ds : Items) : Type 0 where
   same : of_items (items_outline ds) ≡ Some ds
   numberless : AreNumberless ds
 
-value_back : (shown : Shown) (typ : TtlvType) (content : List ℕ) → Back (value_json shown typ content)
-value_back Nothing typ content = record { numbers = tt; shallow = refl; same = refl; numberless = tt }
-value_back All Enumeration content = record { numbers = tt; shallow = refl; same = refl; numberless = tt }
-value_back Enumerations Enumeration content = record { numbers = tt; shallow = refl; same = refl; numberless = tt }
-value_back Enumerations typ content = record { numbers = tt; shallow = refl; same = refl; numberless = tt }
-value_back All typ content = record { numbers = tt; shallow = refl; same = refl; numberless = tt }
+plain_back : (typ : TtlvType) (content : List ℕ) → Back (plain_json typ content)
+plain_back Boolean content = record { numbers = tt; shallow = refl; same = refl; numberless = tt }
+plain_back typ content = record { numbers = tt; shallow = refl; same = refl; numberless = tt }
+
+worded_back : (o : Option (List ℕ)) (typ : TtlvType) (content : List ℕ) → Back (worded_json o typ content)
+worded_back (Some words) typ content = record { numbers = tt; shallow = refl; same = refl; numberless = tt }
+worded_back None typ content = plain_back typ content
+
+value_back : (style : Style) (shown : Shown) (tag : ℕ) (typ : TtlvType) (content : List ℕ) → Back (value_json style shown tag typ content)
+value_back style shown tag typ content = by (is_hidden shown typ)
+  where
+    by : (b : Bool) → Back (if b then null else worded_json (words_for style tag typ content) typ content)
+    by true = record { numbers = tt; shallow = refl; same = refl; numberless = tt }
+    by false = worded_back (words_for style tag typ content) typ content
 
 -- the members stand in the order of their keys
 put_all : (a b v : Data) → put (codes "value") v (put (codes "type") b (put (codes "tag") a no_members)) ≡ member (codes "tag") a
@@ -46,36 +55,54 @@ put_all : (a b v : Data) → put (codes "value") v (put (codes "type") b (put (c
 unfolding serde_json_on_literals
 put_all a b v = refl
 
-item_back : (tag : ℕ) (typ : TtlvType) (v : Data) → Back v → Back (item_json tag typ v)
-item_back tag typ v back =
-    let a = string (hex_text (bytes_high_first 3 tag)) in
-    let b = string (type_word typ) in
-    record {
-      numbers = (tt, (tt, (back.numbers, tt)));
-      shallow = ap (λ (n : ℕ). suc (max 0 (max 0 (max n 0)))) back.shallow;
-      same =
-          ap (λ o. option_map object (option_and_then (λ d. Some (put (codes "value") d (put (codes "type") b (put (codes "tag") a no_members)))) o)) back.same
-          ∙ ap (λ ms. Some (object ms)) (put_all a b v);
-      numberless = (tt, (tt, (back.numberless, tt)));
-    }
+put_two : (a v : Data) → put (codes "value") v (put (codes "tag") a no_members) ≡ member (codes "tag") a (member (codes "value") v no_members)
+unfolding serde_json_on_literals
+put_two a v = refl
+
+three_back : (a : List ℕ) (b : List ℕ) (v : Data) → Back v
+    → Back (object (member (codes "tag") (string a) (member (codes "type") (string b) (member (codes "value") v no_members))))
+three_back a b v back = record {
+  numbers = (tt, (tt, (back.numbers, tt)));
+  shallow = ap (λ (n : ℕ). suc (max 0 (max 0 (max n 0)))) back.shallow;
+  same =
+      ap (λ o. option_map object (option_and_then (λ d. Some (put (codes "value") d (put (codes "type") (string b)
+      (put (codes "tag") (string a) no_members)))) o)) back.same
+      ∙ ap (λ ms. Some (object ms)) (put_all (string a) (string b) v);
+  numberless = (tt, (tt, (back.numberless, tt)));
+}
+
+two_back : (a : List ℕ) (v : Data) → Back v → Back (object (member (codes "tag") (string a) (member (codes "value") v no_members)))
+two_back a v back = record {
+  numbers = (tt, (back.numbers, tt));
+  shallow = ap (λ (n : ℕ). suc (max 0 (max n 0))) back.shallow;
+  same =
+      ap (λ o. option_map object (option_and_then (λ d. Some (put (codes "value") d (put (codes "tag") (string a) no_members))) o)) back.same
+      ∙ ap (λ ms. Some (object ms)) (put_two (string a) v);
+  numberless = (tt, (back.numberless, tt));
+}
+
+item_back : (style : Style) (tag : ℕ) (typ : TtlvType) (v : Data) → Back v → Back (item_json style tag typ v)
+item_back Names tag Structure v back = two_back (tag_text Names tag) v back
+item_back Digits tag typ v back = three_back (tag_text Digits tag) (type_word typ) v back
+item_back Names tag typ v back = three_back (tag_text Names tag) (type_word typ) v back
 
 mutual
-  pub tree_back : (secrets : ℕ → Bool) (shown : Shown) (t : Tree) → Back (tree_json secrets shown t)
-  tree_back secrets shown (leaf tag typ content) = item_back tag typ _ (value_back (within shown (secrets tag)) typ content)
-  tree_back secrets shown (node tag below) =
-      let all = trees_back secrets (within shown (secrets tag)) below in
-      item_back tag Structure _ (record {
+  pub tree_back : (style : Style) (secrets : ℕ → Bool) (shown : Shown) (t : Tree) → Back (tree_json style secrets shown t)
+  tree_back style secrets shown (leaf tag typ content) = item_back style tag typ _ (value_back style (within shown (secrets tag)) tag typ content)
+  tree_back style secrets shown (node tag below) =
+      let all = trees_back style secrets (within shown (secrets tag)) below in
+      item_back style tag Structure _ (record {
         numbers = all.numbers;
         shallow = ap suc all.shallow;
         same = ap (option_map array) all.same;
         numberless = all.numberless;
       })
 
-  trees_back : (secrets : ℕ → Bool) (shown : Shown) (ts : Trees) → AllBack (trees_json secrets shown ts)
-  trees_back secrets shown no_trees = record { numbers = tt; shallow = refl; same = refl; numberless = tt }
-  trees_back secrets shown (trees.tree t ts) =
-      let one = tree_back secrets shown t in
-      let more = trees_back secrets shown ts in
+  trees_back : (style : Style) (secrets : ℕ → Bool) (shown : Shown) (ts : Trees) → AllBack (trees_json style secrets shown ts)
+  trees_back style secrets shown no_trees = record { numbers = tt; shallow = refl; same = refl; numberless = tt }
+  trees_back style secrets shown (trees.tree t ts) =
+      let one = tree_back style secrets shown t in
+      let more = trees_back style secrets shown ts in
       record {
         numbers = (one.numbers, more.numbers);
         shallow = ap₂ max one.shallow more.shallow;

@@ -1,25 +1,30 @@
 -- The text that is printed item by item is that of the tree.
 use Rattle.std.proofs.Common.{◌≡◌, ◌≢◌, ◌∙◌, ℕ, zero, suc, ◌+◌, ◌-◌, ◌<◌, ◌≤◌, ◌==◌, Bool, true, false, not, List, [], ◌∷◌, ◌++◌, get_or}
 use Rattle.std.proofs.Common.{if◌then◌else◌, Option, Some, None, refl, sym, ap, ap₂, arith, append_assoc, append-nil}
-use Rattle.std.specs.{Prelude.codes, Int.bytes_high_first}
+use Rattle.std.specs.{Prelude.codes, Prelude.unwrap_or, Int.bytes_high_first}
 use Rattle.std.proofs.{Math.Bool.and-false, Math.Bool.and-true}
 use Rattle.std.proofs.lemmas.Bool.{lt-ltb, le-ltb, ltb-true, ltb-false, ne_eqb, eq-eqb}
 use Rattle.hex.specs.Hex.{encode_upper}
 use Rattle.json.specs.Print.{escape_byte, quoted}
-use Rattle.serde_json.specs.Data.{Data}
+use Rattle.serde_json.specs.Data.{Data, string, no_members, member}
 use Rattle.serde_json.specs.Written.{comma_if}
 use Rattle.kmip_ttlv_types.specs.{declared.typ.TtlvType.TtlvType, ItemTypes.code}
-use Rattle.kmip_ttlv_types.specs.declared.typ.TtlvType.TheVariants.{Structure, Enumeration, Boolean, TextString, ByteString}
+use Rattle.kmip_ttlv_types.specs.declared.typ.TtlvType.TheVariants.{Structure, Boolean, TextString, ByteString}
 use Rattle.kmip_ttlv_types.specs.Trees.{Tree, Trees, leaf, node, no_trees, tree, IsTreeText, AreTreeTexts}
 use Rattle.kmip_ttlv_items.proofs.Spans.{leaf_not}
 use Rattle.kmip_ttlv_write.specs.GivenItems.{Line, lines, lines_below}
 use Rattle.kmip_ttlv_json.specs.declared.print.Spot.{Spot}
 use Rattle.kmip_ttlv_json.specs.declared.print.Shown.{Shown}
-use Rattle.kmip_ttlv_json.specs.declared.print.Shown.TheVariants.{All, Enumerations, Nothing}
-use Rattle.kmip_ttlv_json.specs.Spellings.{spelled, data_text, items_text}
-use Rattle.kmip_ttlv_json.specs.Jsons.{type_word, value_json, item_json, hex_text, is_true, within, tree_json, trees_json}
-use Rattle.kmip_ttlv_json.specs.Parts.{closes, is_inside, spot_after, gap, opening, digits_text, value_part, item_part, kind, parts, spot_behind, first_spot}
+use Rattle.kmip_words.specs.Words.{tag_word}
+use Rattle.kmip_ttlv_json.specs.declared.print.Style.{Style}
+use Rattle.kmip_ttlv_json.specs.declared.print.Style.TheVariants.{Digits, Names}
+use Rattle.kmip_ttlv_json.specs.Spellings.{spelled, data_text, items_text, members_text}
+use Rattle.kmip_ttlv_json.specs.Jsons.{type_word, hex_text, is_true, is_hidden, words_for, plain_json, worded_json, value_json, tag_text, typed_members, item_json}
+use Rattle.kmip_ttlv_json.specs.Jsons.{within, tree_json, trees_json}
+use Rattle.kmip_ttlv_json.specs.Parts.{closes, is_inside, spot_after, gap, type_part, opening, digits_text, plain_text, worded_text, value_text, value_part}
+use Rattle.kmip_ttlv_json.specs.Parts.{item_part, kind, parts, spot_behind, first_spot}
 use Rattle.kmip_ttlv_json.proofs.Escapes.{AreLow, low_from, spelled_low, digits_low, escape_digits}
+use Rattle.kmip_ttlv_json.proofs.Wordings.{spelled_word, tag_is_word}
 
 abbrev pub ArePlain : List ℕ → Type 0
 ArePlain xs = (k : ℕ) → get_or xs k 0 < 256
@@ -35,17 +40,22 @@ word_low : (typ : TtlvType) → AreLow (type_word typ)
 word_low Structure = low_from (codes "Structure") refl
 word_low typ = low_from (type_word typ) refl
 
-word_is : (typ : TtlvType) (s : List ℕ) → 44 ∷ (quoted (codes "type") ++ 58 ∷ (quoted (type_word typ) ++ 44 ∷ (quoted (codes "value") ++ 58 ∷ s)))
-    ≡ 44 ∷ 34 ∷ 116 ∷ 121 ∷ 112 ∷ 101 ∷ 34 ∷ 58 ∷ 34 ∷ (type_word typ ++ (codes "\",\"value\":" ++ s))
+word_is : (typ : TtlvType) (s : List ℕ) → 44 ∷ (quoted (codes "type") ++ 58 ∷ (quoted (type_word typ) ++ s))
+    ≡ codes ",\"type\":\"" ++ (type_word typ ++ 34 ∷ s)
 unfolding escape_byte
 word_is Structure s = refl
 word_is typ s = refl
 
-type_is : (typ : TtlvType) (s : List ℕ) → 44 ∷ (quoted (codes "type") ++ 58 ∷ (spelled (type_word typ) ++ 44 ∷ (quoted (codes "value") ++ 58 ∷ s)))
-    ≡ 44 ∷ 34 ∷ 116 ∷ 121 ∷ 112 ∷ 101 ∷ 34 ∷ 58 ∷ 34 ∷ (type_word typ ++ (codes "\",\"value\":" ++ s))
-type_is typ s =
-    ap (λ (t : List ℕ). 44 ∷ (quoted (codes "type") ++ 58 ∷ (t ++ 44 ∷ (quoted (codes "value") ++ 58 ∷ s)))) (spelled_low (type_word typ) (word_low typ))
-    ∙ word_is typ s
+typed : (typ : TtlvType) (value : Data) → (codes "\",\"type\":\"" ++ (type_word typ ++ codes "\",\"value\":")) ++ (data_text value ++ 125 ∷ [])
+    ≡ 34 ∷ members_text true (member (codes "type") (string (type_word typ)) (member (codes "value") value no_members))
+unfolding escape_byte
+typed typ value =
+    let s = data_text value ++ 125 ∷ [] in
+    let rest = codes ",\"value\":" ++ s in
+    let front : (codes "\",\"type\":\"" ++ (type_word typ ++ codes "\",\"value\":")) ++ s ≡ codes "\",\"type\":\"" ++ (type_word typ ++ 34 ∷ rest) =
+    simp append_assoc in
+    front ∙ ap (λ (t : List ℕ). 34 ∷ t) (sym (word_is typ rest))
+    ∙ ap (λ (t : List ℕ). 34 ∷ 44 ∷ (quoted (codes "type") ++ 58 ∷ (t ++ rest))) (sym (spelled_low (type_word typ) (word_low typ)))
 
 pub tag_plain : (tag : ℕ) → ArePlain (bytes_high_first 3 tag)
 tag_plain tag zero = omega arith
@@ -60,43 +70,72 @@ spelled_hex content s plain =
     ∙ ap (λ (t : List ℕ). 34 ∷ 48 ∷ 120 ∷ ((t ++ 34 ∷ []) ++ s)) (escape_digits content plain)
     ∙ ap (λ (t : List ℕ). 34 ∷ 48 ∷ 120 ∷ t) (append_assoc (encode_upper content) (34 ∷ []) s)
 
--- an item with any value
-item_is : (tag : ℕ) (typ : TtlvType) (value : Data) → opening tag typ ++ (data_text value ++ 125 ∷ []) ≡ data_text (item_json tag typ value)
-unfolding opening escape_byte
-item_is tag typ value =
-    let s = data_text value ++ 125 ∷ [] in
-    let digits = encode_upper (bytes_high_first 3 tag) in
-    let front : opening tag typ ++ s ≡ codes "{\"tag\":\"0x" ++ (digits ++ (codes "\",\"type\":\"" ++ (type_word typ ++ (codes "\",\"value\":" ++ s)))) =
-    simp append_assoc in
-    front ∙ ap (λ (t : List ℕ). codes "{\"tag\":\"0x" ++ (digits ++ 34 ∷ t)) (sym (type_is typ s))
-    ∙ ap (λ (t : List ℕ). codes "{\"tag\":" ++ t) (sym (spelled_hex (bytes_high_first 3 tag) _ (tag_plain tag)))
-
-number_is : (content : List ℕ) → ArePlain content → digits_text (codes "\"0x") content ++ 125 ∷ [] ≡ spelled (hex_text content) ++ 125 ∷ []
-number_is content plain =
-    ap (λ (t : List ℕ). 34 ∷ 48 ∷ 120 ∷ t) (append_assoc (encode_upper content) (34 ∷ []) (125 ∷ [])) ∙ sym (spelled_hex content (125 ∷ []) plain)
-
-bytes_are : (content : List ℕ) → ArePlain content → digits_text (codes "\"") content ++ 125 ∷ [] ≡ spelled (encode_upper content) ++ 125 ∷ []
-bytes_are content plain =
-    ap (λ (t : List ℕ). t ++ 125 ∷ []) (sym (spelled_low (encode_upper content) (digits_low content plain)
-    ∙ ap (λ (t : List ℕ). 34 ∷ (t ++ 34 ∷ [])) (escape_digits content plain)))
-
--- the value of a leaf
-value_is : (shown : Shown) (typ : TtlvType) (content : List ℕ) → typ ≢ Structure → ArePlain content
-    → value_part shown typ content ≡ data_text (value_json shown typ content) ++ 125 ∷ []
-unfolding escape_byte
-value_is shown Structure content ne plain = absurd (ne refl)
-value_is Nothing typ content ne plain = refl
-value_is All Enumeration content ne plain = number_is content plain
-value_is Enumerations Enumeration content ne plain = number_is content plain
-value_is All Boolean content ne plain = by (is_true content)
+-- a tag in JSON
+tag_spelled : (style : Style) (tag : ℕ) (s : List ℕ) → spelled (tag_text style tag) ++ s ≡ 34 ∷ (tag_text style tag ++ 34 ∷ s)
+tag_spelled Digits tag s = spelled_hex (bytes_high_first 3 tag) s (tag_plain tag)
+tag_spelled Names tag s = by (tag_word tag) refl
   where
-    by : (b : Bool) → (if b then codes "true" else codes "false") ++ codes "}" ≡ data_text (Data.boolean b) ++ 125 ∷ []
+    by : (o : Option (List ℕ)) → tag_word tag ≡ o
+        → spelled (unwrap_or o (hex_text (bytes_high_first 3 tag))) ++ s ≡ 34 ∷ (unwrap_or o (hex_text (bytes_high_first 3 tag)) ++ 34 ∷ s)
+    by None e = spelled_hex (bytes_high_first 3 tag) s (tag_plain tag)
+    by (Some w) e =
+        ap (λ (t : List ℕ). t ++ s) (spelled_word w (tag_is_word tag w e)) ∙ ap (λ (t : List ℕ). 34 ∷ t) (append_assoc w (34 ∷ []) s)
+
+-- the members of an item behind its tag, with its end
+members_are : (style : Style) (typ : TtlvType) (value : Data)
+    → type_part style typ ++ (data_text value ++ 125 ∷ []) ≡ 34 ∷ members_text true (typed_members style typ value)
+unfolding escape_byte
+members_are Names Structure value = refl
+members_are Digits typ value = typed typ value
+members_are Names typ value = typed typ value
+
+-- an item with any value
+item_is : (style : Style) (tag : ℕ) (typ : TtlvType) (value : Data)
+    → opening style tag typ ++ (data_text value ++ 125 ∷ []) ≡ data_text (item_json style tag typ value)
+unfolding opening escape_byte
+item_is style tag typ value =
+    let s = data_text value ++ 125 ∷ [] in
+    let text = tag_text style tag in
+    let front : opening style tag typ ++ s ≡ codes "{\"tag\":\"" ++ (text ++ (type_part style typ ++ s)) = simp append_assoc in
+    front ∙ ap (λ (t : List ℕ). codes "{\"tag\":\"" ++ (text ++ t)) (members_are style typ value)
+    ∙ ap (λ (t : List ℕ). codes "{\"tag\":" ++ t) (sym (tag_spelled style tag (members_text true (typed_members style typ value))))
+
+number_is : (content : List ℕ) → ArePlain content → digits_text (codes "\"0x") content ≡ spelled (hex_text content)
+number_is content plain = sym (sym (append-nil _) ∙ spelled_hex content [] plain)
+
+bytes_are : (content : List ℕ) → ArePlain content → digits_text (codes "\"") content ≡ spelled (encode_upper content)
+bytes_are content plain =
+    sym (spelled_low (encode_upper content) (digits_low content plain) ∙ ap (λ (t : List ℕ). 34 ∷ (t ++ 34 ∷ [])) (escape_digits content plain))
+
+-- a value without words
+plain_is : (typ : TtlvType) (content : List ℕ) → ArePlain content → plain_text typ content ≡ data_text (plain_json typ content)
+plain_is Boolean content plain = by (is_true content)
+  where
+    by : (b : Bool) → (if b then codes "true" else codes "false") ≡ data_text (Data.boolean b)
     by true = refl
     by false = refl
-value_is All TextString content ne plain = refl
-value_is All ByteString content ne plain = bytes_are content plain
-value_is Enumerations typ content ne plain = refl
-value_is All typ content ne plain = number_is content plain
+plain_is TextString content plain = refl
+plain_is ByteString content plain = bytes_are content plain
+plain_is typ content plain = number_is content plain
+
+worded_is : (o : Option (List ℕ)) (typ : TtlvType) (content : List ℕ) → ArePlain content → worded_text o typ content ≡ data_text (worded_json o typ content)
+worded_is None typ content plain = plain_is typ content plain
+worded_is (Some words) typ content plain = refl
+
+-- the value of a leaf
+text_is : (style : Style) (shown : Shown) (tag : ℕ) (typ : TtlvType) (content : List ℕ) → ArePlain content
+    → value_text style shown tag typ content ≡ data_text (value_json style shown tag typ content)
+text_is style shown tag typ content plain = by (is_hidden shown typ)
+  where
+    by : (b : Bool) → (if b then codes "null" else worded_text (words_for style tag typ content) typ content)
+        ≡ data_text (if b then Data.null else worded_json (words_for style tag typ content) typ content)
+    by true = refl
+    by false = worded_is (words_for style tag typ content) typ content plain
+
+value_is : (style : Style) (shown : Shown) (tag : ℕ) (typ : TtlvType) (content : List ℕ) → typ ≢ Structure → ArePlain content
+    → value_part style shown tag typ content ≡ data_text (value_json style shown tag typ content) ++ 125 ∷ []
+value_is style shown tag Structure content ne plain = absurd (ne refl)
+value_is style shown tag typ content ne plain = ap (λ (t : List ℕ). t ++ 125 ∷ []) (text_is style shown tag typ content plain)
 
 -- ---- items behind one another
 
@@ -127,15 +166,15 @@ inside_less : (s : Option ℕ) (d k : ℕ) → is_inside s d ≡ false → k ≤
 inside_less None d k h le = refl
 inside_less (Some a) d k h le = le-ltb a k (omega (arith, ltb-false a d h, le))
 
-module _ (secrets : ℕ → Bool) (shown : Shown) where
+module _ (style : Style) (secrets : ℕ → Bool) (shown : Shown) where
   -- items with the ends of all structures that are open
   abbrev flat : Spot → List Line → List ℕ
   flat s [] = closes s.depth
-  flat s (l ∷ ls) = item_part secrets shown s l.depth l.tag (kind l.code) l.content ++ flat (spot_after secrets s l.depth l.tag (kind l.code)) ls
+  flat s (l ∷ ls) = item_part style secrets shown s l.depth l.tag (kind l.code) l.content ++ flat (spot_after secrets s l.depth l.tag (kind l.code)) ls
 
-  pub flat_is : (s : Spot) (ls : List Line) → parts secrets shown s ls ++ closes (spot_behind secrets s ls).depth ≡ flat s ls
+  pub flat_is : (s : Spot) (ls : List Line) → parts style secrets shown s ls ++ closes (spot_behind secrets s ls).depth ≡ flat s ls
   flat_is s [] = refl
-  flat_is s (l ∷ ls) = rw append_assoc (ap (λ (x : List ℕ). item_part secrets shown s l.depth l.tag (kind l.code) l.content ++ x)
+  flat_is s (l ∷ ls) = rw append_assoc (ap (λ (x : List ℕ). item_part style secrets shown s l.depth l.tag (kind l.code) l.content ++ x)
       (flat_is (spot_after secrets s l.depth l.tag (kind l.code)) ls))
 
   -- a structure ends in front of an item that is not in it
@@ -185,18 +224,18 @@ module _ (secrets : ℕ → Bool) (shown : Shown) where
   mutual
     tree_flat : (d : ℕ) (b : Bool) (s : Option ℕ) (t : Tree) (text : List ℕ) (r : List Line) → IsTreeText t text → AllPlain (lines d t) → IsLow d r
         → flat (spot d b s) (lines d t ++ r)
-        ≡ comma_if (not b) ++ (data_text (tree_json secrets (within shown (is_inside s d)) t) ++ flat (spot d false s) r)
+        ≡ comma_if (not b) ++ (data_text (tree_json style secrets (within shown (is_inside s d)) t) ++ flat (spot d false s) r)
     tree_flat d b s (leaf tag typ content) text r h plain low =
         let ne = leaf_not typ content h.0 in
         let hid = within (within shown (is_inside s d)) (secrets tag) in
-        let v = value_json hid typ content in
-        let own : opening tag typ ++ value_part hid typ content ≡ data_text (item_json tag typ v) =
-        ap (λ (x : List ℕ). opening tag typ ++ x) (value_is hid typ content ne plain.0) ∙ item_is tag typ v in
+        let v = value_json style hid tag typ content in
+        let own : opening style tag typ ++ value_part style hid tag typ content ≡ data_text (item_json style tag typ v) =
+        ap (λ (x : List ℕ). opening style tag typ ++ x) (value_is style hid tag typ content ne plain.0) ∙ item_is style tag typ v in
         let after : flat (spot_after secrets (spot d b s) d tag typ) r ≡ flat (spot d false s) r = leaf_after typ ne ∙ secret_same s d tag false r low in
-        ap (λ (k : TtlvType). item_part secrets shown (spot d b s) d tag k content ++ flat (spot_after secrets (spot d b s) d tag k) r) (kind_code typ)
-        ∙ ap₂ (λ (x y : List ℕ). (x ++ (opening tag typ ++ value_part hid typ content)) ++ y) (gap_is d b s) after
+        ap (λ (k : TtlvType). item_part style secrets shown (spot d b s) d tag k content ++ flat (spot_after secrets (spot d b s) d tag k) r) (kind_code typ)
+        ∙ ap₂ (λ (x y : List ℕ). (x ++ (opening style tag typ ++ value_part style hid tag typ content)) ++ y) (gap_is d b s) after
         ∙ ap (λ (x : List ℕ). (comma_if (not b) ++ x) ++ flat (spot d false s) r) own
-        ∙ append_assoc (comma_if (not b)) (data_text (item_json tag typ v)) (flat (spot d false s) r)
+        ∙ append_assoc (comma_if (not b)) (data_text (item_json style tag typ v)) (flat (spot d false s) r)
       where
         leaf_after : (k : TtlvType) → k ≢ Structure → flat (spot_after secrets (spot d b s) d tag k) r ≡ flat (spot d false (secret_behind s d tag)) r
         leaf_after Structure ne = absurd (ne refl)
@@ -204,35 +243,35 @@ module _ (secrets : ℕ → Bool) (shown : Shown) where
     tree_flat d b s (node tag below) text r h plain low =
         let u = secret_behind s d tag in
         let hid = within (within shown (is_inside s d)) (secrets tag) in
-        let inner = trees_json secrets hid below in
+        let inner = trees_json style secrets hid below in
         let rest = flat (spot d false s) r in
         let one_more : d + 1 ≡ suc d = omega arith in
         let deep = ap (λ (n : ℕ). flat (spot n true u) (lines_below (suc d) below ++ r)) one_more in
         let all : flat (spot (d + 1) true u) (lines_below (suc d) below ++ r) ≡ items_text false inner ++ 125 ∷ rest =
         deep ∙ trees_flat d true u below h.0 r h.2 plain.1 low
-        ∙ ap (λ (k : Shown). items_text false (trees_json secrets k below) ++ 125 ∷ flat (spot d false u) r) (hidden_below s d tag)
+        ∙ ap (λ (k : Shown). items_text false (trees_json style secrets k below) ++ 125 ∷ flat (spot d false u) r) (hidden_below s d tag)
         ∙ ap (λ (x : List ℕ). items_text false inner ++ 125 ∷ x) (secret_same s d tag false r low) in
-        let own = item_is tag Structure (Data.array inner) in
-        ap₂ (λ (x y : List ℕ). (x ++ (opening tag Structure ++ 91 ∷ [])) ++ y) (gap_is d b s) all
+        let own = item_is style tag Structure (Data.array inner) in
+        ap₂ (λ (x y : List ℕ). (x ++ (opening style tag Structure ++ 91 ∷ [])) ++ y) (gap_is d b s) all
         ∙ simp append_assoc (simp append_assoc at (ap (λ (x : List ℕ). comma_if (not b) ++ (x ++ rest)) own))
 
     trees_flat : (d : ℕ) (b : Bool) (s : Option ℕ) (ts : Trees) (text : List ℕ) (r : List Line) → AreTreeTexts ts text → AllPlain (lines_below (suc d) ts)
         → IsLow d r
-        → flat (spot (suc d) b s) (lines_below (suc d) ts ++ r) ≡ items_text (not b) (trees_json secrets (within shown (is_inside s (suc d))) ts) ++ 125 ∷ flat
+        → flat (spot (suc d) b s) (lines_below (suc d) ts ++ r) ≡ items_text (not b) (trees_json style secrets (within shown (is_inside s (suc d))) ts) ++ 125 ∷ flat
         (spot d false s) r
     trees_flat d b s no_trees text r h plain low = close_one d b s r low
     trees_flat d b s (tree t ts) text r h plain low =
         let k = plain_both (lines (suc d) t) (lines_below (suc d) ts) plain in
         let hid = within shown (is_inside s (suc d)) in
         let more = lines_below (suc d) ts ++ r in
-        let one = data_text (tree_json secrets hid t) in
+        let one = data_text (tree_json style secrets hid t) in
         ap (flat (spot (suc d) b s)) (append_assoc (lines (suc d) t) (lines_below (suc d) ts) r)
         ∙ tree_flat (suc d) b s t h.0 more h.3 k.0 (low_below d ts r low)
         ∙ ap (λ (x : List ℕ). comma_if (not b) ++ (one ++ x)) (trees_flat d false s ts h.1 r h.4 k.1 low) ∙ simp append_assoc
 
   -- a whole message
-  pub message_flat : (t : Tree) (text : List ℕ) → IsTreeText t text → AllPlain (lines 0 t) → parts secrets shown first_spot (lines 0 t) ++ closes
-      (spot_behind secrets first_spot (lines 0 t)).depth ≡ data_text (tree_json secrets shown t)
+  pub message_flat : (t : Tree) (text : List ℕ) → IsTreeText t text → AllPlain (lines 0 t) → parts style secrets shown first_spot (lines 0 t) ++ closes
+      (spot_behind secrets first_spot (lines 0 t)).depth ≡ data_text (tree_json style secrets shown t)
   message_flat t text h plain =
       flat_is first_spot (lines 0 t) ∙ ap (flat first_spot) (sym (append-nil (lines 0 t))) ∙ tree_flat 0 true None t text [] h plain tt
       ∙ append-nil _

@@ -13,7 +13,7 @@ behind [] word = word
 behind (c ∷ cs) word = (c ∷ cs) ++ 124 ∷ word
 
 -- the words of those of some bits that a mask has, behind others; if each has one
-abbrev pub words_behind : ℕ → ℕ → List ℕ → List ℕ → Option (List ℕ)
+unfoldable pub words_behind : ℕ → ℕ → List ℕ → List ℕ → Option (List ℕ)
 words_behind tag mask text [] = Some text
 words_behind tag mask text (bit ∷ bits) =
     if has_bit mask bit

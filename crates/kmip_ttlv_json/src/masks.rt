@@ -2,6 +2,7 @@
 
 ghost use Rattle.std.specs.Prelude.{◌≡◌, [], IfOk, OnOk, option_map, string_bytes};
 ghost use Rattle.kmip_ttlv_json.specs.declared.masks.TheConstants.{BITS as the_bits};
+ghost use Rattle.kmip_words.specs.Words.{is_number, mask_of};
 ghost use Rattle.kmip_ttlv_json.specs.Masks.{has_bit, behind, words_behind, mask_text};
 
 use kmip_ttlv_types::TtlvTag;
@@ -84,6 +85,16 @@ fn words_behind<A: Allocator>(
     Ok(Some(text))
 }
 
+// Whether a text is read as a mask.
+fn is_read<A: Allocator>(words: &Words<A>, tag: TtlvTag, mask: u32, text: &str) -> bool
+    ensures { result ≡ is_number mask (mask_of tag 124 text.now) }
+{
+    match words.mask_of(tag, '|', text) {
+        Some(read) => read == mask,
+        None => false,
+    }
+}
+
 /// The words of a mask's bits with `|` between them, from the lowest bit on, if each has one, and the words are read as the mask.
 ///
 /// The only error is out of memory.
@@ -98,7 +109,7 @@ pub fn mask_text<A: Allocator>(
     let Some(text) = words_behind(alloc, words, tag, mask)? else {
         return Ok(None);
     };
-    if words.mask_of(tag, '|', text.as_str()) == Some(mask) {
+    if is_read(words, tag, mask, text.as_str()) {
         Ok(Some(text))
     } else {
         Ok(None)

@@ -419,12 +419,12 @@ fn push_line<S: TextSink, A: Allocator + Copy>(
 }
 
 // Adds a message as a line of JSON, if it has no fault.
-fn push_message<S: TextSink, A: Allocator + Copy>(
+fn push_message<'l, S: TextSink, A: Allocator + Copy>(
     alloc: A,
     out: &mut S,
-    words: Option<&Words<A>>,
+    words: Option<&'l Words<A>>,
     hiding: Hiding,
-    secrets: &LentTagMap<'_, A>,
+    secrets: &'l LentTagMap<'_, A>,
     message: &[u8],
 ) -> Result<Option<Fault>, S::Error>
     ensures ok { IfOk result (λ fault. SomeText
@@ -466,12 +466,12 @@ pub fn push_json<S: TextSink, A: Allocator + Copy>(
 ///
 /// A tag or a value without words, or whose words would be read as another, is written as by [`push_json`], and so is any other value;
 /// a value that is hidden is `null`. Make the words once, by `standard_words`. It takes memory for the words of a mask, too.
-pub fn push_named_json<S: TextSink, A: Allocator + Copy>(
+pub fn push_named_json<'l, S: TextSink, A: Allocator + Copy>(
     alloc: A,
     out: &mut S,
-    words: &Words<A>,
+    words: &'l Words<A>,
     hiding: Hiding,
-    secrets: &LentTagMap<'_, A>,
+    secrets: &'l LentTagMap<'_, A>,
     message: &[u8],
 ) -> Result<Option<Fault>, S::Error>
     ensures ok { IfOk result (λ fault. SomeText

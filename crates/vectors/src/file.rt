@@ -86,12 +86,15 @@ pub const NAMED: [Member; 9] = [
 ];
 
 /// JSON, and the message that it is read back as, in hexadecimal, or what is wrong with it.
-pub const JSON: [Member; 5] = [
+pub const JSON: [Member; 7] = [
     ("name", Kind::Text, true),
     ("comment", Kind::Text, true),
     ("json", Kind::Text, true),
     ("bytes", Kind::Text, false),
     ("error", Kind::Text, false),
+    // The JSON with names of the message, and that with hidden values.
+    ("named", Kind::Text, false),
+    ("hidden_named", Kind::Text, false),
 ];
 
 /// A shape, and what bytes are decoded as by it.

@@ -2,7 +2,7 @@ use Rattle.std.proofs.Common.{List, ℕ, ap}
 use Rattle.std.specs.Prelude.{codes, ◌++◌}
 use Rattle.hex.specs.Hex.{encode_upper}
 use Rattle.kmip_ttlv_util.proofs.Saying.{err_now, ok_same, err_same, ok_then, err_then}
-use Rattle.kmip_ttlv_json.proofs.print.push_tag_part.Goals as goal
+use Rattle.kmip_ttlv_json.proofs.print.push_tag_digits.Goals as goal
 
 pub returns-in_err-push_str-clause-err : goal.returns-in_err-push_str-clause-err
 returns-in_err-push_str-clause-err g c = err_now g.S.TextSink.adds g.S.TextSink.breaks _ _ _ _
