@@ -58,15 +58,15 @@ def interval(tag, number):
 # What is printed of a row's items with names: whole messages, and of a value in an Attribute the value.
 NAMED = {
     "version": (
-        '{"tag":"ProtocolVersion","value":[{"tag":"ProtocolVersionMajor","type":"Integer","value":"0x00000001"},'
-        '{"tag":"ProtocolVersionMinor","type":"Integer","value":"0x00000004"}]}'
+        '{"tag":"ProtocolVersion","value":[{"tag":"ProtocolVersionMajor","type":"Integer","value":1},'
+        '{"tag":"ProtocolVersionMinor","type":"Integer","value":4}]}'
     ),
     "empty": '{"tag":"Attributes","value":[]}',
     "nested": '{"tag":"0xAAAAAA","value":[{"tag":"0xBBBBBB","value":[]},{"tag":"CRTCoefficient","value":[]}]}',
-    "integer_low": '"0x80000000"',
-    "integer_high": '"0x7FFFFFFF"',
-    "integer_zero": '"0x00000000"',
-    "integer_minus_one": '"0xFFFFFFFF"',
+    "integer_low": "-2147483648",
+    "integer_high": "2147483647",
+    "integer_zero": "0",
+    "integer_minus_one": "-1",
     "mask": '"Encrypt|Decrypt"',
     "mask_of_one": '"MACGenerate"',
     "mask_number": '"Encrypt|Decrypt"',
@@ -75,10 +75,12 @@ NAMED = {
         '"Sign|Verify|Encrypt|Decrypt|WrapKey|UnwrapKey|Export|MACGenerate|MACVerify|DeriveKey|ContentCommitment|KeyAgreement|CertificateSign|CRLSign|'
         'GenerateCryptogram|ValidateCryptogram|TranslateEncrypt|TranslateDecrypt|TranslateWrap|TranslateUnwrap|Authenticate|Unrestricted|FPEEncrypt|FPEDecrypt"'
     ),
-    "mask_of_a_nameless_bit": '"0x80000001"',
-    "mask_of_no_bit": '"0x00000000"',
-    "long_integer": '"0x0010000000000000"',
-    "long_integer_low": '"0xFFF0000000000000"',
+    "mask_of_a_nameless_bit": "-2147483647",
+    "mask_of_no_bit": "0",
+    "long_integer": "4503599627370496",
+    "long_integer_low": "-4503599627370496",
+    "long_integer_above": '"0x0010000000000001"',
+    "long_integer_below": '"0xFFEFFFFFFFFFFFFF"',
     "big_integer": '"0x0000000000010001"',
     "big_integer_low": '"0xFFFFFFFFFFFFFFFE"',
     "enumeration": '"DES3"',
@@ -94,8 +96,8 @@ NAMED = {
     "date_last": '"9999-12-31T23:59:59+00:00"',
     "date_before_all": '"0x8000000000000000"',
     "date_leap": '"2024-02-29T12:00:00+00:00"',
-    "interval": '"0x00000E10"',
-    "interval_high": '"0xFFFFFFFF"',
+    "interval": "3600",
+    "interval_high": "4294967295",
     "text_of_a_word": '"ProtocolVersion"',
     "bytes_of_digits": '"0F1E"',
 }  # fmt: skip
@@ -160,6 +162,8 @@ def rows():
         ("no_mask", "BatchCount", '"Integer","value":"Encrypt"', None),
         ("long_integer", "UsageLimitsTotal", '"LongInteger","value":4503599627370496', long_integer(0x420097, 2**52)),
         ("long_integer_low", "UsageLimitsTotal", '"LongInteger","value":-4503599627370496', long_integer(0x420097, -(2**52))),
+        ("long_integer_above", "UsageLimitsTotal", '"LongInteger","value":"0x0010000000000001"', long_integer(0x420097, 2**52 + 1)),
+        ("long_integer_below", "UsageLimitsTotal", '"LongInteger","value":"0xFFEFFFFFFFFFFFFF"', long_integer(0x420097, -(2**52) - 1)),
         ("long_integer_of_no_float", "UsageLimitsTotal", '"LongInteger","value":4503599627370497', None),
         ("big_integer", "Modulus", '"BigInteger","value":65537', big_integer(0x420052, 65537)),
         ("big_integer_low", "Modulus", '"BigInteger","value":-2', big_integer(0x420052, -2)),

@@ -94,7 +94,8 @@ module _ (style : Style) (secrets : ℕ → Bool) (shown : Shown) where
       let hid = within (within shown (is_inside s.secret i.depth)) (secrets i.tag) in
       let content = take i.length (drop (i.offset + 8) w) in
       append-nil _
-      ∙ ap (λ (k : TtlvType). gap s i.depth ++ (opening style i.tag k ++ value_part style hid i.tag k (if code i.typ == 1 then [] else content))) (kind_code i.typ)
+      ∙ ap (λ (k : TtlvType). gap s i.depth ++ (opening style i.tag k ++ value_part style hid i.tag k (if code i.typ == 1 then [] else content)))
+      (kind_code i.typ)
       ∙ ap (λ (x : List ℕ). gap s i.depth ++ (opening style i.tag i.typ ++ x)) (content_free style hid i.tag i.typ content
       ∙ ap (λ (n : ℕ). value_part style hid i.tag i.typ (take n (drop (i.offset + 8) w))) there.len)
 

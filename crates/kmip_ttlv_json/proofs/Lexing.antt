@@ -2,32 +2,32 @@
 use Rattle.std.proofs.Common.{◌≡◌, ◌∙◌, ℕ, Bool, true, false, cond, List, [], ◌∷◌, ◌++◌, refl, sym, ap, ap₂, append_assoc, append-nil}
 use Rattle.json.specs.Word.{ends_word, word}
 use Rattle.json.specs.Lex.{Lexeme, lex, between, in_word, punctuate, fresh, tokens, token, comma, colon}
-use Rattle.json.specs.Print.{quoted}
-use Rattle.json.proofs.Printed.Numbers.{in_word-ended}
+use Rattle.json.specs.Print.{quoted, IsNumber}
+use Rattle.json.proofs.Printed.Numbers.{in_word-ended, lex-number}
 use Rattle.serde_json.specs.Data.{Data, null, boolean, number, string, array, object, Items, no_items, item, Members, no_members, member}
-use Rattle.serde_json.specs.Written.{compact_text, comma_if}
+use Rattle.serde_json.specs.Written.{number_text, compact_text, comma_if}
 use Rattle.kmip_ttlv_json.specs.Spellings.{data_text, items_text, members_text}
 use Rattle.kmip_ttlv_json.proofs.Spelling.{lex-spelled, lex-quoted}
 use Rattle.json.specs.Token as tokens_of
 use Rattle.serde_json.specs.Written as compact
 
--- a value without numbers, as that of an item is
+-- the numbers in a value are written as numbers of JSON
 abbrev mutual
-  pub IsNumberless : Data → Type 0
-  IsNumberless null = Unit {0}
-  IsNumberless (boolean b) = Unit {0}
-  IsNumberless (number n) = ⊥
-  IsNumberless (string s) = Unit {0}
-  IsNumberless (array ds) = AreNumberless ds
-  IsNumberless (object ms) = MembersAreNumberless ms
+  pub HasNumerals : Data → Type 0
+  HasNumerals null = Unit {0}
+  HasNumerals (boolean b) = Unit {0}
+  HasNumerals (number n) = IsNumber (number_text n)
+  HasNumerals (string s) = Unit {0}
+  HasNumerals (array ds) = HaveNumerals ds
+  HasNumerals (object ms) = MembersHaveNumerals ms
 
-  pub AreNumberless : Items → Type 0
-  AreNumberless no_items = Unit {0}
-  AreNumberless (item d ds) = IsNumberless d × AreNumberless ds
+  pub HaveNumerals : Items → Type 0
+  HaveNumerals no_items = Unit {0}
+  HaveNumerals (item d ds) = HasNumerals d × HaveNumerals ds
 
-  pub MembersAreNumberless : Members → Type 0
-  MembersAreNumberless no_members = Unit {0}
-  MembersAreNumberless (member k d ms) = IsNumberless d × MembersAreNumberless ms
+  pub MembersHaveNumerals : Members → Type 0
+  MembersHaveNumerals no_members = Unit {0}
+  MembersHaveNumerals (member k d ms) = HasNumerals d × MembersHaveNumerals ms
 
 -- two texts that may stand behind a value, with the same lexemes
 record Alike (x y : List ℕ) : Type 0 where
@@ -71,16 +71,18 @@ assoc4 a q b c x = simp append_assoc
 mutual
   unfolding lex word
 
-  value_alike : (d : Data) (x y : List ℕ) → IsNumberless d → Alike x y → lex between (data_text d ++ x) ≡ lex between (compact_text d ++ y)
+  value_alike : (d : Data) (x y : List ℕ) → HasNumerals d → Alike x y → lex between (data_text d ++ x) ≡ lex between (compact_text d ++ y)
   value_alike null x y h a = word_alike x y tokens_of.null a
   value_alike (boolean true) x y h a = word_alike x y (tokens_of.boolean true) a
   value_alike (boolean false) x y h a = word_alike x y (tokens_of.boolean false) a
-  value_alike (number n) x y h a = absurd h
+  value_alike (number n) x y h a =
+      lex-number (number_text n) x h a.first ∙ ap (λ l. token (tokens_of.number (number_text n)) ∷ l) a.lexemes
+      ∙ sym (lex-number (number_text n) y h a.second)
   value_alike (string s) x y h a = lex-spelled s x ∙ ap (λ l. token (tokens_of.string s) ∷ l) a.lexemes ∙ sym (lex-quoted s y)
   value_alike (array ds) x y h a = ap (λ l. token tokens_of.begin_array ∷ l) (items_alike false ds x y h a.lexemes)
   value_alike (object ms) x y h a = ap (λ l. token tokens_of.begin_object ∷ l) (members_alike false ms x y h a.lexemes)
 
-  items_alike : (later : Bool) (ds : Items) (x y : List ℕ) → AreNumberless ds → lex between x ≡ lex between y
+  items_alike : (later : Bool) (ds : Items) (x y : List ℕ) → HaveNumerals ds → lex between x ≡ lex between y
       → lex between (items_text later ds ++ x) ≡ lex between (compact.items_text later ds ++ y)
   items_alike later no_items x y h e = ap (λ l. token tokens_of.end_array ∷ l) e
   items_alike later (item d ds) x y h e =
@@ -92,7 +94,7 @@ mutual
       ap (lex between) (assoc3 (comma_if later) (data_text d) (items_text true ds) x)
       ∙ same_comma later _ _ one ∙ sym (ap (lex between) (assoc3 (comma_if later) (compact_text d) (compact.items_text true ds) y))
 
-  members_alike : (later : Bool) (ms : Members) (x y : List ℕ) → MembersAreNumberless ms → lex between x ≡ lex between y
+  members_alike : (later : Bool) (ms : Members) (x y : List ℕ) → MembersHaveNumerals ms → lex between x ≡ lex between y
       → lex between (members_text later ms ++ x) ≡ lex between (compact.members_text later ms ++ y)
   members_alike later no_members x y h e = ap (λ l. token tokens_of.end_object ∷ l) e
   members_alike later (member k d ms) x y h e =
@@ -108,7 +110,7 @@ mutual
       ∙ sym (ap (lex between) (assoc4 (comma_if later) (quoted k) (compact_text d) (compact.members_text true ms) y))
 
 -- the tokens of a value that is the whole text
-pub same_tokens : (d : Data) → IsNumberless d → tokens (data_text d) ≡ tokens (compact_text d)
+pub same_tokens : (d : Data) → HasNumerals d → tokens (data_text d) ≡ tokens (compact_text d)
 unfolding lex
 same_tokens d h = ap (punctuate fresh) (ap (lex between) (sym (append-nil (data_text d)))
     ∙ value_alike d [] [] h (record { first = refl; second = refl; lexemes = refl }) ∙ ap (lex between) (append-nil (compact_text d)))

@@ -1,16 +1,17 @@
 -- A message is read back from its line.
-use Rattle.std.proofs.Common.{◌≡◌, ◌∙◌, ℕ, suc, ◌+◌, ◌<◌, ◌≤◌, ◌^◌, ◌==◌, Bool, true, false, List, ◌∷◌, length, if◌then◌else◌, Option, Some, None, option_map}
+use Rattle.std.proofs.Common.{◌≡◌, ◌∙◌, inl, inr, ◌⊎◌, ℕ, suc, ◌+◌, ◌-◌, ◌%◌, ℤ, pos, negsuc, ◌<◌, ◌≤◌, ◌^◌, ◌==◌, Bool, true, false, List, ◌∷◌, length}
+use Rattle.std.proofs.Common.{if◌then◌else◌, Option, Some, None, option_map}
 use Rattle.std.proofs.Common.{option_and_then, Ok, refl, ap, sym, arith, length-append}
-use Rattle.std.specs.{Prelude.nat_lt, Prelude.codes, Prelude.unwrap_or, Option.ok_or, Result.result_ok}
-use Rattle.std.specs.Int.{w32, w64, to_be_bytes, from_be_bytes, bytes_high_first}
-use Rattle.std.proofs.lemmas.{Bool.ltb-true, Bool.eqb-true, Nat.be_bytes_4, Nat.be_bytes_8}
+use Rattle.std.specs.{Prelude.nat_lt, Prelude.nat_le, Prelude.unsigned_abs, Prelude.codes, Prelude.unwrap_or, Option.ok_or, Result.result_ok}
+use Rattle.std.specs.Int.{w32, w64, to_be_bytes, from_be_bytes, bytes_high_first, cast_signed}
+use Rattle.std.proofs.lemmas.{Bool.ltb-true, Bool.leb-true, Bool.lt-ltb, Bool.le-ltb, Bool.le-leb, Bool.cases_lt, Bool.eqb-true, Nat.be_bytes_4, Nat.be_bytes_8}
 use Rattle.hex.specs.Hex.{encode_with, encode_upper, upper_digits, decode_sized}
 use Rattle.hex.proofs.HexLemmas.{IsDigits-upper_digits, decode_of-encode_upper, decode_pairs-encode_with}
-use Rattle.serde_json.specs.Data.{Data, string, array, object, no_members, member, depth}
+use Rattle.serde_json.specs.Data.{Data, number, string, array, object, no_members, member, depth}
 use Rattle.serde_json.specs.Read.{max_depth}
 use Rattle.kmip_ttlv_json.specs.Spellings.{data_text}
 use Rattle.kmip_ttlv_types.specs.{declared.typ.TtlvType.TtlvType, Leaves.is_valid}
-use Rattle.kmip_ttlv_types.specs.declared.typ.TtlvType.TheVariants.{Structure, Integer, Enumeration, Boolean, TextString, DateTime}
+use Rattle.kmip_ttlv_types.specs.declared.typ.TtlvType.TheVariants.{Structure, Integer, LongInteger, Enumeration, Boolean, TextString, DateTime, Interval}
 use Rattle.kmip_ttlv_types.proofs.PlaceLemmas.{raw_with, text_length}
 use Rattle.kmip_ttlv_types.specs.Trees.{Tree, Trees, leaf, node, no_trees, bytes, bytes_below, IsTreeText, AreTreeTexts, IsStructure}
 use Rattle.kmip_ttlv_items.specs.{declared.found.FoundItem.FoundItem, FoundItems.Lists}
@@ -21,9 +22,13 @@ use Rattle.kmip_words.specs.{Words.word_of, Words.tag_word, Words.number_of, Wor
 use Rattle.kmip_ttlv_json.specs.declared.print.Style.{Style}
 use Rattle.kmip_ttlv_json.specs.declared.print.Style.TheVariants.{Digits, Names}
 use Rattle.kmip_ttlv_json.specs.declared.print.Shown.TheVariants.{All}
+use Rattle.kmip_ttlv_json.specs.declared.seen.Whole.{Whole}
 use Rattle.kmip_ttlv_json.specs.Masks.{mask_text}
-use Rattle.kmip_ttlv_json.specs.Jsons.{type_word, hex_text, is_true, plain_json, worded_json, value_json, tag_text, item_json, tree_json, trees_json}
-use Rattle.kmip_ttlv_json.specs.JsonTrees.{tag_or_word, digits_or_word, boolean_bytes, tag_in, type_in, content_in, valid_in, leaf_in, node_of, typed_in, tagged_in, tree_of, below_of}
+use Rattle.kmip_ttlv_json.specs.Jsons.{type_word, hex_text, is_true, num_of, exact_num, value_number, plain_json, worded_json, value_json, tag_text}
+use Rattle.kmip_ttlv_json.specs.Jsons.{item_json, tree_json, trees_json}
+use Rattle.kmip_ttlv_json.specs.JsonTrees.{whole_num, integer_of, long_of, interval_of}
+use Rattle.kmip_ttlv_json.specs.JsonTrees.{tag_or_word, digits_or_word, boolean_bytes, tag_in, type_in, content_in, valid_in, leaf_in, node_of, typed_in}
+use Rattle.kmip_ttlv_json.specs.JsonTrees.{tagged_in, tree_of, below_of}
 use Rattle.kmip_ttlv_json.specs.JsonTrees.{trees_of}
 use Rattle.kmip_ttlv_json.specs.{declared.failure.BadMember.TheVariants.Value, Laws.no_secrets, Readings.Stands, Readings.is_node}
 use Rattle.kmip_ttlv_json.proofs.{Found.tree_plain, ReadBack.tree_back, ReadBack.text_back, ReadingBack.structure_fits}
@@ -56,7 +61,8 @@ type_returns typ = refl
 
 -- an item with its type, and a Structure without it
 typed_returns : (style : Style) (tag : ℕ) (typ : TtlvType) (v : Data) → tag < 2 ^ 24
-    → tree_of (object (member (codes "tag") (string (tag_text style tag)) (member (codes "type") (string (type_word typ)) (member (codes "value") v no_members))))
+    → tree_of (object (member (codes "tag") (string (tag_text style tag))
+    (member (codes "type") (string (type_word typ)) (member (codes "value") v no_members))))
     ≡ typed_in tag (Some typ) v (below_of v)
 typed_returns style tag typ v lt = ap (λ o. tagged_in o (type_in (string (type_word typ))) v (below_of v)) (tag_returns style tag lt)
     ∙ ap (λ o. typed_in tag o v (below_of v)) (type_returns typ)
@@ -89,6 +95,33 @@ plain_returns tag Boolean content good plain = ap Some (boolean_returns content 
 plain_returns tag TextString content good plain = refl
 plain_returns tag typ content good plain = ap result_ok (decode_of-encode_upper content plain)
 
+-- the 32 or 64 bits of a number with its sign, and those of an Interval
+integer_back : (m : ℕ) → m < 2 ^ 32 → option_and_then (λ w. integer_of w.minus w.size) (whole_num (num_of (cast_signed w32 m))) ≡ Some m
+integer_back m small = by (cases_lt m (2 ^ 31))
+  where
+    by : (m < 2 ^ 31) ⊎ (2 ^ 31 ≤ m) → option_and_then (λ w. integer_of w.minus w.size) (whole_num (num_of (cast_signed w32 m))) ≡ Some m
+    by (inl lt) = rw (lt-ltb m (2 ^ 31) lt) (rw (lt-ltb m (2 ^ 31) lt) refl)
+    by (inr le) =
+        let size : suc (2 ^ 32 - suc m) ≡ 2 ^ 32 - m = omega (arith, small) in
+        let some : 0 < suc (2 ^ 32 - suc m) = omega arith in
+        let most : suc (2 ^ 32 - suc m) ≤ 2 ^ 31 = omega (arith, le, small) in
+        let back : 2 ^ 32 - suc (2 ^ 32 - suc m) ≡ m = omega (arith, small) in
+        rw (le-ltb m (2 ^ 31) le) (rw (lt-ltb 0 (suc (2 ^ 32 - suc m)) some, le-leb (suc (2 ^ 32 - suc m)) (2 ^ 31) most) (ap Some back))
+
+long_back : (m : ℕ) → m < 2 ^ 64 → unsigned_abs (cast_signed w64 m) ≤ 2 ^ 52
+    → option_and_then (λ w. long_of w.minus w.size) (whole_num (num_of (cast_signed w64 m))) ≡ Some m
+long_back m small = by (cases_lt m (2 ^ 63))
+  where
+    by : (m < 2 ^ 63) ⊎ (2 ^ 63 ≤ m) → unsigned_abs (cast_signed w64 m) ≤ 2 ^ 52
+        → option_and_then (λ w. long_of w.minus w.size) (whole_num (num_of (cast_signed w64 m))) ≡ Some m
+    by (inl lt) = rw (lt-ltb m (2 ^ 63) lt) (λ exact. rw (le-ltb (2 ^ 52) m exact) refl)
+    by (inr le) = rw (le-ltb m (2 ^ 63) le) (λ exact.
+        let back : (2 ^ 64 - suc (2 ^ 64 - suc m)) % 2 ^ 64 ≡ m = omega (arith, small) in
+        rw (le-ltb (2 ^ 52) (suc (2 ^ 64 - suc m)) exact) (ap Some back))
+
+interval_back : (m : ℕ) → m < 2 ^ 32 → option_and_then (λ w. interval_of w.minus w.size) (whole_num (num_of (pos m))) ≡ Some m
+interval_back m small = rw (lt-ltb m (2 ^ 32) small) refl
+
 -- the number that words stand for
 four_return : (content : List ℕ) → length content ≡ 4 → ArePlain content → (o : Option ℕ) → o ≡ Some (from_be_bytes w32 content)
     → option_map (to_be_bytes w32) o ≡ Some content
@@ -99,21 +132,62 @@ eight_return : (content : List ℕ) → length content ≡ 8 → ArePlain conten
 eight_return content eight plain o is = ap (option_map (to_be_bytes w64)) is ∙ ap Some (be_bytes_8 content (from_be_bytes w64 content) eight plain refl)
 
 enumeration_returns : (tag : ℕ) (content : List ℕ) → length content ≡ 4 → ArePlain content → (o : Option (List ℕ))
-    → word_of tag (from_be_bytes w32 content) ≡ o → content_in tag Enumeration (worded_json o Enumeration content) ≡ Some content
+    → word_of tag (from_be_bytes w32 content) ≡ o → content_in tag Enumeration (worded_json o None Enumeration content) ≡ Some content
 enumeration_returns tag content four plain None e = ap result_ok (decode_of-encode_upper content plain)
 enumeration_returns tag content four plain (Some w) e =
     let r = value_reads tag (from_be_bytes w32 content) w e in
     ap (digits_or_word tag Enumeration w) (no_digits w (word_begins w r.0)) ∙ four_return content four plain (number_of tag w) r.1
 
+mapped : (f : ℕ → List ℕ) (g : Whole → Option ℕ) (o : Option Whole) → option_and_then (λ w. option_map f (g w)) o ≡ option_map f (option_and_then g o)
+mapped f g None = refl
+mapped f g (Some w) = refl
+
+-- a number, if it is small
+exact_returns : (tag : ℕ) (typ : TtlvType) (content : List ℕ) (z : ℤ)
+    → (unsigned_abs z ≤ 2 ^ 52 → content_in tag typ (number (num_of z)) ≡ Some content)
+    → content_in tag typ (plain_json typ content) ≡ Some content
+    → content_in tag typ (worded_json None (exact_num z) typ content) ≡ Some content
+exact_returns tag typ content z exact plain = by (nat_le (unsigned_abs z) (2 ^ 52)) (leb-true (unsigned_abs z) (2 ^ 52))
+  where
+    by : (b : Bool) → (b ≡ true → unsigned_abs z ≤ 2 ^ 52)
+        → content_in tag typ (worded_json None (if b then Some (num_of z) else None) typ content) ≡ Some content
+    by true small = exact (small refl)
+    by false small = plain
+
+four_small : (content : List ℕ) → ArePlain content → from_be_bytes w32 content < 2 ^ 32
+four_small content plain = omega (arith, plain 0, plain 1, plain 2, plain 3)
+
+eight_small : (content : List ℕ) → ArePlain content → from_be_bytes w64 content < 2 ^ 64
+eight_small content plain = omega (arith, plain 0, plain 1, plain 2, plain 3, plain 4, plain 5, plain 6, plain 7)
+
 integer_returns : (tag : ℕ) (content : List ℕ) → length content ≡ 4 → ArePlain content → (o : Option (List ℕ))
-    → mask_text tag (from_be_bytes w32 content) ≡ o → content_in tag Integer (worded_json o Integer content) ≡ Some content
-integer_returns tag content four plain None e = ap result_ok (decode_of-encode_upper content plain)
+    → mask_text tag (from_be_bytes w32 content) ≡ o → content_in tag Integer (worded_json o (value_number Integer content) Integer content) ≡ Some content
+integer_returns tag content four plain None e =
+    let m = from_be_bytes w32 content in
+    exact_returns tag Integer content (cast_signed w32 m)
+    (λ exact. mapped (to_be_bytes w32) (λ w. integer_of w.minus w.size) (whole_num (num_of (cast_signed w32 m)))
+    ∙ four_return content four plain _ (integer_back m (four_small content plain))) (ap result_ok (decode_of-encode_upper content plain))
 integer_returns tag content four plain (Some w) e =
     let r = mask_reads tag (from_be_bytes w32 content) w e in
     ap (digits_or_word tag Integer w) r.1 ∙ four_return content four plain (mask_of tag 124 w) r.0
 
+long_returns : (tag : ℕ) (content : List ℕ) → length content ≡ 8 → ArePlain content
+    → content_in tag LongInteger (worded_json None (value_number LongInteger content) LongInteger content) ≡ Some content
+long_returns tag content eight plain =
+    let m = from_be_bytes w64 content in
+    exact_returns tag LongInteger content (cast_signed w64 m)
+    (λ exact. mapped (to_be_bytes w64) (λ w. long_of w.minus w.size) (whole_num (num_of (cast_signed w64 m)))
+    ∙ eight_return content eight plain _ (long_back m (eight_small content plain) exact)) (ap result_ok (decode_of-encode_upper content plain))
+
+interval_returns : (tag : ℕ) (content : List ℕ) → length content ≡ 4 → ArePlain content
+    → content_in tag Interval (worded_json None (value_number Interval content) Interval content) ≡ Some content
+interval_returns tag content four plain =
+    let m = from_be_bytes w32 content in
+    exact_returns tag Interval content (pos m) (λ exact. mapped (to_be_bytes w32) (λ w. interval_of w.minus w.size) (whole_num (num_of (pos m)))
+    ∙ four_return content four plain _ (interval_back m (four_small content plain))) (ap result_ok (decode_of-encode_upper content plain))
+
 date_returns : (tag : ℕ) (content : List ℕ) → length content ≡ 8 → ArePlain content → (o : Option (List ℕ))
-    → date_text (from_be_bytes w64 content) ≡ o → content_in tag DateTime (worded_json o DateTime content) ≡ Some content
+    → date_text (from_be_bytes w64 content) ≡ o → content_in tag DateTime (worded_json o None DateTime content) ≡ Some content
 date_returns tag content eight plain None e = ap result_ok (decode_of-encode_upper content plain)
 date_returns tag content eight plain (Some w) e =
     let r = date_reads (from_be_bytes w64 content) w e in
@@ -127,6 +201,8 @@ content_returns Names tag Integer content good plain =
     integer_returns tag content (eqb-true (length content) 4 good) plain (mask_text tag (from_be_bytes w32 content)) refl
 content_returns Names tag DateTime content good plain =
     date_returns tag content (eqb-true (length content) 8 good) plain (date_text (from_be_bytes w64 content)) refl
+content_returns Names tag LongInteger content good plain = long_returns tag content (eqb-true (length content) 8 good) plain
+content_returns Names tag Interval content good plain = interval_returns tag content (eqb-true (length content) 4 good) plain
 content_returns Digits tag typ content good plain = plain_returns tag typ content good plain
 content_returns Names tag typ content good plain = plain_returns tag typ content good plain
 

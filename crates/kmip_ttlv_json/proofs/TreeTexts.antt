@@ -6,7 +6,7 @@ use Rattle.std.proofs.{Math.Bool.and-false, Math.Bool.and-true}
 use Rattle.std.proofs.lemmas.Bool.{lt-ltb, le-ltb, ltb-true, ltb-false, ne_eqb, eq-eqb}
 use Rattle.hex.specs.Hex.{encode_upper}
 use Rattle.json.specs.Print.{escape_byte, quoted}
-use Rattle.serde_json.specs.Data.{Data, string, no_members, member}
+use Rattle.serde_json.specs.Data.{Num, Data, string, no_members, member}
 use Rattle.serde_json.specs.Written.{comma_if}
 use Rattle.kmip_ttlv_types.specs.{declared.typ.TtlvType.TtlvType, ItemTypes.code}
 use Rattle.kmip_ttlv_types.specs.declared.typ.TtlvType.TheVariants.{Structure, Boolean, TextString, ByteString}
@@ -19,7 +19,8 @@ use Rattle.kmip_words.specs.Words.{tag_word}
 use Rattle.kmip_ttlv_json.specs.declared.print.Style.{Style}
 use Rattle.kmip_ttlv_json.specs.declared.print.Style.TheVariants.{Digits, Names}
 use Rattle.kmip_ttlv_json.specs.Spellings.{spelled, data_text, items_text, members_text}
-use Rattle.kmip_ttlv_json.specs.Jsons.{type_word, hex_text, is_true, is_hidden, words_for, plain_json, worded_json, value_json, tag_text, typed_members, item_json}
+use Rattle.kmip_ttlv_json.specs.Jsons.{type_word, hex_text, is_true, is_hidden, words_for, number_for, plain_json, worded_json, value_json, tag_text}
+use Rattle.kmip_ttlv_json.specs.Jsons.{typed_members, item_json}
 use Rattle.kmip_ttlv_json.specs.Jsons.{within, tree_json, trees_json}
 use Rattle.kmip_ttlv_json.specs.Parts.{closes, is_inside, spot_after, gap, type_part, opening, digits_text, plain_text, worded_text, value_text, value_part}
 use Rattle.kmip_ttlv_json.specs.Parts.{item_part, kind, parts, spot_behind, first_spot}
@@ -118,19 +119,21 @@ plain_is TextString content plain = refl
 plain_is ByteString content plain = bytes_are content plain
 plain_is typ content plain = number_is content plain
 
-worded_is : (o : Option (List ℕ)) (typ : TtlvType) (content : List ℕ) → ArePlain content → worded_text o typ content ≡ data_text (worded_json o typ content)
-worded_is None typ content plain = plain_is typ content plain
-worded_is (Some words) typ content plain = refl
+worded_is : (o : Option (List ℕ)) (n : Option Num) (typ : TtlvType) (content : List ℕ) → ArePlain content
+    → worded_text o n typ content ≡ data_text (worded_json o n typ content)
+worded_is None None typ content plain = plain_is typ content plain
+worded_is None (Some num) typ content plain = refl
+worded_is (Some words) n typ content plain = refl
 
 -- the value of a leaf
 text_is : (style : Style) (shown : Shown) (tag : ℕ) (typ : TtlvType) (content : List ℕ) → ArePlain content
     → value_text style shown tag typ content ≡ data_text (value_json style shown tag typ content)
 text_is style shown tag typ content plain = by (is_hidden shown typ)
   where
-    by : (b : Bool) → (if b then codes "null" else worded_text (words_for style tag typ content) typ content)
-        ≡ data_text (if b then Data.null else worded_json (words_for style tag typ content) typ content)
+    by : (b : Bool) → (if b then codes "null" else worded_text (words_for style tag typ content) (number_for style typ content) typ content)
+        ≡ data_text (if b then Data.null else worded_json (words_for style tag typ content) (number_for style typ content) typ content)
     by true = refl
-    by false = worded_is (words_for style tag typ content) typ content plain
+    by false = worded_is (words_for style tag typ content) (number_for style typ content) typ content plain
 
 value_is : (style : Style) (shown : Shown) (tag : ℕ) (typ : TtlvType) (content : List ℕ) → typ ≢ Structure → ArePlain content
     → value_part style shown tag typ content ≡ data_text (value_json style shown tag typ content) ++ 125 ∷ []
@@ -257,8 +260,8 @@ module _ (style : Style) (secrets : ℕ → Bool) (shown : Shown) where
 
     trees_flat : (d : ℕ) (b : Bool) (s : Option ℕ) (ts : Trees) (text : List ℕ) (r : List Line) → AreTreeTexts ts text → AllPlain (lines_below (suc d) ts)
         → IsLow d r
-        → flat (spot (suc d) b s) (lines_below (suc d) ts ++ r) ≡ items_text (not b) (trees_json style secrets (within shown (is_inside s (suc d))) ts) ++ 125 ∷ flat
-        (spot d false s) r
+        → flat (spot (suc d) b s) (lines_below (suc d) ts ++ r)
+        ≡ items_text (not b) (trees_json style secrets (within shown (is_inside s (suc d))) ts) ++ 125 ∷ flat (spot d false s) r
     trees_flat d b s no_trees text r h plain low = close_one d b s r low
     trees_flat d b s (tree t ts) text r h plain low =
         let k = plain_both (lines (suc d) t) (lines_below (suc d) ts) plain in

@@ -1,8 +1,10 @@
 -- A message as JSON (OASIS "KMIP Additional Message Encodings", JSON), in two styles: by digits, or with the standard's words.
-use Rattle.std.specs.Prelude.{ℕ, Bool, true, false, List, [], ◌∷◌, ◌++◌, nat_lt, codes, Option, Some, None, unwrap_or, if◌then◌else◌}
-use Rattle.std.specs.Int.{w32, w64, from_be_bytes, bytes_high_first}
+use Rattle.std.specs.Prelude.{ℕ, Bool, true, false, List, [], ◌∷◌, ◌++◌, nat_lt, nat_le, ◌^◌, ℤ, pos, negsuc, unsigned_abs, codes, Option, Some, None}
+use Rattle.std.specs.Prelude.{unwrap_or, if◌then◌else◌}
+use Rattle.std.specs.Int.{w32, w64, from_be_bytes, bytes_high_first, cast_signed}
 use Rattle.hex.specs.Hex.{encode_upper}
-use Rattle.serde_json.specs.Data.{Data, null, boolean, string, array, object, Items, no_items, item, Members, no_members, member}
+use Rattle.serde_json.specs.Data.{Num, unsigned, negative, Data, null, boolean, number, string, array, object, Items, no_items, item, Members, no_members}
+use Rattle.serde_json.specs.Data.{member}
 use Rattle.kmip_ttlv_types.specs.declared.typ.TtlvType.{TtlvType}
 use Rattle.kmip_ttlv_types.specs.declared.typ.TtlvType.TheVariants.{Structure, Integer, LongInteger, BigInteger}
 use Rattle.kmip_ttlv_types.specs.declared.typ.TtlvType.TheVariants.{Enumeration, Boolean, TextString, ByteString}
@@ -53,19 +55,41 @@ abbrev pub words_for : Style → ℕ → TtlvType → List ℕ → Option (List 
 words_for Digits tag typ content = None
 words_for Names tag typ content = value_words tag typ content
 
+-- ---- numbers
+
+-- a number with its sign, and that if JSON may have it as a number: one of 2^52 at most
+abbrev pub num_of : ℤ → Num
+num_of (pos n) = unsigned n
+num_of (negsuc n) = negative (negsuc n)
+
+abbrev pub exact_num : ℤ → Option Num
+exact_num z = if nat_le (unsigned_abs z) (2 ^ 52) then Some (num_of z) else None
+
+-- the number of a value, if it is one
+abbrev pub value_number : TtlvType → List ℕ → Option Num
+value_number Integer content = exact_num (cast_signed w32 (from_be_bytes w32 content))
+value_number LongInteger content = exact_num (cast_signed w64 (from_be_bytes w64 content))
+value_number Interval content = exact_num (pos (from_be_bytes w32 content))
+value_number typ content = None
+
+abbrev pub number_for : Style → TtlvType → List ℕ → Option Num
+number_for Digits typ content = None
+number_for Names typ content = value_number typ content
+
 -- ---- items
 
--- a value without words
+-- a value by digits
 abbrev pub plain_json : TtlvType → List ℕ → Data
 plain_json Boolean content = boolean (is_true content)
 plain_json TextString content = string content
 plain_json ByteString content = string (encode_upper content)
 plain_json typ content = string (hex_text content)
 
--- a value, by its words if there are any
-abbrev pub worded_json : Option (List ℕ) → TtlvType → List ℕ → Data
-worded_json (Some words) typ content = string words
-worded_json None typ content = plain_json typ content
+-- a value, by its words or as a number, if it is one
+abbrev pub worded_json : Option (List ℕ) → Option Num → TtlvType → List ℕ → Data
+worded_json (Some words) num typ content = string words
+worded_json None (Some num) typ content = number num
+worded_json None None typ content = plain_json typ content
 
 -- the value of a leaf is hidden
 abbrev pub is_hidden : Shown → TtlvType → Bool
@@ -77,7 +101,7 @@ is_hidden Nothing typ = true
 -- the value of a leaf; null for one that is hidden
 abbrev pub value_json : Style → Shown → ℕ → TtlvType → List ℕ → Data
 value_json style shown tag typ content =
-    if is_hidden shown typ then null else worded_json (words_for style tag typ content) typ content
+    if is_hidden shown typ then null else worded_json (words_for style tag typ content) (number_for style typ content) typ content
 
 -- a tag: its word, if it has one, or its digits
 abbrev pub tag_text : Style → ℕ → List ℕ

@@ -2,7 +2,7 @@
 use Rattle.std.specs.Prelude.{ℕ, zero, suc, ◌-◌, ◌==◌, Bool, true, false, not, ◌&&◌, List, [], ◌∷◌, ◌++◌, nat_lt, codes}
 use Rattle.std.specs.Prelude.{Option, Some, None, if◌then◌else◌}
 use Rattle.hex.specs.Hex.{encode_upper}
-use Rattle.serde_json.specs.Written.{comma_if}
+use Rattle.serde_json.specs.{Data.Num, Written.comma_if, Written.number_text}
 use Rattle.kmip_ttlv_types.specs.declared.typ.TtlvType.{TtlvType}
 use Rattle.kmip_ttlv_types.specs.declared.typ.TtlvType.TheVariants.{Structure, Boolean, TextString, ByteString}
 use Rattle.kmip_ttlv_types.specs.ItemTypes.{is_structure, type_of}
@@ -13,7 +13,7 @@ use Rattle.kmip_ttlv_json.specs.declared.print.Style.{Style}
 use Rattle.kmip_ttlv_json.specs.declared.print.Style.TheVariants.{Names}
 use Rattle.kmip_ttlv_json.specs.declared.print.Shown.{Shown}
 use Rattle.kmip_ttlv_json.specs.Spellings.{spelled}
-use Rattle.kmip_ttlv_json.specs.Jsons.{type_word, is_true, within, tag_text, words_for, is_hidden}
+use Rattle.kmip_ttlv_json.specs.Jsons.{type_word, is_true, within, tag_text, words_for, number_for, is_hidden}
 
 -- the ends of so many structures
 abbrev pub closes : ℕ → List ℕ
@@ -60,21 +60,22 @@ opening style tag typ = tag_part style tag ++ type_part style typ
 abbrev pub digits_text : List ℕ → List ℕ → List ℕ
 digits_text front content = front ++ (encode_upper content ++ codes "\"")
 
--- the text of a value without words, and by its words if there are any
+-- the text of a value by digits, and by its words or as a number, if it is one
 abbrev pub plain_text : TtlvType → List ℕ → List ℕ
 plain_text Boolean content = if is_true content then codes "true" else codes "false"
 plain_text TextString content = spelled content
 plain_text ByteString content = digits_text (codes "\"") content
 plain_text typ content = digits_text (codes "\"0x") content
 
-abbrev pub worded_text : Option (List ℕ) → TtlvType → List ℕ → List ℕ
-worded_text (Some words) typ content = spelled words
-worded_text None typ content = plain_text typ content
+abbrev pub worded_text : Option (List ℕ) → Option Num → TtlvType → List ℕ → List ℕ
+worded_text (Some words) num typ content = spelled words
+worded_text None (Some num) typ content = number_text num
+worded_text None None typ content = plain_text typ content
 
 -- the text of a leaf's value
 abbrev pub value_text : Style → Shown → ℕ → TtlvType → List ℕ → List ℕ
 value_text style shown tag typ content =
-    if is_hidden shown typ then codes "null" else worded_text (words_for style tag typ content) typ content
+    if is_hidden shown typ then codes "null" else worded_text (words_for style tag typ content) (number_for style typ content) typ content
 
 -- the rest of an item: of a structure no more than where the items in it begin
 abbrev pub value_part : Style → Shown → ℕ → TtlvType → List ℕ → List ℕ

@@ -10,7 +10,7 @@ ghost use Rattle.kmip_ttlv_write.specs.FlatWrites.{opened};
 ghost use Rattle.hex.specs.Hex.{encode_upper};
 ghost use Rattle.std.specs.Int.{bytes_high_first};
 ghost use Rattle.kmip_ttlv_json.specs.declared.print.Style.TheVariants.{Digits as ByDigits, Names as ByNames};
-ghost use Rattle.kmip_ttlv_json.specs.Jsons.{within, is_hidden, word_of_tag, words_for};
+ghost use Rattle.kmip_ttlv_json.specs.Jsons.{within, is_hidden, word_of_tag, words_for, number_for};
 ghost use Rattle.kmip_ttlv_json.specs.Parts.{closes, is_inside, spot_after, gap, tag_part, type_part, opening, worded_text, value_text, value_part};
 ghost use Rattle.kmip_ttlv_json.specs.Printings.{style_of, secrets_of, shown_of, has_line, IsJson, IsThere};
 
@@ -258,7 +258,7 @@ fn is_hidden(shown: Shown, typ: TtlvType) -> bool
     }
 }
 
-// Adds the value of a leaf that is shown: its words, if it has some, and words are at hand.
+// Adds the value of a leaf that is shown: with words at hand by its words, or as a number, if it is one.
 fn push_shown<S: TextSink, A: Allocator>(
     alloc: A,
     out: &mut S,
@@ -268,8 +268,8 @@ fn push_shown<S: TextSink, A: Allocator>(
     content: &[u8],
 ) -> Result<(), S::Error>
     requires { is_valid typ content.now ≡ true }
-    ensures ok { OnOk result (S.adds out.old (worded_text (words_for (style_of words.entry) tag typ content.now) typ content.now) out.new) }
-    ensures err { OnErr result (S.breaks out.old (worded_text (words_for (style_of words.entry) tag typ content.now) typ content.now) out.new) }
+    ensures ok { OnOk result (S.adds out.old (worded_text (words_for (style_of words.entry) tag typ content.now) (number_for (style_of words.entry) typ content.now) typ content.now) out.new) }
+    ensures err { OnErr result (S.breaks out.old (worded_text (words_for (style_of words.entry) tag typ content.now) (number_for (style_of words.entry) typ content.now) typ content.now) out.new) }
 {
     match words {
         Some(words) => push_worded(alloc, out, words, tag, typ, content),
@@ -464,8 +464,9 @@ pub fn push_json<S: TextSink, A: Allocator + Copy>(
 /// The same with the standard's names, as other implementations write JSON: the words of tags, of the values of enumerations and of the
 /// bits of masks, and the texts of dates. A Structure has no `type`.
 ///
-/// A tag or a value without words, or whose words would be read as another, is written as by [`push_json`], and so is any other value;
-/// a value that is hidden is `null`. Make the words once, by `standard_words`. It takes memory for the words of a mask, too.
+/// Integers that are no masks, Long Integers of 2^52 at most, and Intervals are numbers. A tag or a value without words, or whose words would
+/// be read as another, is written as by [`push_json`], and so is any other value; a value that is hidden is `null`. Make the words once,
+/// by `standard_words`. It takes memory for the words of a mask, too.
 pub fn push_named_json<'l, S: TextSink, A: Allocator + Copy>(
     alloc: A,
     out: &mut S,

@@ -1,16 +1,17 @@
-//! What items with names have in place of digits: the standard's words for tags and values.
+//! What values have in place of digits, in JSON with names: the standard's words, and numbers.
 
-ghost use Rattle.std.specs.Prelude.{◌≡◌, ◌++◌, true, codes, OnOk, OnErr};
+ghost use Rattle.std.specs.Prelude.{◌≡◌, ◌++◌, ◌^◌, true, None, codes, nat_le, unsigned_abs, OnOk, OnErr};
 ghost use Rattle.kmip_ttlv_types.specs.declared.typ.TtlvType.TheVariants.{Integer as AnInteger, Enumeration as AnEnumeration, DateTime as ADate};
 ghost use Rattle.kmip_ttlv_types.specs.Leaves.{is_valid};
 ghost use Rattle.kmip_words.specs.Words.{is_word};
 ghost use Rattle.kmip_ttlv_json.specs.Spellings.{spelled};
-ghost use Rattle.kmip_ttlv_json.specs.Jsons.{value_words};
+ghost use Rattle.kmip_ttlv_json.specs.Jsons.{exact_num, value_words, value_number};
 ghost use Rattle.kmip_ttlv_json.specs.Parts.{worded_text};
 
 use crate::masks::mask_text;
 use crate::plain::{eight_bytes, four_bytes, push_plain};
 use crate::quoted::push_quoted;
+use itoa::Buffer;
 use kmip_ttlv_types::{TtlvTag, TtlvType};
 use kmip_ttlv_util::TextSink;
 use kmip_words::{Words, date_text};
@@ -35,6 +36,50 @@ fn push_word<S: TextSink>(out: &mut S, word: &str) -> Result<(), S::Error>
     push_word_end(out, word)
 }
 
+// Whether JSON may have a number as one.
+fn is_exact(number: i64) -> bool
+    ensures { result ≡ nat_le (unsigned_abs number) (2 ^ 52) }
+{
+    number.unsigned_abs() <= 1 << 52
+}
+
+// Adds a number, or its digits where JSON may not have it as a number.
+fn push_exact<S: TextSink>(
+    out: &mut S,
+    number: i64,
+    typ: TtlvType,
+    content: &[u8],
+) -> Result<(), S::Error>
+    requires { is_valid typ content.now ≡ true }
+    ensures ok { OnOk result (S.adds out.old (worded_text None (exact_num number) typ content.now) out.new) }
+    ensures err { OnErr result (S.breaks out.old (worded_text None (exact_num number) typ content.now) out.new) }
+{
+    if is_exact(number) {
+        out.push_str(Buffer::new().format(number))
+    } else {
+        push_plain(out, typ, content)
+    }
+}
+
+// Adds a value without words: as a number, if it is one.
+fn push_wordless<S: TextSink>(out: &mut S, typ: TtlvType, content: &[u8]) -> Result<(), S::Error>
+    requires { is_valid typ content.now ≡ true }
+    ensures ok { OnOk result (S.adds out.old (worded_text None (value_number typ content.now) typ content.now) out.new) }
+    ensures err { OnErr result (S.breaks out.old (worded_text None (value_number typ content.now) typ content.now) out.new) }
+{
+    match typ {
+        TtlvType::Integer => push_exact(
+            out,
+            four_bytes(content).cast_signed() as i64,
+            typ,
+            content,
+        ),
+        TtlvType::LongInteger => push_exact(out, eight_bytes(content).cast_signed(), typ, content),
+        TtlvType::Interval => push_exact(out, four_bytes(content) as i64, typ, content),
+        _ => push_plain(out, typ, content),
+    }
+}
+
 // Adds an enumeration's value: its word, if it has one.
 fn push_enumeration<S: TextSink, A: Allocator>(
     out: &mut S,
@@ -43,8 +88,8 @@ fn push_enumeration<S: TextSink, A: Allocator>(
     content: &[u8],
 ) -> Result<(), S::Error>
     requires { is_valid AnEnumeration content.now ≡ true }
-    ensures ok { OnOk result (S.adds out.old (worded_text (value_words tag AnEnumeration content.now) AnEnumeration content.now) out.new) }
-    ensures err { OnErr result (S.breaks out.old (worded_text (value_words tag AnEnumeration content.now) AnEnumeration content.now) out.new) }
+    ensures ok { OnOk result (S.adds out.old (worded_text (value_words tag AnEnumeration content.now) None AnEnumeration content.now) out.new) }
+    ensures err { OnErr result (S.breaks out.old (worded_text (value_words tag AnEnumeration content.now) None AnEnumeration content.now) out.new) }
 {
     match words.value_word(tag, four_bytes(content)) {
         Some(word) => push_word(out, word),
@@ -52,7 +97,7 @@ fn push_enumeration<S: TextSink, A: Allocator>(
     }
 }
 
-// Adds an Integer: the words of its bits, if it is a mask.
+// Adds an Integer: the words of its bits, if it is a mask, or the number.
 fn push_integer<S: TextSink, A: Allocator>(
     alloc: A,
     out: &mut S,
@@ -61,20 +106,20 @@ fn push_integer<S: TextSink, A: Allocator>(
     content: &[u8],
 ) -> Result<(), S::Error>
     requires { is_valid AnInteger content.now ≡ true }
-    ensures ok { OnOk result (S.adds out.old (worded_text (value_words tag AnInteger content.now) AnInteger content.now) out.new) }
-    ensures err { OnErr result (S.breaks out.old (worded_text (value_words tag AnInteger content.now) AnInteger content.now) out.new) }
+    ensures ok { OnOk result (S.adds out.old (worded_text (value_words tag AnInteger content.now) (value_number AnInteger content.now) AnInteger content.now) out.new) }
+    ensures err { OnErr result (S.breaks out.old (worded_text (value_words tag AnInteger content.now) (value_number AnInteger content.now) AnInteger content.now) out.new) }
 {
     match mask_text(alloc, words, tag, four_bytes(content))? {
         Some(text) => push_quoted(out, text.as_bytes()),
-        None => push_plain(out, TtlvType::Integer, content),
+        None => push_wordless(out, TtlvType::Integer, content),
     }
 }
 
 // Adds a Date-Time: the text of its date, if it has one.
 fn push_date<S: TextSink>(out: &mut S, tag: TtlvTag, content: &[u8]) -> Result<(), S::Error>
     requires { is_valid ADate content.now ≡ true }
-    ensures ok { OnOk result (S.adds out.old (worded_text (value_words tag ADate content.now) ADate content.now) out.new) }
-    ensures err { OnErr result (S.breaks out.old (worded_text (value_words tag ADate content.now) ADate content.now) out.new) }
+    ensures ok { OnOk result (S.adds out.old (worded_text (value_words tag ADate content.now) None ADate content.now) out.new) }
+    ensures err { OnErr result (S.breaks out.old (worded_text (value_words tag ADate content.now) None ADate content.now) out.new) }
 {
     match date_text(eight_bytes(content)) {
         Some(text) => push_quoted(out, &text),
@@ -82,7 +127,7 @@ fn push_date<S: TextSink>(out: &mut S, tag: TtlvTag, content: &[u8]) -> Result<(
     }
 }
 
-/// Adds the value of a leaf: its words, if it has some.
+/// Adds the value of a leaf: by its words, or as a number, if it is one.
 pub fn push_worded<S: TextSink, A: Allocator>(
     alloc: A,
     out: &mut S,
@@ -92,13 +137,13 @@ pub fn push_worded<S: TextSink, A: Allocator>(
     content: &[u8],
 ) -> Result<(), S::Error>
     requires { is_valid typ content.now ≡ true }
-    ensures ok { OnOk result (S.adds out.old (worded_text (value_words tag typ content.now) typ content.now) out.new) }
-    ensures err { OnErr result (S.breaks out.old (worded_text (value_words tag typ content.now) typ content.now) out.new) }
+    ensures ok { OnOk result (S.adds out.old (worded_text (value_words tag typ content.now) (value_number typ content.now) typ content.now) out.new) }
+    ensures err { OnErr result (S.breaks out.old (worded_text (value_words tag typ content.now) (value_number typ content.now) typ content.now) out.new) }
 {
     match typ {
         TtlvType::Enumeration => push_enumeration(out, words, tag, content),
         TtlvType::Integer => push_integer(alloc, out, words, tag, content),
         TtlvType::DateTime => push_date(out, tag, content),
-        _ => push_plain(out, typ, content),
+        _ => push_wordless(out, typ, content),
     }
 }

@@ -51,7 +51,8 @@ returns-in_err-item-clause-err g c =
     let found = c.items.invariant.printed_lines.0 in
     let left = left_over w walk.bytes.now c.items.invariant.bytes plain c.requires.found c.requires.ended walk.offset (open_ends walk.ends) found
     c.items.invariant.printed_lines.1 in
-    err_json _ g.S.TextSink.breaks (begun_json (style_of c.args.words) (secrets_of c.args.hiding (has_line c.args.secrets.now)) (shown_of c.args.hiding) w plain found left)
+    err_json _ g.S.TextSink.breaks
+    (begun_json (style_of c.args.words) (secrets_of c.args.hiding (has_line c.args.secrets.now)) (shown_of c.args.hiding) w plain found left)
     (g.met.S.TextSink.breaks_first _ _ _ _ (g.met.S.TextSink.breaks_after _ _ _ c.items.invariant.printed_lines.3))
 
 -- the sink failed in an item, behind which others follow

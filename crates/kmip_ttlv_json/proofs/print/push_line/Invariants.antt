@@ -11,7 +11,8 @@ invariant-items g l = record {
   printed_lines : (found : List FoundItem)
       × Met l.walk found
       × (l.spot ≡ spot_behind (secrets_of l.hiding (has_line l.secrets)) first_spot (found_lines l.message found))
-      × g.S.TextSink.adds l.fn.out (parts (style_of l.words) (secrets_of l.hiding (has_line l.secrets)) (shown_of l.hiding) first_spot (found_lines l.message found)) l.out;
+      × g.S.TextSink.adds l.fn.out
+      (parts (style_of l.words) (secrets_of l.hiding (has_line l.secrets)) (shown_of l.hiding) first_spot (found_lines l.message found)) l.out;
 }
 
 abbrev pub decreases-items : goal.decreases-items
