@@ -75,8 +75,8 @@ NAMED = {
         '"Sign|Verify|Encrypt|Decrypt|WrapKey|UnwrapKey|Export|MACGenerate|MACVerify|DeriveKey|ContentCommitment|KeyAgreement|CertificateSign|CRLSign|'
         'GenerateCryptogram|ValidateCryptogram|TranslateEncrypt|TranslateDecrypt|TranslateWrap|TranslateUnwrap|Authenticate|Unrestricted|FPEEncrypt|FPEDecrypt"'
     ),
-    "mask_of_a_nameless_bit": "-2147483647",
-    "mask_of_no_bit": "0",
+    "mask_of_a_nameless_bit": '"0x80000001"',
+    "mask_of_no_bit": '"0x00000000"',
     "long_integer": "4503599627370496",
     "long_integer_low": "-4503599627370496",
     "long_integer_above": '"0x0010000000000001"',

@@ -22,7 +22,7 @@ use Rattle.kmip_ttlv_types.specs.Trees.{Tree, Trees, leaf, node, no_trees}
 use Rattle.kmip_ttlv_json.specs.declared.print.Shown.{Shown}
 use Rattle.kmip_ttlv_json.specs.declared.print.Style.{Style}
 use Rattle.kmip_ttlv_json.specs.declared.print.Style.TheVariants.{Digits, Names}
-use Rattle.kmip_ttlv_json.specs.Jsons.{type_word, is_hidden, words_for, num_of, exact_num, number_for, plain_json, worded_json, value_json, tag_text}
+use Rattle.kmip_ttlv_json.specs.Jsons.{type_word, is_hidden, words_for, num_of, exact_num, has_words, number_for, plain_json, worded_json, value_json, tag_text}
 use Rattle.kmip_ttlv_json.specs.Jsons.{item_json, within, tree_json, trees_json}
 use Rattle.json.specs.Json as json
 use Rattle.json.specs.Tree as tree
@@ -61,23 +61,28 @@ exact_back z typ content = by (nat_le (unsigned_abs z) (2 ^ 52)) (leb-true (unsi
     by true small = num_back z (small refl)
     by false small = plain_back typ content
 
-number_back : (style : Style) (typ : TtlvType) (content : List ℕ) → Back (worded_json None (number_for style typ content) typ content)
-number_back Digits typ content = plain_back typ content
-number_back Names Integer content = exact_back (cast_signed w32 (from_be_bytes w32 content)) Integer content
-number_back Names LongInteger content = exact_back (cast_signed w64 (from_be_bytes w64 content)) LongInteger content
-number_back Names Interval content = exact_back (pos (from_be_bytes w32 content)) Interval content
-number_back Names typ content = plain_back typ content
+number_back : (style : Style) (tag : ℕ) (typ : TtlvType) (content : List ℕ) → Back (worded_json None (number_for style tag typ content) typ content)
+number_back Digits tag typ content = plain_back typ content
+number_back Names tag Integer content = by (has_words tag)
+  where
+    by : (b : Bool) → Back (worded_json None (if b then None else exact_num (cast_signed w32 (from_be_bytes w32 content))) Integer content)
+    by true = plain_back Integer content
+    by false = exact_back (cast_signed w32 (from_be_bytes w32 content)) Integer content
+number_back Names tag LongInteger content = exact_back (cast_signed w64 (from_be_bytes w64 content)) LongInteger content
+number_back Names tag Interval content = exact_back (pos (from_be_bytes w32 content)) Interval content
+number_back Names tag typ content = plain_back typ content
 
-worded_back : (style : Style) (o : Option (List ℕ)) (typ : TtlvType) (content : List ℕ) → Back (worded_json o (number_for style typ content) typ content)
-worded_back style (Some words) typ content = record { numbers = tt; shallow = refl; same = refl; numerals = tt }
-worded_back style None typ content = number_back style typ content
+worded_back : (style : Style) (tag : ℕ) (o : Option (List ℕ)) (typ : TtlvType) (content : List ℕ)
+    → Back (worded_json o (number_for style tag typ content) typ content)
+worded_back style tag (Some words) typ content = record { numbers = tt; shallow = refl; same = refl; numerals = tt }
+worded_back style tag None typ content = number_back style tag typ content
 
 value_back : (style : Style) (shown : Shown) (tag : ℕ) (typ : TtlvType) (content : List ℕ) → Back (value_json style shown tag typ content)
 value_back style shown tag typ content = by (is_hidden shown typ)
   where
-    by : (b : Bool) → Back (if b then null else worded_json (words_for style tag typ content) (number_for style typ content) typ content)
+    by : (b : Bool) → Back (if b then null else worded_json (words_for style tag typ content) (number_for style tag typ content) typ content)
     by true = record { numbers = tt; shallow = refl; same = refl; numerals = tt }
-    by false = worded_back style (words_for style tag typ content) typ content
+    by false = worded_back style tag (words_for style tag typ content) typ content
 
 -- the members stand in the order of their keys
 put_all : (a b v : Data) → put (codes "value") v (put (codes "type") b (put (codes "tag") a no_members)) ≡ member (codes "tag") a

@@ -1,5 +1,5 @@
 -- A message is read back from its line.
-use Rattle.std.proofs.Common.{◌≡◌, ◌∙◌, inl, inr, ◌⊎◌, ℕ, suc, ◌+◌, ◌-◌, ◌%◌, ℤ, pos, negsuc, ◌<◌, ◌≤◌, ◌^◌, ◌==◌, Bool, true, false, List, ◌∷◌, length}
+use Rattle.std.proofs.Common.{◌≡◌, ◌∙◌, inl, inr, ◌⊎◌, ℕ, suc, ◌+◌, ◌-◌, ◌%◌, ℤ, pos, ◌<◌, ◌≤◌, ◌^◌, ◌==◌, Bool, true, false, List, ◌∷◌, length}
 use Rattle.std.proofs.Common.{if◌then◌else◌, Option, Some, None, option_map}
 use Rattle.std.proofs.Common.{option_and_then, Ok, refl, ap, sym, arith, length-append}
 use Rattle.std.specs.{Prelude.nat_lt, Prelude.nat_le, Prelude.unsigned_abs, Prelude.codes, Prelude.unwrap_or, Option.ok_or, Result.result_ok}
@@ -24,7 +24,7 @@ use Rattle.kmip_ttlv_json.specs.declared.print.Style.TheVariants.{Digits, Names}
 use Rattle.kmip_ttlv_json.specs.declared.print.Shown.TheVariants.{All}
 use Rattle.kmip_ttlv_json.specs.declared.seen.Whole.{Whole}
 use Rattle.kmip_ttlv_json.specs.Masks.{mask_text}
-use Rattle.kmip_ttlv_json.specs.Jsons.{type_word, hex_text, is_true, num_of, exact_num, value_number, plain_json, worded_json, value_json, tag_text}
+use Rattle.kmip_ttlv_json.specs.Jsons.{type_word, hex_text, is_true, num_of, exact_num, has_words, value_number, plain_json, worded_json, value_json, tag_text}
 use Rattle.kmip_ttlv_json.specs.Jsons.{item_json, tree_json, trees_json}
 use Rattle.kmip_ttlv_json.specs.JsonTrees.{whole_num, integer_of, long_of, interval_of}
 use Rattle.kmip_ttlv_json.specs.JsonTrees.{tag_or_word, digits_or_word, boolean_bytes, tag_in, type_in, content_in, valid_in, leaf_in, node_of, typed_in}
@@ -161,18 +161,23 @@ eight_small : (content : List ℕ) → ArePlain content → from_be_bytes w64 co
 eight_small content plain = omega (arith, plain 0, plain 1, plain 2, plain 3, plain 4, plain 5, plain 6, plain 7)
 
 integer_returns : (tag : ℕ) (content : List ℕ) → length content ≡ 4 → ArePlain content → (o : Option (List ℕ))
-    → mask_text tag (from_be_bytes w32 content) ≡ o → content_in tag Integer (worded_json o (value_number Integer content) Integer content) ≡ Some content
-integer_returns tag content four plain None e =
-    let m = from_be_bytes w32 content in
-    exact_returns tag Integer content (cast_signed w32 m)
-    (λ exact. mapped (to_be_bytes w32) (λ w. integer_of w.minus w.size) (whole_num (num_of (cast_signed w32 m)))
-    ∙ four_return content four plain _ (integer_back m (four_small content plain))) (ap result_ok (decode_of-encode_upper content plain))
+    → mask_text tag (from_be_bytes w32 content) ≡ o → content_in tag Integer (worded_json o (value_number tag Integer content) Integer content) ≡ Some content
+integer_returns tag content four plain None e = by (has_words tag)
+  where
+    by : (b : Bool)
+        → content_in tag Integer (worded_json None (if b then None else exact_num (cast_signed w32 (from_be_bytes w32 content))) Integer content) ≡ Some content
+    by true = ap result_ok (decode_of-encode_upper content plain)
+    by false =
+        let m = from_be_bytes w32 content in
+        exact_returns tag Integer content (cast_signed w32 m)
+        (λ exact. mapped (to_be_bytes w32) (λ w. integer_of w.minus w.size) (whole_num (num_of (cast_signed w32 m)))
+        ∙ four_return content four plain _ (integer_back m (four_small content plain))) (ap result_ok (decode_of-encode_upper content plain))
 integer_returns tag content four plain (Some w) e =
     let r = mask_reads tag (from_be_bytes w32 content) w e in
     ap (digits_or_word tag Integer w) r.1 ∙ four_return content four plain (mask_of tag 124 w) r.0
 
 long_returns : (tag : ℕ) (content : List ℕ) → length content ≡ 8 → ArePlain content
-    → content_in tag LongInteger (worded_json None (value_number LongInteger content) LongInteger content) ≡ Some content
+    → content_in tag LongInteger (worded_json None (value_number tag LongInteger content) LongInteger content) ≡ Some content
 long_returns tag content eight plain =
     let m = from_be_bytes w64 content in
     exact_returns tag LongInteger content (cast_signed w64 m)
@@ -180,7 +185,7 @@ long_returns tag content eight plain =
     ∙ eight_return content eight plain _ (long_back m (eight_small content plain) exact)) (ap result_ok (decode_of-encode_upper content plain))
 
 interval_returns : (tag : ℕ) (content : List ℕ) → length content ≡ 4 → ArePlain content
-    → content_in tag Interval (worded_json None (value_number Interval content) Interval content) ≡ Some content
+    → content_in tag Interval (worded_json None (value_number tag Interval content) Interval content) ≡ Some content
 interval_returns tag content four plain =
     let m = from_be_bytes w32 content in
     exact_returns tag Interval content (pos m) (λ exact. mapped (to_be_bytes w32) (λ w. interval_of w.minus w.size) (whole_num (num_of (pos m)))

@@ -130,10 +130,10 @@ text_is : (style : Style) (shown : Shown) (tag : ℕ) (typ : TtlvType) (content 
     → value_text style shown tag typ content ≡ data_text (value_json style shown tag typ content)
 text_is style shown tag typ content plain = by (is_hidden shown typ)
   where
-    by : (b : Bool) → (if b then codes "null" else worded_text (words_for style tag typ content) (number_for style typ content) typ content)
-        ≡ data_text (if b then Data.null else worded_json (words_for style tag typ content) (number_for style typ content) typ content)
+    by : (b : Bool) → (if b then codes "null" else worded_text (words_for style tag typ content) (number_for style tag typ content) typ content)
+        ≡ data_text (if b then Data.null else worded_json (words_for style tag typ content) (number_for style tag typ content) typ content)
     by true = refl
-    by false = worded_is (words_for style tag typ content) (number_for style typ content) typ content plain
+    by false = worded_is (words_for style tag typ content) (number_for style tag typ content) typ content plain
 
 value_is : (style : Style) (shown : Shown) (tag : ℕ) (typ : TtlvType) (content : List ℕ) → typ ≢ Structure → ArePlain content
     → value_part style shown tag typ content ≡ data_text (value_json style shown tag typ content) ++ 125 ∷ []

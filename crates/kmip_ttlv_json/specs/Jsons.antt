@@ -1,6 +1,6 @@
 -- A message as JSON (OASIS "KMIP Additional Message Encodings", JSON), in two styles: by digits, or with the standard's words.
 use Rattle.std.specs.Prelude.{ℕ, Bool, true, false, List, [], ◌∷◌, ◌++◌, nat_lt, nat_le, ◌^◌, ℤ, pos, negsuc, unsigned_abs, codes, Option, Some, None}
-use Rattle.std.specs.Prelude.{unwrap_or, if◌then◌else◌}
+use Rattle.std.specs.Prelude.{is_some, unwrap_or, if◌then◌else◌}
 use Rattle.std.specs.Int.{w32, w64, from_be_bytes, bytes_high_first, cast_signed}
 use Rattle.hex.specs.Hex.{encode_upper}
 use Rattle.serde_json.specs.Data.{Num, unsigned, negative, Data, null, boolean, number, string, array, object, Items, no_items, item, Members, no_members}
@@ -65,16 +65,20 @@ num_of (negsuc n) = negative (negsuc n)
 abbrev pub exact_num : ℤ → Option Num
 exact_num z = if nat_le (unsigned_abs z) (2 ^ 52) then Some (num_of z) else None
 
--- the number of a value, if it is one
-abbrev pub value_number : TtlvType → List ℕ → Option Num
-value_number Integer content = exact_num (cast_signed w32 (from_be_bytes w32 content))
-value_number LongInteger content = exact_num (cast_signed w64 (from_be_bytes w64 content))
-value_number Interval content = exact_num (pos (from_be_bytes w32 content))
-value_number typ content = None
+-- a tag's numbers have words, as the bits of a mask have
+abbrev pub has_words : ℕ → Bool
+has_words tag = is_some (word_of tag 1)
 
-abbrev pub number_for : Style → TtlvType → List ℕ → Option Num
-number_for Digits typ content = None
-number_for Names typ content = value_number typ content
+-- the number of a value, if it is one; an Integer that is a mask is none
+abbrev pub value_number : ℕ → TtlvType → List ℕ → Option Num
+value_number tag Integer content = if has_words tag then None else exact_num (cast_signed w32 (from_be_bytes w32 content))
+value_number tag LongInteger content = exact_num (cast_signed w64 (from_be_bytes w64 content))
+value_number tag Interval content = exact_num (pos (from_be_bytes w32 content))
+value_number tag typ content = None
+
+abbrev pub number_for : Style → ℕ → TtlvType → List ℕ → Option Num
+number_for Digits tag typ content = None
+number_for Names tag typ content = value_number tag typ content
 
 -- ---- items
 
@@ -101,7 +105,7 @@ is_hidden Nothing typ = true
 -- the value of a leaf; null for one that is hidden
 abbrev pub value_json : Style → Shown → ℕ → TtlvType → List ℕ → Data
 value_json style shown tag typ content =
-    if is_hidden shown typ then null else worded_json (words_for style tag typ content) (number_for style typ content) typ content
+    if is_hidden shown typ then null else worded_json (words_for style tag typ content) (number_for style tag typ content) typ content
 
 -- a tag: its word, if it has one, or its digits
 abbrev pub tag_text : Style → ℕ → List ℕ

@@ -75,7 +75,7 @@ worded_text None None typ content = plain_text typ content
 -- the text of a leaf's value
 abbrev pub value_text : Style → Shown → ℕ → TtlvType → List ℕ → List ℕ
 value_text style shown tag typ content =
-    if is_hidden shown typ then codes "null" else worded_text (words_for style tag typ content) (number_for style typ content) typ content
+    if is_hidden shown typ then codes "null" else worded_text (words_for style tag typ content) (number_for style tag typ content) typ content
 
 -- the rest of an item: of a structure no more than where the items in it begin
 abbrev pub value_part : Style → Shown → ℕ → TtlvType → List ℕ → List ℕ

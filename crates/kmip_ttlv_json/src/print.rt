@@ -268,8 +268,8 @@ fn push_shown<S: TextSink, A: Allocator>(
     content: &[u8],
 ) -> Result<(), S::Error>
     requires { is_valid typ content.now ≡ true }
-    ensures ok { OnOk result (S.adds out.old (worded_text (words_for (style_of words.entry) tag typ content.now) (number_for (style_of words.entry) typ content.now) typ content.now) out.new) }
-    ensures err { OnErr result (S.breaks out.old (worded_text (words_for (style_of words.entry) tag typ content.now) (number_for (style_of words.entry) typ content.now) typ content.now) out.new) }
+    ensures ok { OnOk result (S.adds out.old (worded_text (words_for (style_of words.entry) tag typ content.now) (number_for (style_of words.entry) tag typ content.now) typ content.now) out.new) }
+    ensures err { OnErr result (S.breaks out.old (worded_text (words_for (style_of words.entry) tag typ content.now) (number_for (style_of words.entry) tag typ content.now) typ content.now) out.new) }
 {
     match words {
         Some(words) => push_worded(alloc, out, words, tag, typ, content),
@@ -464,7 +464,7 @@ pub fn push_json<S: TextSink, A: Allocator + Copy>(
 /// The same with the standard's names, as other implementations write JSON: the words of tags, of the values of enumerations and of the
 /// bits of masks, and the texts of dates. A Structure has no `type`.
 ///
-/// Integers that are no masks, Long Integers of 2^52 at most, and Intervals are numbers. A tag or a value without words, or whose words would
+/// Integers whose tags are no mask's, Long Integers of 2^52 at most, and Intervals are numbers. A tag or a value without words, or whose words would
 /// be read as another, is written as by [`push_json`], and so is any other value; a value that is hidden is `null`. Make the words once,
 /// by `standard_words`. It takes memory for the words of a mask, too.
 pub fn push_named_json<'l, S: TextSink, A: Allocator + Copy>(

@@ -5,7 +5,7 @@ ghost use Rattle.kmip_ttlv_types.specs.declared.typ.TtlvType.TheVariants.{Intege
 ghost use Rattle.kmip_ttlv_types.specs.Leaves.{is_valid};
 ghost use Rattle.kmip_words.specs.Words.{is_word};
 ghost use Rattle.kmip_ttlv_json.specs.Spellings.{spelled};
-ghost use Rattle.kmip_ttlv_json.specs.Jsons.{exact_num, value_words, value_number};
+ghost use Rattle.kmip_ttlv_json.specs.Jsons.{exact_num, has_words, value_words, value_number};
 ghost use Rattle.kmip_ttlv_json.specs.Parts.{worded_text};
 
 use crate::masks::mask_text;
@@ -61,23 +61,29 @@ fn push_exact<S: TextSink>(
     }
 }
 
-// Adds a value without words: as a number, if it is one.
-fn push_wordless<S: TextSink>(out: &mut S, typ: TtlvType, content: &[u8]) -> Result<(), S::Error>
-    requires { is_valid typ content.now ≡ true }
-    ensures ok { OnOk result (S.adds out.old (worded_text None (value_number typ content.now) typ content.now) out.new) }
-    ensures err { OnErr result (S.breaks out.old (worded_text None (value_number typ content.now) typ content.now) out.new) }
+// Whether the numbers of a tag have words, as the bits of a mask have.
+fn has_words<A: Allocator>(words: &Words<A>, tag: TtlvTag) -> bool
+    ensures { result ≡ has_words tag }
 {
-    match typ {
-        TtlvType::Integer => push_exact(
-            out,
-            four_bytes(content).cast_signed() as i64,
-            typ,
-            content,
-        ),
-        TtlvType::LongInteger => push_exact(out, eight_bytes(content).cast_signed(), typ, content),
-        TtlvType::Interval => push_exact(out, four_bytes(content) as i64, typ, content),
-        _ => push_plain(out, typ, content),
+    words.value_word(tag, 1).is_some()
+}
+
+// Adds an Integer without words: the number, or its digits if it is a mask.
+fn push_wordless<S: TextSink, A: Allocator>(
+    out: &mut S,
+    words: &Words<A>,
+    tag: TtlvTag,
+    content: &[u8],
+) -> Result<(), S::Error>
+    requires { is_valid AnInteger content.now ≡ true }
+    ensures ok { OnOk result (S.adds out.old (worded_text None (value_number tag AnInteger content.now) AnInteger content.now) out.new) }
+    ensures err { OnErr result (S.breaks out.old (worded_text None (value_number tag AnInteger content.now) AnInteger content.now) out.new) }
+{
+    if has_words(words, tag) {
+        return push_plain(out, TtlvType::Integer, content);
     }
+    let number = four_bytes(content).cast_signed() as i64;
+    push_exact(out, number, TtlvType::Integer, content)
 }
 
 // Adds an enumeration's value: its word, if it has one.
@@ -97,7 +103,7 @@ fn push_enumeration<S: TextSink, A: Allocator>(
     }
 }
 
-// Adds an Integer: the words of its bits, if it is a mask, or the number.
+// Adds an Integer: the words of its bits, if each has one, or what it is without words.
 fn push_integer<S: TextSink, A: Allocator>(
     alloc: A,
     out: &mut S,
@@ -106,12 +112,12 @@ fn push_integer<S: TextSink, A: Allocator>(
     content: &[u8],
 ) -> Result<(), S::Error>
     requires { is_valid AnInteger content.now ≡ true }
-    ensures ok { OnOk result (S.adds out.old (worded_text (value_words tag AnInteger content.now) (value_number AnInteger content.now) AnInteger content.now) out.new) }
-    ensures err { OnErr result (S.breaks out.old (worded_text (value_words tag AnInteger content.now) (value_number AnInteger content.now) AnInteger content.now) out.new) }
+    ensures ok { OnOk result (S.adds out.old (worded_text (value_words tag AnInteger content.now) (value_number tag AnInteger content.now) AnInteger content.now) out.new) }
+    ensures err { OnErr result (S.breaks out.old (worded_text (value_words tag AnInteger content.now) (value_number tag AnInteger content.now) AnInteger content.now) out.new) }
 {
     match mask_text(alloc, words, tag, four_bytes(content))? {
         Some(text) => push_quoted(out, text.as_bytes()),
-        None => push_wordless(out, TtlvType::Integer, content),
+        None => push_wordless(out, words, tag, content),
     }
 }
 
@@ -137,13 +143,15 @@ pub fn push_worded<S: TextSink, A: Allocator>(
     content: &[u8],
 ) -> Result<(), S::Error>
     requires { is_valid typ content.now ≡ true }
-    ensures ok { OnOk result (S.adds out.old (worded_text (value_words tag typ content.now) (value_number typ content.now) typ content.now) out.new) }
-    ensures err { OnErr result (S.breaks out.old (worded_text (value_words tag typ content.now) (value_number typ content.now) typ content.now) out.new) }
+    ensures ok { OnOk result (S.adds out.old (worded_text (value_words tag typ content.now) (value_number tag typ content.now) typ content.now) out.new) }
+    ensures err { OnErr result (S.breaks out.old (worded_text (value_words tag typ content.now) (value_number tag typ content.now) typ content.now) out.new) }
 {
     match typ {
         TtlvType::Enumeration => push_enumeration(out, words, tag, content),
         TtlvType::Integer => push_integer(alloc, out, words, tag, content),
         TtlvType::DateTime => push_date(out, tag, content),
-        _ => push_wordless(out, typ, content),
+        TtlvType::LongInteger => push_exact(out, eight_bytes(content).cast_signed(), typ, content),
+        TtlvType::Interval => push_exact(out, four_bytes(content) as i64, typ, content),
+        _ => push_plain(out, typ, content),
     }
 }
