@@ -5,7 +5,7 @@ use crate::messages::bytes_in;
 use crate::tally::Tally;
 use kmip_ttlv_json::{Hiding, push_named_json};
 use kmip_ttlv_util::{LentTagMap, PrettyPrinter};
-use kmip_words::standard_words;
+use kmip_words::{Words, standard_words};
 use serde_json::Value;
 use std::alloc::{AllocError, Global};
 use std::collections::HashMap;
@@ -23,24 +23,29 @@ pub fn try_diagnostic(tally: &mut Tally<'_>, test: &Value) -> io::Result<()> {
 }
 
 // The JSON with names of one whole message, without the end of its line.
-fn named_json_of(alloc: Global, hiding: Hiding, bytes: &[u8]) -> Result<String, AllocError> {
-    let words = standard_words(alloc)?;
+fn named_json_of(
+    alloc: Global,
+    words: &Words,
+    hiding: Hiding,
+    bytes: &[u8],
+) -> Result<String, AllocError> {
     let secrets: LentTagMap<'_, Global> = HashMap::new(alloc);
     let mut json = String::new(alloc);
-    push_named_json(alloc, &mut json, &words, hiding, &secrets, bytes)?;
+    push_named_json(alloc, &mut json, words, hiding, &secrets, bytes)?;
     String::from_str(alloc, json.as_str().strip_suffix('\n').unwrap_or("no line"))
 }
 
 // Tries the JSON with names of a test's message, and that with hidden values; the first is read back as the same bytes.
 fn try_named_json(tally: &mut Tally<'_>, test: &Value, bytes: &[u8]) -> io::Result<()> {
     let alloc = tally.alloc();
+    let words = standard_words(alloc)?;
     let name = text(test, "name");
-    let named = named_json_of(alloc, Hiding::Nothing, bytes)?;
+    let named = named_json_of(alloc, &words, Hiding::Nothing, bytes)?;
     tally.compare_if(name, "named JSON", named.as_str(), text_if(test, "named"))?;
     let again = bytes_in(alloc, named.as_str())?;
     let wanted = text_if(test, "bytes");
     tally.compare_if(name, "bytes of named JSON", again.as_str(), wanted)?;
-    let hidden = named_json_of(alloc, Hiding::Values, bytes)?;
+    let hidden = named_json_of(alloc, &words, Hiding::Values, bytes)?;
     let wanted = text_if(test, "hidden_named");
     tally.compare_if(name, "hidden named JSON", hidden.as_str(), wanted)
 }
@@ -53,8 +58,11 @@ pub fn try_json(tally: &mut Tally<'_>, test: &Value) -> io::Result<()> {
     let name = text(test, "name");
     tally.compare_if(name, "bytes", found.as_str(), text_if(test, "bytes"))?;
     tally.compare_if(name, "error", found.as_str(), text_if(test, "error"))?;
-    match (text_if(test, "named"), hex::decode(alloc, found.as_str())) {
-        (Some(_), Ok(bytes)) => try_named_json(tally, test, bytes.as_slice()),
-        _ => Ok(()),
+    if text_if(test, "named").is_none() {
+        return Ok(());
     }
+    let Ok(bytes) = hex::decode(alloc, found.as_str()) else {
+        return tally.compare(name, "bytes", "no digits", "digits");
+    };
+    try_named_json(tally, test, bytes.as_slice())
 }
