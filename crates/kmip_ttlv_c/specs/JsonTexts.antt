@@ -5,6 +5,7 @@ use Rattle.kmip_ttlv_types.specs.Trees.{Tree, IsTreeText, IsStructure}
 use Rattle.kmip_ttlv_items.specs.declared.found.Fault.{Fault}
 use Rattle.kmip_ttlv_items.specs.ItemWalks.{Judges}
 use Rattle.kmip_ttlv_names.specs.SecretTags.{is_secret}
+use Rattle.kmip_ttlv_json.specs.declared.print.Style.TheVariants.{Digits}
 use Rattle.kmip_ttlv_json.specs.declared.print.Hiding.{Hiding}
 use Rattle.kmip_ttlv_json.specs.declared.print.Hiding.TheVariants.{Nothing, Secrets, Values}
 use Rattle.kmip_ttlv_json.specs.declared.failure.BadMember.{BadMember}
@@ -30,7 +31,7 @@ hiding_of n =
 
 -- the JSON of a message, whose secret values are those of the standard's secret tags
 abbrev pub message_json : Hiding → Tree → List ℕ
-message_json hiding message = data_text (tree_json (secrets_of hiding is_secret) (shown_of hiding) message)
+message_json hiding message = data_text (tree_json Digits (secrets_of hiding is_secret) (shown_of hiding) message)
 
 -- bytes are one whole well-formed message, and this is the line of its JSON
 pub record ShowsJson (hiding : Hiding) (bytes line : List ℕ) : Type 0 where

@@ -10,6 +10,7 @@ use Rattle.ttlv_run.specs.declared.run_error.RunError.{RunError}
 use Rattle.ttlv_run.specs.Reasons.{IsOfError, PrintsFront}
 use Rattle.ttlv_run.specs.declared.job.{Task.Task, Task.TheVariants.Show, Task.TheVariants.Json, Look.Look}
 use Rattle.kmip_ttlv_json.specs.declared.print.Hiding.{Hiding}
+use Rattle.kmip_ttlv_json.specs.declared.print.Style.TheVariants.{Digits}
 use Rattle.kmip_ttlv_json.specs.Printings.{secrets_of, shown_of, IsJson}
 use Rattle.ttlv_run.specs.Texts.{Names, no_reach, reach_all, lines_from, message_text, IsMessageText}
 use Rattle.ttlv_run.proofs.Completion.{lines-append}
@@ -30,7 +31,7 @@ IsAlways names task at bytes t = (found : List FoundItem) (fault : Option Fault)
 
 -- what is printed of it as JSON
 pub json_lines_of : (names : Names) (at : ℕ) (bytes : List ℕ) (hiding : Hiding) (task : Task) → task ≡ Json hiding → (t : List ℕ) (fault : Option Fault)
-    → IsJson (secrets_of hiding names.secrets) (shown_of hiding) bytes t fault → IsMessageText names task at bytes t fault
+    → IsJson Digits (secrets_of hiding names.secrets) (shown_of hiding) bytes t fault → IsMessageText names task at bytes t fault
 json_lines_of names at bytes hiding task is t fault h = record {
   found = h.found;
   ended = h.ended;

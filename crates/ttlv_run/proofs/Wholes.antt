@@ -2,6 +2,7 @@
 use Rattle.std.proofs.Common.{◌≡◌, ℕ, List, Option, Some, None}
 use Rattle.kmip_ttlv_items.specs.declared.found.Fault.{Fault}
 use Rattle.kmip_ttlv_items.specs.ItemWalks.{Judges}
+use Rattle.kmip_ttlv_json.specs.declared.print.Style.TheVariants.{Digits}
 use Rattle.kmip_ttlv_json.specs.Printings.{secrets_of, shown_of, IsJson}
 use Rattle.kmip_ttlv_json.specs.declared.print.Hiding.{Hiding}
 use Rattle.ttlv_run.specs.declared.job.{Task.TheVariants.Show, Strict.Strict, Look.Look}
@@ -17,7 +18,7 @@ whole_lines names at m look strict is judged t (Some f) h = absurd (h.ended.1 ju
 
 -- its JSON
 pub whole_json : (names : Names) (at : ℕ) (m : List ℕ) (hiding : Hiding) (strict : Strict) → strict ≡ JsonWhole hiding → Judges m None
-    → (t : List ℕ) (fault : Option Fault) → IsJson (secrets_of hiding names.secrets) (shown_of hiding) m t fault
+    → (t : List ℕ) (fault : Option Fault) → IsJson Digits (secrets_of hiding names.secrets) (shown_of hiding) m t fault
     → IsMessageText names (OfWhole strict) at m t fault
 whole_json names at m hiding strict is judged t None h = rw is (record { found = h.found; ended = h.ended; is = h.is })
 whole_json names at m hiding strict is judged t (Some f) h = absurd (h.ended.1 judged.found judged.ended)

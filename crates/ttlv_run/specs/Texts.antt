@@ -20,6 +20,7 @@ use Rattle.kmip_ttlv_names.specs.NameTables.{lines_of, tag_in}
 use Rattle.kmip_ttlv_items.specs.declared.found.FoundItem.{FoundItem}
 use Rattle.kmip_ttlv_items.specs.declared.found.Fault.{Fault}
 use Rattle.kmip_ttlv_items.specs.ItemWalks.{Ended, content_at}
+use Rattle.kmip_ttlv_json.specs.declared.print.Style.TheVariants.{Digits}
 use Rattle.kmip_ttlv_json.specs.Printings.{secrets_of, shown_of, has_line, json_text}
 use Rattle.ttlv_run.specs.declared.job.Strict.{Strict}
 use Rattle.ttlv_run.specs.declared.job.Strict.TheVariants.{Show as ShowWhole, Diagnose as DiagnoseWhole, Json as JsonWhole}
@@ -236,7 +237,7 @@ whole_text names (ShowWhole look) at bytes found lists = lines_from names look a
 whole_text names (DiagnoseWhole closed prefix) at bytes found lists =
     hostile prefix.now closed (length bytes) (trace closed bytes) ++ 10 ∷ []
 whole_text names (JsonWhole hiding) at bytes found lists =
-    json_text (secrets_of hiding names.secrets) (shown_of hiding) bytes found None lists
+    json_text Digits (secrets_of hiding names.secrets) (shown_of hiding) bytes found None lists
 
 -- what a task prints of a message that begins at an offset, in which these items were met by its end, or by the first
 -- fault
@@ -248,7 +249,7 @@ message_text names (Diagnose closed prefix) at bytes found fault ended =
     hostile prefix.now closed (length bytes) (trace closed bytes) ++ 10 ∷ []
 message_text names Hexadecimal at bytes found fault ended = encode_upper bytes ++ 10 ∷ []
 message_text names (Json hiding) at bytes found fault ended =
-    json_text (secrets_of hiding names.secrets) (shown_of hiding) bytes found fault ended
+    json_text Digits (secrets_of hiding names.secrets) (shown_of hiding) bytes found fault ended
 message_text names (Whole strict) at bytes found None lists = whole_text names strict at bytes found lists
 message_text names (Whole strict) at bytes found (Some fault) ended = []
 message_text names (Check kmip empty) at bytes found fault ended = []
