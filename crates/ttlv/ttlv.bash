@@ -22,7 +22,7 @@ _ttlv() {
     undiag) options='--prefix --names --help' ;;
     check) options='--kmip --allow-empty --input --port --help' ;;
     hex) options='--input --port --help' ;;
-    json) options='--redact --redact=all --redact=keys --secrets --strict --input --port --help' ;;
+    json) options='--names --redact --redact=all --redact=keys --secrets --strict --input --port --help' ;;
     from-json) options='--raw --help' ;;
     esac
     if [ -z "$command" ] || [[ $word == -* ]]; then

@@ -27,4 +27,5 @@ complete -c ttlv -n '__fish_seen_subcommand_from diag' -l closed -d 'Closes empt
 complete -c ttlv -n '__fish_seen_subcommand_from diag' -l unclosed -d 'Leaves empty structures open, as the crate kmip-ttlv does'
 complete -c ttlv -n '__fish_seen_subcommand_from check' -l kmip -d 'Wants each message to be a Request Message or a Response Message'
 complete -c ttlv -n '__fish_seen_subcommand_from check' -l allow-empty -d 'Takes an input without a message, too'
+complete -c ttlv -n '__fish_seen_subcommand_from json' -l names -d 'Prints the standard\'s names of tags, enumeration values and mask bits, dates as text, and numbers as such'
 complete -c ttlv -n '__fish_seen_subcommand_from from-json' -l raw -d 'Prints raw messages in place of hexadecimal digits'

@@ -39,6 +39,7 @@ const GROWN: [(Task<'static>, &str); 6] = [
     (
         Task::Json {
             hiding: Hiding::Nothing,
+            named: false,
         },
         VERSION_JSON,
     ),

@@ -201,6 +201,7 @@ fn outcome_of(
         masks,
         own: own.values,
         secrets,
+        words: None,
     };
     let mut output = Vec::new(alloc);
     let mut errors = Vec::new(alloc);
@@ -265,6 +266,7 @@ fn stops_at_three(alloc: Global, asked: Asked<'_>) -> Result<bool, TableError> {
         masks,
         own: own.values,
         secrets,
+        words: None,
     };
     let files = ["none", "two", "cut"];
     let mut errors = Vec::new(alloc);
@@ -306,6 +308,7 @@ fn goes_on_behind_no_memory(alloc: Global) -> Result<bool, TableError> {
         masks,
         own: own.values,
         secrets,
+        words: None,
     };
     let memory = Memory {
         input: alloc,

@@ -24,17 +24,28 @@ const TYPES_HIDDEN: &str =
 const KEY_BLOCK_HIDDEN: &str =
     "{\"tag\":\"0x420040\",\"type\":\"Structure\",\"value\":[{\"tag\":\"0x420042\",\"type\":\"Enumeration\",\"value\":\"0x00000001\"},{\"tag\":\"0x420045\",\"type\":\"Structure\",\"value\":[{\"tag\":\"0x420043\",\"type\":\"Structure\",\"value\":[{\"tag\":\"0x42003F\",\"type\":\"ByteString\",\"value\":null},{\"tag\":\"0x420075\",\"type\":\"Enumeration\",\"value\":null}]},{\"tag\":\"0x420009\",\"type\":\"Integer\",\"value\":null}]},{\"tag\":\"0x420025\",\"type\":\"Structure\",\"value\":[{\"tag\":\"0x420099\",\"type\":\"TextString\",\"value\":null},{\"tag\":\"0x4200A1\",\"type\":\"TextString\",\"value\":null}]},{\"tag\":\"0x420094\",\"type\":\"TextString\",\"value\":\"id\"}]}\n";
 
-// What is hidden, an input, its JSON, and what is printed on standard error.
-type Row = (Hiding, &'static str, &'static str, &'static str);
+/// The line of JSON with names that [`VERSION`] is printed as.
+const VERSION_NAMED: &str =
+    "{\"tag\":\"ProtocolVersion\",\"value\":[{\"tag\":\"ProtocolVersionMajor\",\"type\":\"Integer\",\"value\":1},{\"tag\":\"ProtocolVersionMinor\",\"type\":\"Integer\",\"value\":0}]}\n";
 
-const ROWS: [Row; 7] = [
-    (Hiding::Nothing, VERSION, VERSION_JSON, ""),
-    (Hiding::Values, TYPES, TYPES_HIDDEN, ""),
-    (Hiding::Secrets, TYPES, TYPES_JSON, ""),
-    (Hiding::Secrets, KEY_BLOCK, KEY_BLOCK_HIDDEN, ""),
+// The key block with names, and without what is secret in it.
+const KEY_BLOCK_NAMED: &str =
+    "{\"tag\":\"KeyBlock\",\"value\":[{\"tag\":\"KeyFormatType\",\"type\":\"Enumeration\",\"value\":\"Raw\"},{\"tag\":\"KeyValue\",\"value\":[{\"tag\":\"KeyMaterial\",\"value\":[{\"tag\":\"Key\",\"type\":\"ByteString\",\"value\":null},{\"tag\":\"RecommendedCurve\",\"type\":\"Enumeration\",\"value\":null}]},{\"tag\":\"AttributeIndex\",\"type\":\"Integer\",\"value\":null}]},{\"tag\":\"CredentialValue\",\"value\":[{\"tag\":\"Username\",\"type\":\"TextString\",\"value\":null},{\"tag\":\"Password\",\"type\":\"TextString\",\"value\":null}]},{\"tag\":\"UniqueIdentifier\",\"type\":\"TextString\",\"value\":\"id\"}]}\n";
+
+// What is hidden, whether names are printed, an input, its JSON, and what is printed on standard error.
+type Row = (Hiding, bool, &'static str, &'static str, &'static str);
+
+const ROWS: [Row; 9] = [
+    (Hiding::Nothing, false, VERSION, VERSION_JSON, ""),
+    (Hiding::Nothing, true, VERSION, VERSION_NAMED, ""),
+    (Hiding::Secrets, true, KEY_BLOCK, KEY_BLOCK_NAMED, ""),
+    (Hiding::Values, false, TYPES, TYPES_HIDDEN, ""),
+    (Hiding::Secrets, false, TYPES, TYPES_JSON, ""),
+    (Hiding::Secrets, false, KEY_BLOCK, KEY_BLOCK_HIDDEN, ""),
     // Two messages, a line each.
     (
         Hiding::Nothing,
+        false,
         "420069010000000042006A0100000000",
         "{\"tag\":\"0x420069\",\"type\":\"Structure\",\"value\":[]}\n{\"tag\":\"0x42006A\",\"type\":\"Structure\",\"value\":[]}\n",
         "",
@@ -42,6 +53,7 @@ const ROWS: [Row; 7] = [
     // A message that is cut, behind a whole one: it has no line.
     (
         Hiding::Nothing,
+        false,
         "42006901000000004200690100000010",
         "{\"tag\":\"0x420069\",\"type\":\"Structure\",\"value\":[]}\n",
         "capture: byte 16: no tag: the input ends within the message\n",
@@ -49,6 +61,7 @@ const ROWS: [Row; 7] = [
     // The first item is whole, and the second has a wrong length.
     (
         Hiding::Nothing,
+        false,
         "420069010000002042006A0200000004000000010000000042006B02000000050000000000000000",
         "",
         "capture: byte 24: Protocol Version Minor (0x42006B): wrong length for the type\n",
@@ -56,8 +69,8 @@ const ROWS: [Row; 7] = [
 ];
 
 fn prints(alloc: Global, row: Row) -> Result<bool, AllocError> {
-    let (hiding, input, json, errors) = row;
-    let task = Task::Json { hiding };
+    let (hiding, named, input, json, errors) = row;
+    let task = Task::Json { hiding, named };
     let outcome = run_with(alloc, alloc, task, Encoding::Detected, input.as_bytes())?;
     let status = if errors.is_empty() { 0 } else { 1 };
     Ok(outcome.is(status, json, errors))

@@ -75,6 +75,7 @@ fn printed(alloc: Global, table: &str, message: &str) -> Result<Outcome, TableEr
         masks: standard_masks(alloc)?,
         own: own.values,
         secrets: standard_secrets(alloc)?,
+        words: None,
     };
     let asked = Asked::Print {
         task: Task::Show { look: Look::PLAIN },

@@ -166,6 +166,7 @@ fn comes_back(alloc: Global, json: &str) -> Result<bool, AllocError> {
     let read = lines_with(alloc, true, json.as_bytes());
     let task = Task::Json {
         hiding: Hiding::Nothing,
+        named: false,
     };
     let outcome = run_with(alloc, alloc, task, Encoding::Raw, read.output.as_slice())?;
     Ok(read.status == 0 && outcome.is(0, json, ""))

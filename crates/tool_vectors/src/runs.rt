@@ -80,6 +80,7 @@ pub fn names_in<A: Allocator + Copy>(heap: A) -> Result<Names<'static, A>, Alloc
         masks,
         own: HashMap::new(heap),
         secrets,
+        words: None,
     })
 }
 
@@ -92,6 +93,7 @@ pub fn no_names<A: Allocator + Copy>(heap: A) -> Names<'static, A> {
         masks: HashMap::new(heap),
         own: HashMap::new(heap),
         secrets: HashMap::new(heap),
+        words: None,
     }
 }
 

@@ -6,7 +6,7 @@ use ttlv_run::{Asked, Encoding, Hiding, Look, Strict, Task, Values, request_of};
 // Arguments, what they ask for, the file of names, and how many files are read.
 type Row = (&'static str, Asked<'static>, Option<&'static str>, usize);
 
-const ASKED: [Row; 27] = [
+const ASKED: [Row; 29] = [
     ("ttlv from-json", Asked::FromJson { raw: false }, None, 0),
     (
         "ttlv show --find a",
@@ -25,6 +25,7 @@ const ASKED: [Row; 27] = [
         Asked::Print {
             task: Task::Json {
                 hiding: Hiding::Nothing,
+                named: false,
             },
             encoding: Encoding::Raw,
         },
@@ -32,11 +33,38 @@ const ASKED: [Row; 27] = [
         1,
     ),
     (
+        "ttlv json --names --redact=keys",
+        Asked::Print {
+            task: Task::Whole {
+                strict: Strict::Json {
+                    hiding: Hiding::Secrets,
+                    named: true,
+                },
+            },
+            encoding: Encoding::Detected,
+        },
+        None,
+        0,
+    ),
+    (
+        "ttlv json --names",
+        Asked::Print {
+            task: Task::Json {
+                hiding: Hiding::Nothing,
+                named: true,
+            },
+            encoding: Encoding::Detected,
+        },
+        None,
+        0,
+    ),
+    (
         "ttlv json --redact",
         Asked::Print {
             task: Task::Whole {
                 strict: Strict::Json {
                     hiding: Hiding::Values,
+                    named: false,
                 },
             },
             encoding: Encoding::Detected,
@@ -50,6 +78,7 @@ const ASKED: [Row; 27] = [
             task: Task::Whole {
                 strict: Strict::Json {
                     hiding: Hiding::Secrets,
+                    named: false,
                 },
             },
             encoding: Encoding::Detected,

@@ -1,5 +1,5 @@
 -- What is printed of messages goes on behind each beginning, and what was added where printing failed is a beginning of it.
-use Rattle.std.proofs.Common.{◌≡◌, ◌<◌, ℕ, List, [], ◌++◌, get_or, inl, inr, Option, Result, Ok, Err, IfOk, OnErr, ap, sym, refl, subst, ◌∙◌}
+use Rattle.std.proofs.Common.{◌≡◌, ◌<◌, ℕ, Bool, List, [], ◌++◌, get_or, inl, inr, Option, Result, Ok, Err, IfOk, OnErr, ap, sym, refl, subst, ◌∙◌}
 use Rattle.kmip_ttlv_items.specs.declared.found.{FoundItem.FoundItem, Fault.Fault}
 use Rattle.kmip_ttlv_items.specs.ItemWalks.{Meets, at_first, Ended, Ends}
 use Rattle.kmip_ttlv_items.proofs.Completes.{ends}
@@ -10,9 +10,8 @@ use Rattle.ttlv_run.specs.declared.run_error.RunError.{RunError}
 use Rattle.ttlv_run.specs.Reasons.{IsOfError, PrintsFront}
 use Rattle.ttlv_run.specs.declared.job.{Task.Task, Task.TheVariants.Show, Task.TheVariants.Json, Look.Look}
 use Rattle.kmip_ttlv_json.specs.declared.print.Hiding.{Hiding}
-use Rattle.kmip_ttlv_json.specs.declared.print.Style.TheVariants.{Digits}
 use Rattle.kmip_ttlv_json.specs.Printings.{secrets_of, shown_of, IsJson}
-use Rattle.ttlv_run.specs.Texts.{Names, no_reach, reach_all, lines_from, message_text, IsMessageText}
+use Rattle.ttlv_run.specs.Texts.{Names, style_in, no_reach, reach_all, lines_from, message_text, IsMessageText}
 use Rattle.ttlv_run.proofs.Completion.{lines-append}
 
 -- it failed
@@ -30,9 +29,10 @@ IsAlways names task at bytes t = (found : List FoundItem) (fault : Option Fault)
     → message_text names task at bytes found fault ended ≡ t
 
 -- what is printed of it as JSON
-pub json_lines_of : (names : Names) (at : ℕ) (bytes : List ℕ) (hiding : Hiding) (task : Task) → task ≡ Json hiding → (t : List ℕ) (fault : Option Fault)
-    → IsJson Digits (secrets_of hiding names.secrets) (shown_of hiding) bytes t fault → IsMessageText names task at bytes t fault
-json_lines_of names at bytes hiding task is t fault h = record {
+pub json_lines_of : (names : Names) (at : ℕ) (bytes : List ℕ) (hiding : Hiding) (named : Bool) (task : Task) → task ≡ Json hiding named
+    → (t : List ℕ) (fault : Option Fault) → IsJson (style_in named) (secrets_of hiding names.secrets) (shown_of hiding) bytes t fault
+    → IsMessageText names task at bytes t fault
+json_lines_of names at bytes hiding named task is t fault h = record {
   found = h.found;
   ended = h.ended;
   is = h.is ∙ sym (ap (λ (task : Task). message_text names task at bytes h.found fault h.ended) is);

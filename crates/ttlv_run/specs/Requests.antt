@@ -133,11 +133,13 @@ IsTask command f (Show look) = (command ≡ codes "show") × (is_strict f ≡ fa
 IsTask command f (Diagnose closed prefix) =
     (command ≡ codes "diag") × (is_strict f ≡ false) × (closed ≡ is_closed f) × (prefix.now ≡ prefix_in f)
 IsTask command f Hexadecimal = command ≡ codes "hex"
-IsTask command f (Json hiding) = (command ≡ codes "json") × (is_strict f ≡ false) × (hiding ≡ hiding_in f)
+IsTask command f (Json hiding named) =
+    (command ≡ codes "json") × (is_strict f ≡ false) × (hiding ≡ hiding_in f) × (named ≡ is_set f (codes "named"))
 IsTask command f (Whole (ShowWhole look)) = (command ≡ codes "show") × (is_strict f ≡ true) × IsLook f look
 IsTask command f (Whole (DiagnoseWhole closed prefix)) =
     (command ≡ codes "diag") × (is_strict f ≡ true) × (closed ≡ is_closed f) × (prefix.now ≡ prefix_in f)
-IsTask command f (Whole (JsonWhole hiding)) = (command ≡ codes "json") × (is_strict f ≡ true) × (hiding ≡ hiding_in f)
+IsTask command f (Whole (JsonWhole hiding named)) =
+    (command ≡ codes "json") × (is_strict f ≡ true) × (hiding ≡ hiding_in f) × (named ≡ is_set f (codes "named"))
 IsTask command f (Check kmip empty) =
     (is_other command ≡ false) × (kmip ≡ (bytes_eq command (codes "check") && is_set f (codes "kmip")))
     × (empty ≡ (bytes_eq command (codes "check") && is_set f (codes "allow-empty")))

@@ -1,6 +1,6 @@
 -- What is printed of one message.
 use Rattle.std.specs.Borrow.{Bor}
-use Rattle.std.specs.Prelude.{◌≡◌, ℕ, ◌+◌, ◌==◌, Bool, false, ◌&&◌, List, [], ◌∷◌, ◌++◌}
+use Rattle.std.specs.Prelude.{◌≡◌, ℕ, ◌+◌, ◌==◌, Bool, true, false, ◌&&◌, List, [], ◌∷◌, ◌++◌}
 use Rattle.std.specs.Prelude.{length, take, nat_lt, nat_le, slice_index}
 use Rattle.std.specs.Prelude.{Option, Some, None, if◌then◌else◌, codes}
 use Rattle.std.specs.List.{flat_map, list_any}
@@ -20,8 +20,9 @@ use Rattle.kmip_ttlv_names.specs.NameTables.{lines_of, tag_in}
 use Rattle.kmip_ttlv_items.specs.declared.found.FoundItem.{FoundItem}
 use Rattle.kmip_ttlv_items.specs.declared.found.Fault.{Fault}
 use Rattle.kmip_ttlv_items.specs.ItemWalks.{Ended, content_at}
-use Rattle.kmip_ttlv_json.specs.declared.print.Style.TheVariants.{Digits}
 use Rattle.kmip_ttlv_json.specs.Printings.{secrets_of, shown_of, has_line, json_text}
+use Rattle.kmip_ttlv_json.specs.declared.print.Style.{Style}
+use Rattle.kmip_ttlv_json.specs.declared.print.Style.TheVariants.{Digits, Names as Named}
 use Rattle.ttlv_run.specs.declared.job.Strict.{Strict}
 use Rattle.ttlv_run.specs.declared.job.Strict.TheVariants.{Show as ShowWhole, Diagnose as DiagnoseWhole, Json as JsonWhole}
 use Rattle.ttlv_run.specs.declared.job.Task.{Task}
@@ -231,13 +232,18 @@ line_back tags prefix line = trim_line_back tags prefix (trim_end (body line))
 unfoldable pub text_back : (ℕ → Option (List ℕ)) → List ℕ → List ℕ → List ℕ
 text_back tags prefix text = flat_map (line_back tags prefix) (lines_of text)
 
+-- the style of JSON: with the standard's names, or by digits
+abbrev pub style_in : Bool → Style
+style_in true = Named
+style_in false = Digits
+
 -- what is printed of a whole message alone
 abbrev pub whole_text : Names → Strict → ℕ → (bytes : List ℕ) → (found : List FoundItem) → Ended bytes found None → List ℕ
 whole_text names (ShowWhole look) at bytes found lists = lines_from names look at bytes no_reach found
 whole_text names (DiagnoseWhole closed prefix) at bytes found lists =
     hostile prefix.now closed (length bytes) (trace closed bytes) ++ 10 ∷ []
-whole_text names (JsonWhole hiding) at bytes found lists =
-    json_text Digits (secrets_of hiding names.secrets) (shown_of hiding) bytes found None lists
+whole_text names (JsonWhole hiding named) at bytes found lists =
+    json_text (style_in named) (secrets_of hiding names.secrets) (shown_of hiding) bytes found None lists
 
 -- what a task prints of a message that begins at an offset, in which these items were met by its end, or by the first
 -- fault
@@ -248,8 +254,8 @@ message_text names (Show look) at bytes found fault ended = lines_from names loo
 message_text names (Diagnose closed prefix) at bytes found fault ended =
     hostile prefix.now closed (length bytes) (trace closed bytes) ++ 10 ∷ []
 message_text names Hexadecimal at bytes found fault ended = encode_upper bytes ++ 10 ∷ []
-message_text names (Json hiding) at bytes found fault ended =
-    json_text Digits (secrets_of hiding names.secrets) (shown_of hiding) bytes found fault ended
+message_text names (Json hiding named) at bytes found fault ended =
+    json_text (style_in named) (secrets_of hiding names.secrets) (shown_of hiding) bytes found fault ended
 message_text names (Whole strict) at bytes found None lists = whole_text names strict at bytes found lists
 message_text names (Whole strict) at bytes found (Some fault) ended = []
 message_text names (Check kmip empty) at bytes found fault ended = []

@@ -48,6 +48,7 @@ enum Part {
     Port,
     Prefix,
     Names,
+    Named,
     Offsets,
     Lengths,
     Find,
@@ -127,6 +128,7 @@ const COMMANDS: [(&str, &str, &[Part]); 7] = [
         "json",
         "Prints each message as JSON, a line each",
         &[
+            Part::Named,
             Part::Redact,
             Part::Secrets,
             Part::Strict,
@@ -180,6 +182,15 @@ fn names<'w>(alloc: Global) -> Arg<'w> {
         .value_name("TABLE")
         .help(
             "A file with further names, a line each: `540001 Own Tag`, `540001:00000002 Own Value`",
+        )
+}
+
+fn named<'w>(alloc: Global) -> Arg<'w> {
+    Arg::new(alloc, "named")
+        .long("names")
+        .action(ArgAction::SetTrue)
+        .help(
+            "Prints the standard's names of tags, enumeration values and mask bits, dates as text, and numbers as such",
         )
 }
 
@@ -320,6 +331,7 @@ fn arg<'w>(alloc: Global, part: Part) -> Arg<'w> {
         Part::Port => port(alloc),
         Part::Prefix => prefix(alloc),
         Part::Names => names(alloc),
+        Part::Named => named(alloc),
         Part::Offsets => offsets(alloc),
         Part::Lengths => lengths(alloc),
         Part::Find => find(alloc),

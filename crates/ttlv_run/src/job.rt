@@ -6,6 +6,7 @@ ghost use Rattle.ttlv_run.specs.Misreadings.{encoding_words};
 use kmip_ttlv_json::Hiding;
 use kmip_ttlv_names::{TagsByName, ValueMap};
 use kmip_ttlv_util::LentTagMap;
+use kmip_words::Words;
 use std::alloc::{Allocator, Global};
 
 /// What a line says of the value of a leaf.
@@ -64,8 +65,8 @@ pub enum Strict<'w> {
     Show { look: Look<'w> },
     /// Its diagnostic and a line feed, as [`Task::Diagnose`] does.
     Diagnose { closed: bool, prefix: &'w str },
-    /// A line of JSON.
-    Json { hiding: Hiding },
+    /// A line of JSON: with the standard's names, or by digits.
+    Json { hiding: Hiding, named: bool },
 }
 
 /// What is printed of each message.
@@ -78,8 +79,8 @@ pub enum Task<'w> {
     Diagnose { closed: bool, prefix: &'w str },
     /// Its bytes in hexadecimal and a line feed.
     Hexadecimal,
-    /// A line of JSON; nothing of a message with a fault.
-    Json { hiding: Hiding },
+    /// A line of JSON, with the standard's names or by digits; nothing of a message with a fault.
+    Json { hiding: Hiding, named: bool },
     /// That of whole messages alone: of a message with a fault nothing is printed, and the line on standard error doesn't
     /// tell its tag.
     Whole { strict: Strict<'w> },
@@ -175,4 +176,6 @@ pub struct Names<'n, A: Allocator = Global> {
     pub own: ValueMap<'n, A>,
     /// The tags of items whose values are secret, each with a name of any kind.
     pub secrets: LentTagMap<'n, A>,
+    /// The words of JSON with names. Where there are none, they are made for each message that is printed so.
+    pub words: Option<Words<A>>,
 }

@@ -256,11 +256,12 @@ fn json_of<'w>(matches: &ArgMatches<'w>) -> Task<'w>
     ensures { IsTask (codes "json") (found_of matches.now) result }
 {
     let hiding = hiding_of(matches);
+    let named = is_set(matches, "named");
     if is_strict(matches) {
-        let strict = Strict::Json { hiding };
+        let strict = Strict::Json { hiding, named };
         return Task::Whole { strict };
     }
-    Task::Json { hiding }
+    Task::Json { hiding, named }
 }
 
 fn task_of<'w>(command: &str, matches: &ArgMatches<'w>) -> Task<'w>

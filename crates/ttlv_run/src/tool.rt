@@ -23,6 +23,7 @@ use kmip_ttlv_names::{
     tag_names, tags_by_name,
 };
 use kmip_ttlv_types::stream::{Sink, Source};
+use kmip_words::{Words, standard_words};
 use std::alloc::{AllocError, Allocator};
 use std::io::{Eprint, Print};
 
@@ -231,11 +232,37 @@ fn with_look<'w>(asked: Asked<'w>, colored: bool, tags: &'w [u32]) -> Asked<'w>
     }
 }
 
+// Whether JSON with names is asked for.
+fn is_worded(asked: Asked<'_>) -> bool {
+    match asked {
+        Asked::Print {
+            task: Task::Json { named, .. },
+            ..
+        } => named,
+        Asked::Print {
+            task: Task::Whole {
+                strict: Strict::Json { named, .. },
+            },
+            ..
+        } => named,
+        _ => false,
+    }
+}
+
+// The words of JSON with names, where they are wanted.
+fn words_for<B: Allocator + Copy>(alloc: B, worded: bool) -> Result<Option<Words<B>>, AllocError> {
+    if !worded {
+        return Ok(None);
+    }
+    Ok(Some(standard_words(alloc)?))
+}
+
 // The names of tags and of values, and the tags of secrets, by their tables.
 fn names_in<'t, B: Allocator + Copy>(
     alloc: B,
     tags: &'t str,
     secrets: &'t str,
+    worded: bool,
 ) -> Result<Names<'t, B>, TableError>
     ensures names { IfOk result (λ names. names_of names ≡ names_for tags.now secrets.now) }
     ensures tags_alone { OnOk result (bad_line secrets.now ≡ None) }
@@ -245,6 +272,9 @@ fn names_in<'t, B: Allocator + Copy>(
     let Ok(by_name) = tags_by_name(alloc, tags) else {
         return Err(TableError::OutOfMemory);
     };
+    let Ok(words) = words_for(alloc, worded) else {
+        return Err(TableError::OutOfMemory);
+    };
     Ok(Names {
         tags: own.tags,
         by_name,
@@ -252,6 +282,7 @@ fn names_in<'t, B: Allocator + Copy>(
         masks: standard_masks(alloc)?,
         own: own.values,
         secrets: tag_names(alloc, secrets)?,
+        words,
     })
 }
 
@@ -339,7 +370,12 @@ pub fn run_request<B: Allocator + Copy, T: Opener, O: Opener, R: Source, W: Sink
         Ok(path) => path,
         Err(status) => return status,
     };
-    let names = match names_in(alloc, tags.as_str(), secret.as_str()) {
+    let names = match names_in(
+        alloc,
+        tags.as_str(),
+        secret.as_str(),
+        is_worded(request.asked),
+    ) {
         Ok(names) => names,
         Err(TableError::BadLine(_)) => {
             report_words(

@@ -16,10 +16,12 @@ returns-in-Show-clause-err g c =
 
 pub returns-in-Json-clause-ok : goal.returns-in-Json-clause-ok
 returns-in-Json-clause-ok g c =
-    let told = whole_json (names_of c.args.names.now) c.args.at c.args.message.now c.in-Json.hiding c.args.strict c.in-Json.is c.requires.judged in
-    IfOk-weaker c.push_json.result _ _ (λ fault h. record { text = h.text; is = told h.text fault h.is; holds = h.holds }) c.push_json.ensures.ok
+    let told = whole_json (names_of c.args.names.now) c.args.at c.args.message.now c.in-Json.hiding c.in-Json.named c.args.strict c.in-Json.is
+    c.requires.judged in
+    IfOk-weaker c.push_styled.result _ _ (λ fault h. record { text = h.text; is = told h.text fault h.is; holds = h.holds }) c.push_styled.ensures.ok
 
 pub returns-in-Json-clause-err : goal.returns-in-Json-clause-err
 returns-in-Json-clause-err g c =
-    let told = whole_json (names_of c.args.names.now) c.args.at c.args.message.now c.in-Json.hiding c.args.strict c.in-Json.is c.requires.judged in
-    err_map c.push_json.result _ _ c.push_json.ensures.err (λ h. record { text = h.text; is = (h.is.0, told h.text h.is.0 h.is.1); holds = h.holds })
+    let told = whole_json (names_of c.args.names.now) c.args.at c.args.message.now c.in-Json.hiding c.in-Json.named c.args.strict c.in-Json.is
+    c.requires.judged in
+    err_map c.push_styled.result _ _ c.push_styled.ensures.err (λ h. record { text = h.text; is = (h.is.0, told h.text h.is.0 h.is.1); holds = h.holds })
