@@ -9,4 +9,6 @@ pub mod TreeForms
 pub mod ReadForms
 pub mod Offsets
 pub mod Loops
+pub mod PlaceSteps
 pub mod WriteForms
+pub mod Escaping

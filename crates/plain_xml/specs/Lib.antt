@@ -9,4 +9,5 @@ pub mod Marks
 pub mod Documents
 pub mod Forms
 pub mod Readings
+pub mod Places
 pub mod Writings

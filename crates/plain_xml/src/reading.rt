@@ -15,8 +15,8 @@ use crate::element::Element;
 use crate::failure::{Fault, Flaw, Stop, XmlError};
 use std::alloc::{AllocError, Allocator};
 
-// Where a character is that XML can't hold.
-fn wrong_character(text: &[char]) -> Option<usize>
+/// Where the first character is that XML can't hold.
+pub fn wrong_character(text: &[char]) -> Option<usize>
     ensures { result ≡ position (λ c. not (is_character c)) text.now }
 {
     text.iter().position(|c| !is_character(*c as u32))
@@ -36,9 +36,9 @@ fn document<A: Allocator + Copy>(alloc: A, text: &[char]) -> Result<Vec<Element<
     }
 }
 
-// How many bytes characters take.
+/// How many bytes characters take.
 #[tactic(auto, using(crate::proofs::Offsets::length_encodes_cons))]
-fn byte_len(characters: &[char]) -> usize
+pub fn byte_len(characters: &[char]) -> usize
     requires { length (encode_utf8_all characters.now) < 2 ^ 64 }
     ensures { result ≡ length (encode_utf8_all characters.now) }
 {
@@ -51,8 +51,8 @@ fn byte_len(characters: &[char]) -> usize
     len
 }
 
-// The characters of a text.
-fn characters_of<A: Allocator>(alloc: A, text: &str) -> Result<Vec<char, A>, AllocError>
+/// The characters of a text.
+pub fn characters_of<A: Allocator>(alloc: A, text: &str) -> Result<Vec<char, A>, AllocError>
     ensures { IfOk result (λ v. v.items ≡ chars text.now) }
 {
     text.chars().collect(alloc)

@@ -1,0 +1,8 @@
+use Rattle.std.proofs.Common.{◌∙◌, length, refl}
+use Rattle.plain_xml.proofs.Offsets.{all_bytes}
+use Rattle.plain_xml.proofs.write.wrong_offset.Goals as goal
+
+pub wrong_in-requires : goal.wrong_in-requires
+wrong_in-requires g c = record {
+  small = all_bytes c.args.text.now c.as_slice.result.now (length c.args.text.now) c.utf8.text (c.as_slice.ensures.value ∙ c.in_ok-characters.ensures) refl;
+}
