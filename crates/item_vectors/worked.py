@@ -1,6 +1,12 @@
 #!/usr/bin/env python3
-"""The rows of src/rows.rt: XML as the standard writes it, and bytes by an encoder written apart. Run it to write that file."""
+"""The rows of src/rows.rt: XML as the standard writes it, and bytes by an encoder written apart.
+
+    worked.py           writes that file; run `rt fmt` behind it
+    worked.py --check   writes nothing, and says whether the file has other rows. The status is 1 then.
+"""
 import os
+import re
+import sys
 S, I, L, B, E, T, X, O, D, V = 1, 2, 3, 4, 5, 6, 7, 8, 9, 10
 
 
@@ -142,4 +148,13 @@ if __name__ == "__main__":
     for digits, error in unwritten:
         lines += ["    (", f"        \"{digits}\",", f"        WriteError::{error},", "    ),"]
     lines += ["];", ""]
-    open(os.path.join(os.path.dirname(os.path.abspath(__file__)), "src/rows.rt"), "w").write("\n".join(lines))
+    path = os.path.join(os.path.dirname(os.path.abspath(__file__)), "src/rows.rt")
+    if sys.argv[1:] != ["--check"]:
+        with open(path, "w", encoding="utf-8") as it:
+            it.write("\n".join(lines))
+    else:
+        # rt fmt decides about blanks and last commas
+        plain = lambda text: re.sub(r",(?=[])}])", "", re.sub(r"\s+", "", text))
+        with open(path, encoding="utf-8") as it:
+            if plain(it.read()) != plain("\n".join(lines)):
+                sys.exit("crates/item_vectors/src/rows.rt:1: has other rows than worked.py")

@@ -6,10 +6,7 @@ use plain_xml::Flaw;
 
 /// XML, and the hexadecimal digits of the bytes that it stands for.
 pub const READ: [(&str, &str); 28] = [
-    (
-        "<ProtocolVersion/>",
-        "4200690100000000",
-    ),
+    ("<ProtocolVersion/>", "4200690100000000"),
     (
         "<ProtocolVersion type=\"Structure\"></ProtocolVersion>",
         "4200690100000000",
@@ -22,10 +19,7 @@ pub const READ: [(&str, &str); 28] = [
         "<?xml version=\"1.0\"?>\n<!-- a test -->\n<KMIP>\n  <ProtocolVersion><ProtocolVersionMajor type=\"Integer\" value=\"1\"/><ProtocolVersionMinor type=\"Integer\" value=\"0\"/></ProtocolVersion>\n  <BatchCount type='Integer' value='0x00000002'/>\n</KMIP>\n",
         "420069010000002042006a0200000004000000010000000042006b0200000004000000000000000042000d02000000040000000200000000",
     ),
-    (
-        "<KMIP/>",
-        "",
-    ),
+    ("<KMIP/>", ""),
     (
         "<BatchCount xmlns=\"urn:oasis:tc:kmip:xmlns\" value=\"-3\" type=\"Integer\"/>",
         "42000d0200000004fffffffd00000000",
@@ -124,139 +118,241 @@ pub const READ: [(&str, &str); 28] = [
 pub const REFUSED: [(&str, XmlError); 37] = [
     (
         "",
-        XmlError::NotXml { flaw: Flaw::Unfinished, offset: 0 },
+        XmlError::NotXml {
+            flaw: Flaw::Unfinished,
+            offset: 0,
+        },
     ),
     (
         "<KMIP>",
-        XmlError::NotXml { flaw: Flaw::Unfinished, offset: 6 },
+        XmlError::NotXml {
+            flaw: Flaw::Unfinished,
+            offset: 6,
+        },
     ),
     (
         "<a>x</a>",
-        XmlError::NotXml { flaw: Flaw::Text, offset: 3 },
+        XmlError::NotXml {
+            flaw: Flaw::Text,
+            offset: 3,
+        },
     ),
     (
         "<NoTag/>",
-        XmlError::NotItem { bad: BadElement::Tag, offset: 0 },
+        XmlError::NotItem {
+            bad: BadElement::Tag,
+            offset: 0,
+        },
     ),
     (
         "<KMIP><BatchItem/> <KMIP/></KMIP>",
-        XmlError::NotItem { bad: BadElement::Tag, offset: 19 },
+        XmlError::NotItem {
+            bad: BadElement::Tag,
+            offset: 19,
+        },
     ),
     (
         "<!-- <a/> -->\u{E4}<BatchItem/>",
-        XmlError::NotXml { flaw: Flaw::Text, offset: 13 },
+        XmlError::NotXml {
+            flaw: Flaw::Text,
+            offset: 13,
+        },
     ),
     (
         "<!--\u{E4}<a/>--><BatchItem x=''/>",
-        XmlError::NotItem { bad: BadElement::Attributes, offset: 13 },
+        XmlError::NotItem {
+            bad: BadElement::Attributes,
+            offset: 13,
+        },
     ),
     (
         "<TTLV type=\"Structure\"/>",
-        XmlError::NotItem { bad: BadElement::Tag, offset: 0 },
+        XmlError::NotItem {
+            bad: BadElement::Tag,
+            offset: 0,
+        },
     ),
     (
         "<TTLV tag=\"0x4200\" type=\"Structure\"/>",
-        XmlError::NotItem { bad: BadElement::Tag, offset: 0 },
+        XmlError::NotItem {
+            bad: BadElement::Tag,
+            offset: 0,
+        },
     ),
     (
         "<BatchItem tag=\"0x42000F\"/>",
-        XmlError::NotItem { bad: BadElement::Tag, offset: 0 },
+        XmlError::NotItem {
+            bad: BadElement::Tag,
+            offset: 0,
+        },
     ),
     (
         "<BatchItem value=\"\"/>",
-        XmlError::NotItem { bad: BadElement::Attributes, offset: 0 },
+        XmlError::NotItem {
+            bad: BadElement::Attributes,
+            offset: 0,
+        },
     ),
     (
         "<BatchCount type=\"Integer\"/>",
-        XmlError::NotItem { bad: BadElement::Attributes, offset: 0 },
+        XmlError::NotItem {
+            bad: BadElement::Attributes,
+            offset: 0,
+        },
     ),
     (
         "<BatchCount type=\"integer\" value=\"1\"/>",
-        XmlError::NotItem { bad: BadElement::Typ, offset: 0 },
+        XmlError::NotItem {
+            bad: BadElement::Typ,
+            offset: 0,
+        },
     ),
     (
         "<BatchCount type=\"DateTimeExtended\" value=\"1\"/>",
-        XmlError::NotItem { bad: BadElement::Typ, offset: 0 },
+        XmlError::NotItem {
+            bad: BadElement::Typ,
+            offset: 0,
+        },
     ),
     (
         "<BatchItem><BatchCount type=\"Integer\" value=\"\"/></BatchItem>",
-        XmlError::NotItem { bad: BadElement::Value, offset: 11 },
+        XmlError::NotItem {
+            bad: BadElement::Value,
+            offset: 11,
+        },
     ),
     (
         "<BatchItem><BatchCount type=\"Integer\" value=\"2147483648\"/></BatchItem>",
-        XmlError::NotItem { bad: BadElement::Value, offset: 11 },
+        XmlError::NotItem {
+            bad: BadElement::Value,
+            offset: 11,
+        },
     ),
     (
         "<BatchItem><BatchCount type=\"Integer\" value=\"-2147483649\"/></BatchItem>",
-        XmlError::NotItem { bad: BadElement::Value, offset: 11 },
+        XmlError::NotItem {
+            bad: BadElement::Value,
+            offset: 11,
+        },
     ),
     (
         "<BatchItem><BatchCount type=\"Integer\" value=\"+1\"/></BatchItem>",
-        XmlError::NotItem { bad: BadElement::Value, offset: 11 },
+        XmlError::NotItem {
+            bad: BadElement::Value,
+            offset: 11,
+        },
     ),
     (
         "<BatchItem><BatchCount type=\"Integer\" value=\"0x1\"/></BatchItem>",
-        XmlError::NotItem { bad: BadElement::Value, offset: 11 },
+        XmlError::NotItem {
+            bad: BadElement::Value,
+            offset: 11,
+        },
     ),
     (
         "<BatchItem><BatchCount type=\"Integer\" value=\"Sign\"/></BatchItem>",
-        XmlError::NotItem { bad: BadElement::Value, offset: 11 },
+        XmlError::NotItem {
+            bad: BadElement::Value,
+            offset: 11,
+        },
     ),
     (
         "<BatchItem><BatchCount type=\"Integer\" value=\"18446744073709551617\"/></BatchItem>",
-        XmlError::NotItem { bad: BadElement::Value, offset: 11 },
+        XmlError::NotItem {
+            bad: BadElement::Value,
+            offset: 11,
+        },
     ),
     (
         "<BatchItem><BatchCount type=\"LongInteger\" value=\"9223372036854775808\"/></BatchItem>",
-        XmlError::NotItem { bad: BadElement::Value, offset: 11 },
+        XmlError::NotItem {
+            bad: BadElement::Value,
+            offset: 11,
+        },
     ),
     (
         "<BatchItem><BatchCount type=\"LongInteger\" value=\"-\"/></BatchItem>",
-        XmlError::NotItem { bad: BadElement::Value, offset: 11 },
+        XmlError::NotItem {
+            bad: BadElement::Value,
+            offset: 11,
+        },
     ),
     (
         "<BatchItem><BatchCount type=\"LongInteger\" value=\"-9223372036854775809\"/></BatchItem>",
-        XmlError::NotItem { bad: BadElement::Value, offset: 11 },
+        XmlError::NotItem {
+            bad: BadElement::Value,
+            offset: 11,
+        },
     ),
     (
         "<BatchItem><BatchCount type=\"BigInteger\" value=\"0x1\"/></BatchItem>",
-        XmlError::NotItem { bad: BadElement::Value, offset: 11 },
+        XmlError::NotItem {
+            bad: BadElement::Value,
+            offset: 11,
+        },
     ),
     (
         "<BatchItem><BatchCount type=\"Enumeration\" value=\"Get\"/></BatchItem>",
-        XmlError::NotItem { bad: BadElement::Value, offset: 11 },
+        XmlError::NotItem {
+            bad: BadElement::Value,
+            offset: 11,
+        },
     ),
     (
         "<BatchItem><BatchCount type=\"Enumeration\" value=\"10\"/></BatchItem>",
-        XmlError::NotItem { bad: BadElement::Value, offset: 11 },
+        XmlError::NotItem {
+            bad: BadElement::Value,
+            offset: 11,
+        },
     ),
     (
         "<BatchItem><BatchCount type=\"Boolean\" value=\"1\"/></BatchItem>",
-        XmlError::NotItem { bad: BadElement::Value, offset: 11 },
+        XmlError::NotItem {
+            bad: BadElement::Value,
+            offset: 11,
+        },
     ),
     (
         "<BatchItem><BatchCount type=\"Boolean\" value=\"0x0000000000000002\"/></BatchItem>",
-        XmlError::NotItem { bad: BadElement::Value, offset: 11 },
+        XmlError::NotItem {
+            bad: BadElement::Value,
+            offset: 11,
+        },
     ),
     (
         "<BatchItem><BatchCount type=\"ByteString\" value=\"0x00\"/></BatchItem>",
-        XmlError::NotItem { bad: BadElement::Value, offset: 11 },
+        XmlError::NotItem {
+            bad: BadElement::Value,
+            offset: 11,
+        },
     ),
     (
         "<BatchItem><BatchCount type=\"ByteString\" value=\"0\"/></BatchItem>",
-        XmlError::NotItem { bad: BadElement::Value, offset: 11 },
+        XmlError::NotItem {
+            bad: BadElement::Value,
+            offset: 11,
+        },
     ),
     (
         "<BatchItem><BatchCount type=\"DateTime\" value=\"2009-11-12\"/></BatchItem>",
-        XmlError::NotItem { bad: BadElement::Value, offset: 11 },
+        XmlError::NotItem {
+            bad: BadElement::Value,
+            offset: 11,
+        },
     ),
     (
         "<BatchItem><BatchCount type=\"Interval\" value=\"-1\"/></BatchItem>",
-        XmlError::NotItem { bad: BadElement::Value, offset: 11 },
+        XmlError::NotItem {
+            bad: BadElement::Value,
+            offset: 11,
+        },
     ),
     (
         "<BatchItem><BatchCount type=\"Interval\" value=\"4294967296\"/></BatchItem>",
-        XmlError::NotItem { bad: BadElement::Value, offset: 11 },
+        XmlError::NotItem {
+            bad: BadElement::Value,
+            offset: 11,
+        },
     ),
     (
         "<BatchItem><BatchCount type=\"Integer\" value=\"1\"><BatchItem/></BatchCount></BatchItem>",
@@ -264,7 +360,10 @@ pub const REFUSED: [(&str, XmlError); 37] = [
     ),
     (
         "<KMIP><BatchCount type=\"Integer\" value=\"1\"> <BatchItem/></BatchCount><NoTag/></KMIP>",
-        XmlError::NotItem { bad: BadElement::Tag, offset: 69 },
+        XmlError::NotItem {
+            bad: BadElement::Tag,
+            offset: 69,
+        },
     ),
     (
         "<KMIP><BatchCount type=\"Integer\" value=\"1\"> <BatchItem/></BatchCount></KMIP>",
@@ -278,10 +377,7 @@ pub const WRITTEN: [(&str, &str); 18] = [
         "<BatchItem><ProtocolVersion><ProtocolVersionMajor type=\"Integer\" value=\"1\"/><ProtocolVersionMinor type=\"Integer\" value=\"0\"/></ProtocolVersion></BatchItem>",
         "42000f0100000028420069010000002042006a0200000004000000010000000042006b02000000040000000000000000",
     ),
-    (
-        "<BatchItem/>",
-        "42000f0100000000",
-    ),
+    ("<BatchItem/>", "42000f0100000000"),
     (
         "<BatchItem><BatchItem/><BatchItem/></BatchItem>",
         "42000f010000001042000f010000000042000f0100000000",
@@ -352,11 +448,17 @@ pub const WRITTEN: [(&str, &str); 18] = [
 pub const UNWRITTEN: [(&str, WriteError); 4] = [
     (
         "",
-        WriteError::Malformed(Fault { offset: 0, kind: FaultKind::Cut }),
+        WriteError::Malformed(Fault {
+            offset: 0,
+            kind: FaultKind::Cut,
+        }),
     ),
     (
         "42000d02000000040000000100000000",
-        WriteError::Malformed(Fault { offset: 0, kind: FaultKind::NoStructure }),
+        WriteError::Malformed(Fault {
+            offset: 0,
+            kind: FaultKind::NoStructure,
+        }),
     ),
     (
         "42000f0100000020420094070000000161000000000000004200940700000003c3a4010000000000",
