@@ -88,7 +88,8 @@ fn reads_back<A: Allocator + Copy>(
 /// # Errors
 ///
 /// With each, nothing is added. [`Malformed`](WriteError::Malformed) with the first fault; [`NotHeld`](WriteError::NotHeld) if XML can't hold a
-/// character of a text; [`OutOfMemory`](WriteError::OutOfMemory).
+/// character of a text; [`NotReadBack`](WriteError::NotReadBack) if the text is not read as the message, of which no case is known;
+/// [`OutOfMemory`](WriteError::OutOfMemory).
 pub fn push_xml<A: Allocator + Copy>(
     alloc: A,
     out: &mut String<A>,
