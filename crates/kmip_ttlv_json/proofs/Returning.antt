@@ -161,7 +161,8 @@ eight_small : (content : List ℕ) → ArePlain content → from_be_bytes w64 co
 eight_small content plain = omega (arith, plain 0, plain 1, plain 2, plain 3, plain 4, plain 5, plain 6, plain 7)
 
 integer_returns : (tag : ℕ) (content : List ℕ) → length content ≡ 4 → ArePlain content → (o : Option (List ℕ))
-    → mask_text tag (from_be_bytes w32 content) ≡ o → content_in tag Integer (worded_json o (value_number tag Integer content) Integer content) ≡ Some content
+    → mask_text tag 124 (from_be_bytes w32 content) ≡ o
+    → content_in tag Integer (worded_json o (value_number tag Integer content) Integer content) ≡ Some content
 integer_returns tag content four plain None e = by (has_words tag)
   where
     by : (b : Bool)
@@ -173,7 +174,7 @@ integer_returns tag content four plain None e = by (has_words tag)
         (λ exact. mapped (to_be_bytes w32) (λ w. integer_of w.minus w.size) (whole_num (num_of (cast_signed w32 m)))
         ∙ four_return content four plain _ (integer_back m (four_small content plain))) (ap result_ok (decode_of-encode_upper content plain))
 integer_returns tag content four plain (Some w) e =
-    let r = mask_reads tag (from_be_bytes w32 content) w e in
+    let r = mask_reads tag 124 (from_be_bytes w32 content) w e in
     ap (digits_or_word tag Integer w) r.1 ∙ four_return content four plain (mask_of tag 124 w) r.0
 
 long_returns : (tag : ℕ) (content : List ℕ) → length content ≡ 8 → ArePlain content
@@ -203,7 +204,7 @@ content_returns : (style : Style) (tag : ℕ) (typ : TtlvType) (content : List �
 content_returns Names tag Enumeration content good plain =
     enumeration_returns tag content (eqb-true (length content) 4 good) plain (word_of tag (from_be_bytes w32 content)) refl
 content_returns Names tag Integer content good plain =
-    integer_returns tag content (eqb-true (length content) 4 good) plain (mask_text tag (from_be_bytes w32 content)) refl
+    integer_returns tag content (eqb-true (length content) 4 good) plain (mask_text tag 124 (from_be_bytes w32 content)) refl
 content_returns Names tag DateTime content good plain =
     date_returns tag content (eqb-true (length content) 8 good) plain (date_text (from_be_bytes w64 content)) refl
 content_returns Names tag LongInteger content good plain = long_returns tag content (eqb-true (length content) 8 good) plain

@@ -42,7 +42,7 @@ sized_small digits (Ok s) n is h =
     let all = decode_pairs-ok 0 digits s k.1 in
     subst (λ m. m < 2 ^ 24) (ap number_in h) (three_small s (omega (arith, eqb-true (length digits / 2) 3 k.0, all.1)) all.2)
 
-text_small : (s : List ℕ) (o : Option (List ℕ)) (n : ℕ) → tag_or_word s o ≡ Some n → n < 2 ^ 24
+pub text_small : (s : List ℕ) (o : Option (List ℕ)) (n : ℕ) → tag_or_word s o ≡ Some n → n < 2 ^ 24
 text_small s None n h = word_small s n h
 text_small s (Some digits) n h = sized_small digits (decode_sized digits 3) n refl h
 

@@ -98,48 +98,52 @@ number_is number (Some n) h = ap (λ k. Some k) (eqb-true n number h)
 
 -- ---- words of masks
 
-behind_begins : (text word : List ℕ) → (text ≡ []) ⊎ Begins text → Begins word → Begins (behind text word)
-behind_begins [] word t w = w
-behind_begins (c ∷ cs) word (inl e) w = absurd cc
-behind_begins (c ∷ cs) word (inr h) w = h
+behind_begins : (separator : ℕ) (text word : List ℕ) → (text ≡ []) ⊎ Begins text → Begins word → Begins (behind separator text word)
+behind_begins separator [] word t w = w
+behind_begins separator (c ∷ cs) word (inl e) w = absurd cc
+behind_begins separator (c ∷ cs) word (inr h) w = h
 
 -- what is the first of some words
 abbrev StartsWell : List ℕ → Type 0
 StartsWell text = (text ≡ []) ⊎ Begins text
 
-words_begin : (tag mask : ℕ) (bits text all : List ℕ) → StartsWell text → words_behind tag mask text bits ≡ Some all → StartsWell all
+words_begin : (tag separator mask : ℕ) (bits text all : List ℕ) → StartsWell text → words_behind tag separator mask text bits ≡ Some all → StartsWell all
 unfolding words_behind
-words_begin tag mask [] text all t e = let same : text ≡ all = cc in subst StartsWell same t
-words_begin tag mask (bit ∷ bits) text all t e =
-    by (has_bit mask bit) (word_of tag bit) refl (λ s k f. words_begin tag mask bits s all k f) e
+words_begin tag separator mask [] text all t e = let same : text ≡ all = cc in subst StartsWell same t
+words_begin tag separator mask (bit ∷ bits) text all t e =
+    by (has_bit mask bit) (word_of tag bit) refl (λ s k f. words_begin tag separator mask bits s all k f) e
   where
     by : (b : Bool) (o : Option (List ℕ)) → word_of tag bit ≡ o
-        → ((s : List ℕ) → StartsWell s → words_behind tag mask s bits ≡ Some all → StartsWell all)
-        → (if b then option_and_then (λ word. words_behind tag mask (behind text word) bits) o else words_behind tag mask text bits) ≡ Some all
+        → ((s : List ℕ) → StartsWell s → words_behind tag separator mask s bits ≡ Some all → StartsWell all)
+        → (if b then option_and_then (λ word. words_behind tag separator mask (behind separator text word) bits) o
+        else words_behind tag separator mask text bits) ≡ Some all
         → StartsWell all
     by false o is more e = more text t e
     by true None is more e = absurd cc
-    by true (Some word) is more e = more (behind text word) (inr (behind_begins text word t (word_begins word (is_back tag bit word is).0))) e
+    by true (Some word) is more e =
+        more (behind separator text word) (inr (behind_begins separator text word t (word_begins word (is_back tag bit word is).0))) e
 
 -- they are read as the mask, and have no digits
-record MaskReads (tag mask : ℕ) (text : List ℕ) : Type 0 where
-  reads : mask_of tag 124 text ≡ Some mask
+record MaskReads (tag separator mask : ℕ) (text : List ℕ) : Type 0 where
+  reads : mask_of tag separator text ≡ Some mask
   words : behind_0x text ≡ None
 
-some_words : (tag mask : ℕ) (o : Option (List ℕ)) (text : List ℕ) → words_behind tag mask [] BITS ≡ o → mask_back tag mask o ≡ Some text
-    → MaskReads tag mask text
-some_words tag mask None text is e = absurd cc
-some_words tag mask (Some s) text is e =
-    let t = taken (is_number mask (mask_of tag 124 s)) s text e in
-    subst (MaskReads tag mask) t.1 (record {
-      reads = number_is mask (mask_of tag 124 s) t.0;
-      words = elim (words_begin tag mask BITS [] s (inl refl) is) [ inl none ↦ ap behind_0x none | inr h ↦ no_digits s h ];
+some_words : (tag separator mask : ℕ) (o : Option (List ℕ)) (text : List ℕ) → words_behind tag separator mask [] BITS ≡ o
+    → mask_back tag separator mask o ≡ Some text
+    → MaskReads tag separator mask text
+some_words tag separator mask None text is e = absurd cc
+some_words tag separator mask (Some s) text is e =
+    let t = taken (is_number mask (mask_of tag separator s)) s text e in
+    subst (MaskReads tag separator mask) t.1 (record {
+      reads = number_is mask (mask_of tag separator s) t.0;
+      words = elim (words_begin tag separator mask BITS [] s (inl refl) is) [ inl none ↦ ap behind_0x none | inr h ↦ no_digits s h ];
     })
 
-pub mask_reads : (tag mask : ℕ) (text : List ℕ) → mask_text tag mask ≡ Some text → (mask_of tag 124 text ≡ Some mask) × (behind_0x text ≡ None)
+pub mask_reads : (tag separator mask : ℕ) (text : List ℕ) → mask_text tag separator mask ≡ Some text
+    → (mask_of tag separator text ≡ Some mask) × (behind_0x text ≡ None)
 unfolding mask_text
-mask_reads tag mask text e =
-    let m = some_words tag mask (words_behind tag mask [] BITS) text refl e in (m.reads, m.words)
+mask_reads tag separator mask text e =
+    let m = some_words tag separator mask (words_behind tag separator mask [] BITS) text refl e in (m.reads, m.words)
 
 -- ---- dates
 
@@ -170,14 +174,15 @@ date_reads seconds text e = by (nat_le 315_537_897_600 ((seconds + epoch) % 2 ^ 
 
 -- ---- a mask, by its words
 
-pub mask_none : (tag mask : ℕ) → words_behind tag mask [] BITS ≡ None → mask_text tag mask ≡ None
+pub mask_none : (tag separator mask : ℕ) → words_behind tag separator mask [] BITS ≡ None → mask_text tag separator mask ≡ None
 unfolding mask_text
-mask_none tag mask e = ap (mask_back tag mask) e
+mask_none tag separator mask e = ap (mask_back tag separator mask) e
 
-pub mask_some : (tag mask : ℕ) (text : List ℕ) (b : Bool) → words_behind tag mask [] BITS ≡ Some text → b ≡ is_number mask (mask_of tag 124 text)
-    → mask_text tag mask ≡ (if b then Some text else None)
+pub mask_some : (tag separator mask : ℕ) (text : List ℕ) (b : Bool) → words_behind tag separator mask [] BITS ≡ Some text
+    → b ≡ is_number mask (mask_of tag separator text)
+    → mask_text tag separator mask ≡ (if b then Some text else None)
 unfolding mask_text
-mask_some tag mask text b e is = ap (mask_back tag mask) e ∙ ap (λ (x : Bool). if x then Some text else None) (sym is)
+mask_some tag separator mask text b e is = ap (mask_back tag separator mask) e ∙ ap (λ (x : Bool). if x then Some text else None) (sym is)
 
 -- ---- bit by bit
 
@@ -188,12 +193,12 @@ parted (b ∷ bs) some =
     let n : length (b ∷ bs) - 1 ≡ length bs = omega arith in
     ap (λ (s : List ℕ). b ∷ s) (sym (ap (λ (k : ℕ). take k bs) n ∙ take_all (length bs) bs (omega arith)))
 
-module _ (tag mask : ℕ) (text rest : List ℕ) where
-  pub bits_end : length rest < 1 → words_behind tag mask text rest ≡ Some text
+module _ (tag separator mask : ℕ) (text rest : List ℕ) where
+  pub bits_end : length rest < 1 → words_behind tag separator mask text rest ≡ Some text
   unfolding words_behind
   bits_end none = by rest none
     where
-      by : (r : List ℕ) → length r < 1 → words_behind tag mask text r ≡ Some text
+      by : (r : List ℕ) → length r < 1 → words_behind tag separator mask text r ≡ Some text
       by [] none = refl
       by (b ∷ bs) none = absurd (omega (arith, none))
 
@@ -206,19 +211,20 @@ module _ (tag mask : ℕ) (text rest : List ℕ) where
 
     -- the first bit, if the mask has it or not, and it has a word or not
     one_bit : (b : Bool) (o : Option (List ℕ)) → has_bit mask first ≡ b → word_of tag first ≡ o
-        → words_behind tag mask text rest
-        ≡ (if b then option_and_then (λ word. words_behind tag mask (behind text word) others) o else words_behind tag mask text others)
+        → words_behind tag separator mask text rest
+        ≡ (if b then option_and_then (λ word. words_behind tag separator mask (behind separator text word) others) o
+        else words_behind tag separator mask text others)
     unfolding words_behind
-    one_bit b o is e = ap (words_behind tag mask text) (parted rest some)
-        ∙ ap₂ (λ (x : Bool) (y : Option (List ℕ)). if x then option_and_then (λ word. words_behind tag mask (behind text word) others) y
-        else words_behind tag mask text others) is e
+    one_bit b o is e = ap (words_behind tag separator mask text) (parted rest some)
+        ∙ ap₂ (λ (x : Bool) (y : Option (List ℕ)). if x then option_and_then (λ word. words_behind tag separator mask (behind separator text word) others) y
+        else words_behind tag separator mask text others) is e
 
-    pub bit_passed : has_bit mask first ≡ false → words_behind tag mask text rest ≡ words_behind tag mask text others
+    pub bit_passed : has_bit mask first ≡ false → words_behind tag separator mask text rest ≡ words_behind tag separator mask text others
     bit_passed is = one_bit false (word_of tag first) is refl
 
     pub bit_with_word : (word : List ℕ) → has_bit mask first ≡ true → word_of tag first ≡ Some word
-        → words_behind tag mask text rest ≡ words_behind tag mask (behind text word) others
+        → words_behind tag separator mask text rest ≡ words_behind tag separator mask (behind separator text word) others
     bit_with_word word is e = one_bit true (Some word) is e
 
-    pub bit_without : has_bit mask first ≡ true → word_of tag first ≡ None → words_behind tag mask text rest ≡ None
+    pub bit_without : has_bit mask first ≡ true → word_of tag first ≡ None → words_behind tag separator mask text rest ≡ None
     bit_without is e = one_bit true None is e

@@ -47,7 +47,7 @@ word_of_tag Names tag = tag_word tag
 
 abbrev pub value_words : ℕ → TtlvType → List ℕ → Option (List ℕ)
 value_words tag Enumeration content = word_of tag (from_be_bytes w32 content)
-value_words tag Integer content = mask_text tag (from_be_bytes w32 content)
+value_words tag Integer content = mask_text tag 124 (from_be_bytes w32 content)
 value_words tag DateTime content = date_text (from_be_bytes w64 content)
 value_words tag typ content = None
 

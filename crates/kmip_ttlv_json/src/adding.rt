@@ -175,8 +175,8 @@ fn push_truth<A: Allocator>(
     }
 }
 
-// The number that 32 bits are for a whole number, if it is an Integer.
-fn integer_of(whole: Whole) -> Option<u32>
+/// The number that 32 bits are for a whole number, if it is an Integer.
+pub fn integer_of(whole: Whole) -> Option<u32>
     ensures { result ≡ integer_of whole.minus whole.size }
 {
     if whole.minus {
@@ -206,8 +206,8 @@ fn long_of(whole: Whole) -> Option<u64>
     }
 }
 
-// The number of an Interval.
-fn interval_of(whole: Whole) -> Option<u32>
+/// The number of an Interval.
+pub fn interval_of(whole: Whole) -> Option<u32>
     ensures { result ≡ interval_of whole.minus whole.size }
 {
     if whole.minus || whole.size >= 1 << 32 {

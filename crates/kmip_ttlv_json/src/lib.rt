@@ -8,6 +8,7 @@
 //! that are taken, `seen` has what a value is seen as, `number` which numbers there are, and which are whole, `members` what the members of
 //! an item stand for, `adding` the bytes of items, `nesting` whether it nests too deep, `places` where a token begins, and `failure` why a
 //! text is no message. The words in it are those of `kmip_words`.
+//! `values` has what the XML of values has in common with their JSON.
 //! The tree that JSON is, is defined in specs/JsonTrees, and where it is none in specs/Spots.
 #![tactic(auto)]
 
@@ -25,6 +26,7 @@ mod quoted;
 mod read;
 mod seen;
 mod tokens;
+pub mod values;
 mod worded;
 
 pub use failure::{BadMember, JsonError};

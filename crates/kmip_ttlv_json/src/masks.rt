@@ -1,6 +1,6 @@
 //! The words of masks.
 
-ghost use Rattle.std.specs.Prelude.{◌≡◌, [], IfOk, OnOk, option_map, string_bytes};
+ghost use Rattle.std.specs.Prelude.{◌≡◌, ◌<◌, [], IfOk, OnOk, option_map, string_bytes};
 ghost use Rattle.kmip_ttlv_json.specs.declared.masks.TheConstants.{BITS as the_bits};
 ghost use Rattle.kmip_words.specs.Words.{is_number, mask_of};
 ghost use Rattle.kmip_ttlv_json.specs.Masks.{has_bit, behind, words_behind, mask_text};
@@ -52,12 +52,17 @@ fn has_bit(mask: u32, bit: u32) -> bool
     mask & bit > 0
 }
 
-// Adds a word behind others, with a bar between them.
-fn push_behind<A: Allocator>(text: &mut String<A>, word: &str) -> Result<(), AllocError>
-    ensures { OnOk result (string_bytes text.new ≡ behind (string_bytes text.old) word.now) }
+// Adds a word behind others, with a separator between them.
+fn push_behind<A: Allocator>(
+    text: &mut String<A>,
+    separator: char,
+    word: &str,
+) -> Result<(), AllocError>
+    requires { separator < 128 }
+    ensures { OnOk result (string_bytes text.new ≡ behind separator (string_bytes text.old) word.now) }
 {
     if !text.is_empty() {
-        text.push_str("|")?;
+        text.push(separator)?;
     }
     text.push_str(word)
 }
@@ -67,16 +72,18 @@ fn words_behind<A: Allocator>(
     alloc: A,
     words: &Words<A>,
     tag: TtlvTag,
+    separator: char,
     mask: u32,
 ) -> Result<Option<String<A>>, AllocError>
-    ensures { IfOk result (λ text. option_map (λ s. string_bytes s) text ≡ words_behind tag mask [] the_bits) }
+    requires { separator < 128 }
+    ensures { IfOk result (λ text. option_map (λ s. string_bytes s) text ≡ words_behind tag separator mask [] the_bits) }
 {
     let mut text = String::new(alloc);
     let mut rest: &[u32] = &BITS;
     'bits: while let [bit, more @ ..] = rest {
         if has_bit(mask, *bit) {
             match words.value_word(tag, *bit) {
-                Some(word) => push_behind(&mut text, word)?,
+                Some(word) => push_behind(&mut text, separator, word)?,
                 None => return Ok(None),
             }
         }
@@ -86,30 +93,40 @@ fn words_behind<A: Allocator>(
 }
 
 // Whether a text is read as a mask.
-fn is_read<A: Allocator>(words: &Words<A>, tag: TtlvTag, mask: u32, text: &str) -> bool
-    ensures { result ≡ is_number mask (mask_of tag 124 text.now) }
+fn is_read<A: Allocator>(
+    words: &Words<A>,
+    tag: TtlvTag,
+    separator: char,
+    mask: u32,
+    text: &str,
+) -> bool
+    requires { separator < 128 }
+    ensures { result ≡ is_number mask (mask_of tag separator text.now) }
 {
-    match words.mask_of(tag, '|', text) {
+    match words.mask_of(tag, separator, text) {
         Some(read) => read == mask,
         None => false,
     }
 }
 
-/// The words of a mask's bits with `|` between them, from the lowest bit on, if each has one, and the words are read as the mask.
+/// The words of a mask's bits with this byte between them, from the lowest bit on, if each has one, and the words are read as the mask.
+/// JSON has `|` between them, XML a space.
 ///
 /// The only error is out of memory.
 pub fn mask_text<A: Allocator>(
     alloc: A,
     words: &Words<A>,
     tag: TtlvTag,
+    separator: char,
     mask: u32,
 ) -> Result<Option<String<A>>, AllocError>
-    ensures { IfOk result (λ text. option_map (λ s. string_bytes s) text ≡ mask_text tag mask) }
+    requires { separator < 128 }
+    ensures { IfOk result (λ text. option_map (λ s. string_bytes s) text ≡ mask_text tag separator mask) }
 {
-    let Some(text) = words_behind(alloc, words, tag, mask)? else {
+    let Some(text) = words_behind(alloc, words, tag, separator, mask)? else {
         return Ok(None);
     };
-    if is_read(words, tag, mask, text.as_str()) {
+    if is_read(words, tag, separator, mask, text.as_str()) {
         Ok(Some(text))
     } else {
         Ok(None)

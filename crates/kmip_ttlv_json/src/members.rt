@@ -30,7 +30,7 @@ pub fn behind_0x(text: &str) -> Option<&[u8]>
     }
 }
 
-/// The bytes of hexadecimal digits of either case.
+/// The bytes of hexadecimal digits of either case. The only error is out of memory.
 pub fn bytes_of<A: Allocator>(alloc: A, digits: &[u8]) -> Result<Option<Vec<u8, A>>, AllocError>
     ensures { IfOk result (λ o. option_map (λ v. v.items) o ≡ bytes_of digits.now) }
 {
@@ -41,8 +41,8 @@ pub fn bytes_of<A: Allocator>(alloc: A, digits: &[u8]) -> Result<Option<Vec<u8, 
     }
 }
 
-// The type of a name.
-fn type_named(name: &str) -> Option<TtlvType>
+/// The type of a name.
+pub fn type_named(name: &str) -> Option<TtlvType>
     ensures { result ≡ type_named name.now }
 {
     match name {
@@ -69,7 +69,7 @@ fn tag_of_digits(digits: &[u8]) -> Option<TtlvTag>
     Some(TtlvTag::from(bytes))
 }
 
-/// The tag of a text, if there is one: by its digits or its word.
+/// The tag of a text, if there is one: by its digits or its word. The only error is out of memory.
 pub fn tag_of<A: Allocator + Copy>(
     alloc: A,
     words: &mut LateWords<A>,

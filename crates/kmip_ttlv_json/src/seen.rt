@@ -5,7 +5,7 @@ ghost use Rattle.kmip_ttlv_json.specs.Events.{text_in, items_at, item_at};
 
 use crate::failure::{BadItem, BadMember};
 
-/// A whole number of JSON.
+/// A whole number.
 #[derive(Clone, Copy)]
 pub struct Whole {
     /// Whether a minus sign stands in front.

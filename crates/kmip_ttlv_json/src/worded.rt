@@ -115,7 +115,7 @@ fn push_integer<S: TextSink, A: Allocator>(
     ensures ok { OnOk result (S.adds out.old (worded_text (value_words tag AnInteger content.now) (value_number tag AnInteger content.now) AnInteger content.now) out.new) }
     ensures err { OnErr result (S.breaks out.old (worded_text (value_words tag AnInteger content.now) (value_number tag AnInteger content.now) AnInteger content.now) out.new) }
 {
-    match mask_text(alloc, words, tag, four_bytes(content))? {
+    match mask_text(alloc, words, tag, '|', four_bytes(content))? {
         Some(text) => push_quoted(out, text.as_bytes()),
         None => push_wordless(out, words, tag, content),
     }
