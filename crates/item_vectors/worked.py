@@ -128,9 +128,27 @@ unwritten = [
     (item(*around(("420094", X, "\uffff"))).hex(), "NotHeld { offset: 16 }"),
 ]
 
+# documents, of lines of digits; a line of which no XML is written is passed
+documents = [
+    ("<KMIP>\n</KMIP>\n", []),
+    ("<KMIP>\n<BatchItem/>\n</KMIP>\n", [item(*around())]),
+    ("<KMIP>\n" + wrapped(header) + "\n<BatchItem/>\n" + wrapped('<BatchCount type="Integer" value="7"/>') + "\n</KMIP>\n",
+     [item(*around(version)), item(*around()), item(*around(("42000D", I, 7)))]),
+    ("<KMIP>\n<BatchItem/>\n" + wrapped(header) + "\n</KMIP>\n",
+     [item(*around()), b"\0", item(*around(("420094", X, "\x01"))), item(*around(version))]),
+    ('<KMIP>\n<TTLV tag="0x540001"><TTLV tag="0x54ABCD"/></TTLV>\n<BatchItem/>\n</KMIP>\n', [item("540001", S, [("54ABCD", S, [])]), item(*around())]),
+]
+# a document that is read without words, so that no maps are made
+plain = ("<KMIP>\n" + '<TTLV tag="0x540001"><TTLV tag="0x540002" type="TextString" value="a"/></TTLV>\n' * 2 + "</KMIP>\n",
+         [item("540001", S, [("540002", X, "a")])] * 2)
+
 
 def quoted(text):
     return '"' + "".join(c if c.isascii() and c.isprintable() and c not in '"\\' else "\\n" if c == "\n" else "\\" + c if c in '"\\' else f"\\u{{{ord(c):X}}}" for c in text) + '"'
+
+
+def digit_lines(messages):
+    return quoted("".join(message.hex() + "\n" for message in messages))
 
 
 if __name__ == "__main__":
@@ -147,7 +165,11 @@ if __name__ == "__main__":
     lines += ["];", "", "/// The digits of bytes of which no XML is written, and why.", f"pub const UNWRITTEN: [(&str, WriteError); {len(unwritten)}] = ["]
     for digits, error in unwritten:
         lines += ["    (", f"        \"{digits}\",", f"        WriteError::{error},", "    ),"]
-    lines += ["];", ""]
+    lines += ["];", "", "/// Documents, and a line of digits for each of their messages; a line of which no XML is written is passed.", f"pub const DOCUMENTS: [(&str, &str); {len(documents)}] = ["]
+    for text, messages in documents:
+        lines += ["    (", f"        {quoted(text)},", "        " + digit_lines(messages) + ",", "    ),"]
+    lines += ["];", "", "/// A document that is read without words, and the lines of its messages.", "pub const PLAIN: (&str, &str) = (",
+              f"    {quoted(plain[0])},", f"    {digit_lines(plain[1])},", ");", ""]
     path = os.path.join(os.path.dirname(os.path.abspath(__file__)), "src/rows.rt")
     if sys.argv[1:] != ["--check"]:
         with open(path, "w", encoding="utf-8") as it:

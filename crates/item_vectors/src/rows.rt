@@ -469,3 +469,27 @@ pub const UNWRITTEN: [(&str, WriteError); 4] = [
         WriteError::NotHeld { offset: 16 },
     ),
 ];
+
+/// Documents, and a line of digits for each of their messages; a line of which no XML is written is passed.
+pub const DOCUMENTS: [(&str, &str); 5] = [
+    ("<KMIP>\n</KMIP>\n", ""),
+    ("<KMIP>\n<BatchItem/>\n</KMIP>\n", "42000f0100000000\n"),
+    (
+        "<KMIP>\n<BatchItem><ProtocolVersion><ProtocolVersionMajor type=\"Integer\" value=\"1\"/><ProtocolVersionMinor type=\"Integer\" value=\"0\"/></ProtocolVersion></BatchItem>\n<BatchItem/>\n<BatchItem><BatchCount type=\"Integer\" value=\"7\"/></BatchItem>\n</KMIP>\n",
+        "42000f0100000028420069010000002042006a0200000004000000010000000042006b02000000040000000000000000\n42000f0100000000\n42000f010000001042000d02000000040000000700000000\n",
+    ),
+    (
+        "<KMIP>\n<BatchItem/>\n<BatchItem><ProtocolVersion><ProtocolVersionMajor type=\"Integer\" value=\"1\"/><ProtocolVersionMinor type=\"Integer\" value=\"0\"/></ProtocolVersion></BatchItem>\n</KMIP>\n",
+        "42000f0100000000\n00\n42000f010000001042009407000000010100000000000000\n42000f0100000028420069010000002042006a0200000004000000010000000042006b02000000040000000000000000\n",
+    ),
+    (
+        "<KMIP>\n<TTLV tag=\"0x540001\"><TTLV tag=\"0x54ABCD\"/></TTLV>\n<BatchItem/>\n</KMIP>\n",
+        "540001010000000854abcd0100000000\n42000f0100000000\n",
+    ),
+];
+
+/// A document that is read without words, and the lines of its messages.
+pub const PLAIN: (&str, &str) = (
+    "<KMIP>\n<TTLV tag=\"0x540001\"><TTLV tag=\"0x540002\" type=\"TextString\" value=\"a\"/></TTLV>\n<TTLV tag=\"0x540001\"><TTLV tag=\"0x540002\" type=\"TextString\" value=\"a\"/></TTLV>\n</KMIP>\n",
+    "540001010000001054000207000000016100000000000000\n540001010000001054000207000000016100000000000000\n",
+);

@@ -101,10 +101,9 @@ lines_grow lent more (x ∷ xs) h =
     ap (λ (l : Line). l ∷ map (line_of (lent ++ more)) xs) (line_grows lent more x h.0)
     ∙ ap (λ (ls : List Line). line_of lent x ∷ ls) (lines_grow lent more xs h.1)
 
-all_push : (lent : List ℕ) (xs : List GivenItem) (x : GivenItem) → AllByRecursion (IsGood lent) xs → IsGood lent x
-    → AllByRecursion (IsGood lent) (xs ++ x ∷ [])
-all_push lent [] x h g = (g, tt)
-all_push lent (y ∷ ys) x h g = (h.0, all_push lent ys x h.1 g)
+pub all_push : {X : Type 0} (P : X → Type 0) (xs : List X) (x : X) → AllByRecursion P xs → P x → AllByRecursion P (xs ++ x ∷ [])
+all_push P [] x h g = (g, tt)
+all_push P (y ∷ ys) x h g = (h.0, all_push P ys x h.1 g)
 
 -- ---- one more element
 
@@ -130,7 +129,7 @@ module _ {es : List Flat} {items more_items : List GivenItem} {lent more_lent : 
   pub given_more : AreGiven (es ++ f ∷ []) more_items more_lent
   given_more = record {
     are = made ∙ ap (λ (xs : List GivenItem). map right (map (line_of more_lent) xs)) (sym adds.all);
-    good = subst (AllByRecursion (IsGood more_lent)) (sym adds.all) (all_push more_lent items adds.one goods adds.good);
+    good = subst (AllByRecursion (IsGood more_lent)) (sym adds.all) (all_push (IsGood more_lent) items adds.one goods adds.good);
     filled = omega (arith, given.filled, ap length adds.bytes, length-append lent item.content);
   }
 

@@ -1,6 +1,9 @@
 pub mod Tags
+pub mod Parsing
 pub mod Sounding
 pub mod Giving
 pub mod Written
 pub mod Concluding
 pub mod ReadingBack
+pub mod Holding
+pub mod Offsets

@@ -1,21 +1,17 @@
 -- Whole numbers in decimal digits.
-use Rattle.std.specs.Prelude.{ℕ, ◌+◌, ◌-◌, ◌*◌, ◌^◌, ◌==◌, ◌&&◌, nat_lt, nat_le, Bool, true, false, List, [], ◌∷◌, if◌then◌else◌}
-use Rattle.std.specs.Prelude.{Option, Some, None, option_map, option_and_then}
-use Rattle.kmip_ttlv_xml.specs.declared.decimal.Whole.{Whole}
+use Rattle.std.specs.Prelude.{ℕ, ◌-◌, ◌^◌, ◌==◌, ◌&&◌, nat_lt, nat_le, Bool, true, false, List, [], ◌∷◌, length, if◌then◌else◌}
+use Rattle.std.specs.Prelude.{Option, Some, None, option_map}
+use Rattle.std.specs.Str.{all_ascii_digits}
+use Rattle.std.specs.Str.Parse.{digits_value}
+use Rattle.kmip_ttlv_json.specs.declared.seen.Whole.{Whole}
 
--- a number with one more digit behind it, if it has 64 bits
-unfoldable pub with_digit : ℕ → ℕ → Option ℕ
-with_digit n c = if nat_le 48 c && nat_le c 57 && nat_lt (n * 10 + (c - 48)) (2 ^ 64) then Some (n * 10 + (c - 48)) else None
+-- one digit or more, whose number has 64 bits
+abbrev pub is_size : List ℕ → Bool
+is_size digits = all_ascii_digits digits && (nat_lt 0 (length digits) && nat_lt (digits_value 10 digits) (2 ^ 64))
 
--- the number of digits behind those of another
-abbrev pub digits_behind : ℕ → List ℕ → Option ℕ
-digits_behind n [] = Some n
-digits_behind n (c ∷ cs) = option_and_then (λ m. digits_behind m cs) (with_digit n c)
-
--- the number of one digit or more
+-- the number of such digits
 abbrev pub size_of : List ℕ → Option ℕ
-size_of [] = None
-size_of (c ∷ cs) = digits_behind 0 (c ∷ cs)
+size_of digits = if is_size digits then Some (digits_value 10 digits) else None
 
 -- a whole number with a sign or none
 abbrev pub signed : Bool → Option ℕ → Option Whole

@@ -13,11 +13,11 @@ use Rattle.kmip_words.specs.Words.{number_of, tag_of_word, mask_of}
 use Rattle.kmip_words.specs.Rows.{first_of}
 use Rattle.kmip_words.specs.Dates.{date_of}
 use Rattle.kmip_ttlv_write.specs.GivenItems.{Line, line}
+use Rattle.kmip_ttlv_json.specs.declared.seen.Whole.{Whole}
 use Rattle.kmip_ttlv_json.specs.JsonTrees.{behind_0x, bytes_of, type_named, tag_or_word, integer_of, interval_of, valid_in}
 use Rattle.plain_xml.specs.Elements.{Pair, Flat}
 use Rattle.kmip_ttlv_xml.specs.declared.failure.BadElement.{BadElement}
 use Rattle.kmip_ttlv_xml.specs.declared.failure.BadElement.TheVariants.{Attributes, Tag, Typ, Value, Long}
-use Rattle.kmip_ttlv_xml.specs.declared.decimal.Whole.{Whole}
 use Rattle.kmip_ttlv_xml.specs.Decimals.{whole_of, long_of}
 
 -- ---- the bytes that the text of a value stands for

@@ -1,5 +1,5 @@
 -- What reading messages back from XML comes to.
-use Rattle.std.specs.Prelude.{◌≡◌, ℕ, ◌+◌, ◌<◌, ◌^◌, List, [], ◌∷◌, map, length, drop, take, Result, Ok, Err, if◌then◌else◌}
+use Rattle.std.specs.Prelude.{◌≡◌, ℕ, ◌+◌, ◌<◌, ◌^◌, List, [], ◌∷◌, map, length, drop, take, codes, Result, Ok, Err, if◌then◌else◌}
 use Rattle.std.specs.Str.{chars}
 use Rattle.kmip_ttlv_types.specs.Trees.{Trees, AreTreeTexts, bytes_below}
 use Rattle.kmip_ttlv_write.specs.declared.given.GivenItem.{GivenItem}
@@ -7,12 +7,15 @@ use Rattle.kmip_ttlv_write.specs.declared.given.BadKind.{BadKind}
 use Rattle.kmip_ttlv_write.specs.declared.given.BadKind.TheVariants.{NotInside, TooLong as ItemTooLong}
 use Rattle.kmip_ttlv_write.specs.GivenItems.{Line, lines_below, line_of}
 use Rattle.kmip_ttlv_write.specs.FlatWrites.{IsFirstBad}
+use Rattle.plain_xml.specs.declared.failure.Flaw.{Flaw}
+use Rattle.plain_xml.specs.declared.failure.Flaw.TheVariants as flaw
 use Rattle.plain_xml.specs.declared.failure.XmlError.TheVariants.{Malformed}
 use Rattle.plain_xml.specs.Elements.{Flat, Tree as Element, flat}
 use Rattle.plain_xml.specs.Forms.{IsXmlOf}
 use Rattle.plain_xml.specs.Readings.{FailsFirst}
 use Rattle.plain_xml.specs.Places.{element_offset}
 use Rattle.kmip_ttlv_xml.specs.declared.failure.BadElement.{BadElement}
+use Rattle.kmip_ttlv_xml.specs.declared.failure.BadElement.TheVariants.{Attributes, Tag, Typ, Value, Long}
 use Rattle.kmip_ttlv_xml.specs.declared.failure.XmlError.{XmlError}
 use Rattle.kmip_ttlv_xml.specs.declared.failure.XmlError.TheVariants.{NotXml, NotItem, InLeaf, TooLong, OutOfMemory}
 use Rattle.kmip_ttlv_xml.specs.XmlItems.{line_in, items_in, is_wrapper}
@@ -80,3 +83,38 @@ FailsToRead text OutOfMemory = Unit {0}
 abbrev pub IsNoMemory : XmlError → Type 0
 IsNoMemory OutOfMemory = Unit {0}
 IsNoMemory _ = ⊥
+
+-- what is wrong with a text that is no XML, in words
+abbrev pub flaw_words : Flaw → List ℕ
+flaw_words flaw.Character = codes "not XML: a character that XML can't hold"
+flaw_words flaw.Unfinished = codes "not XML: the text ends too early"
+flaw_words flaw.Text = codes "not XML here: text in an element"
+flaw_words flaw.Declaration = codes "not XML here: a DOCTYPE or a CDATA section"
+flaw_words flaw.Comment = codes "not XML: two hyphens in a comment"
+flaw_words flaw.Tag = codes "not XML: a character that can't stand here in a tag"
+flaw_words flaw.Value = codes "not XML: a character that can't stand in a value"
+flaw_words flaw.Reference = codes "not XML here: & without one of the five entities or a character's number"
+flaw_words flaw.Repeated = codes "not XML: an attribute is given twice"
+flaw_words flaw.TooMany = codes "more attributes than an item can have"
+flaw_words flaw.EndTag = codes "not XML: another element is open"
+flaw_words flaw.SecondRoot = codes "not XML: a second root"
+
+-- what is wrong, in words
+abbrev pub error_words : XmlError → List ℕ
+error_words (NotXml flaw offset) = flaw_words flaw
+error_words (NotItem Attributes offset) = codes "the attributes are not those of an item"
+error_words (NotItem Tag offset) = codes "the name is no tag's"
+error_words (NotItem Typ offset) = codes "the name of a type is unknown"
+error_words (NotItem Value offset) = codes "a value is none of its type"
+error_words (NotItem Long offset) = codes "a length has more than four bytes"
+error_words (InLeaf offset) = codes "an element in one that is no Structure"
+error_words (TooLong offset) = codes "a length has more than four bytes"
+error_words OutOfMemory = codes "out of memory"
+
+-- where it is
+abbrev pub error_offset : XmlError → ℕ
+error_offset (NotXml flaw offset) = offset
+error_offset (NotItem bad offset) = offset
+error_offset (InLeaf offset) = offset
+error_offset (TooLong offset) = offset
+error_offset OutOfMemory = 0

@@ -9,7 +9,8 @@ ghost use Rattle.kmip_ttlv_xml.specs.GivenElements.{Gives};
 
 use crate::attribute::{are_known, attribute};
 use crate::failure::BadElement;
-use crate::value::{content_of, tag_of, type_named};
+use crate::value::content_of;
+use kmip_ttlv_json::values::{tag_of, type_named};
 use kmip_ttlv_types::places::is_valid;
 use kmip_ttlv_types::{TtlvTag, TtlvType};
 use kmip_words::LateWords;
@@ -106,7 +107,7 @@ fn tag_met<A: Allocator + Copy>(
     match tag {
         Some(tag) => {
             if name == "TTLV" {
-                tag_of(alloc, words, tag)
+                tag_of(alloc, words, Some(tag))
             } else {
                 Ok(None)
             }

@@ -2,6 +2,7 @@
 
 ghost use Rattle.std.specs.Prelude.{◌≡◌};
 ghost use Rattle.kmip_ttlv_xml.specs.declared.failure.XmlError.TheVariants.{OutOfMemory};
+ghost use Rattle.kmip_ttlv_xml.specs.XmlReadings.{flaw_words, error_words, error_offset};
 ghost use Rattle.kmip_ttlv_xml.specs.declared.failure.WriteError.TheVariants.{OutOfMemory as NoMemoryToWrite};
 
 use kmip_ttlv_items::Fault;
@@ -37,6 +38,61 @@ pub enum XmlError {
     TooLong { offset: usize },
     /// An allocation failed, so nothing is said of the text.
     OutOfMemory,
+}
+
+// What is wrong with a text that is no XML, in words.
+fn flaw_words(flaw: Flaw) -> &'static str
+    ensures { result.now ≡ flaw_words flaw }
+{
+    match flaw {
+        Flaw::Character => "not XML: a character that XML can't hold",
+        Flaw::Unfinished => "not XML: the text ends too early",
+        Flaw::Text => "not XML here: text in an element",
+        Flaw::Declaration => "not XML here: a DOCTYPE or a CDATA section",
+        Flaw::Comment => "not XML: two hyphens in a comment",
+        Flaw::Tag => "not XML: a character that can't stand here in a tag",
+        Flaw::Value => "not XML: a character that can't stand in a value",
+        Flaw::Reference =>
+            "not XML here: & without one of the five entities or a character's number",
+        Flaw::Repeated => "not XML: an attribute is given twice",
+        Flaw::TooMany => "more attributes than an item can have",
+        Flaw::EndTag => "not XML: another element is open",
+        Flaw::SecondRoot => "not XML: a second root",
+    }
+}
+
+impl XmlError {
+    /// What is wrong, in words, without the place.
+    pub fn words(self) -> &'static str
+        ensures { result.now ≡ error_words self }
+    {
+        match self {
+            XmlError::NotXml { flaw, .. } => flaw_words(flaw),
+            XmlError::NotItem { bad, .. } => match bad {
+                BadElement::Attributes => "the attributes are not those of an item",
+                BadElement::Tag => "the name is no tag's",
+                BadElement::Typ => "the name of a type is unknown",
+                BadElement::Value => "a value is none of its type",
+                BadElement::Long => "a length has more than four bytes",
+            },
+            XmlError::InLeaf { .. } => "an element in one that is no Structure",
+            XmlError::TooLong { .. } => "a length has more than four bytes",
+            XmlError::OutOfMemory => "out of memory",
+        }
+    }
+
+    /// Where it is, in bytes from the text's first: 0 if memory ran out.
+    pub fn offset(self) -> usize
+        ensures { result ≡ error_offset self }
+    {
+        match self {
+            XmlError::NotXml { offset, .. }
+            | XmlError::NotItem { offset, .. }
+            | XmlError::InLeaf { offset }
+            | XmlError::TooLong { offset } => offset,
+            XmlError::OutOfMemory => 0,
+        }
+    }
 }
 
 impl From<AllocError> for XmlError {

@@ -1,11 +1,13 @@
 //! A message written as XML, and read back.
 
-ghost use Rattle.std.specs.Prelude.{◌≡◌, IfOk, IfErr, OnOk, OnErr, string_bytes};
-ghost use Rattle.kmip_ttlv_items.specs.FoundItems.{Lists};
+ghost use Rattle.std.specs.Prelude.{◌≡◌, None, IfOk, IfErr, OnOk, OnErr, string_bytes};
+ghost use Rattle.std.specs.List.{AllByRecursion};
 ghost use Rattle.kmip_ttlv_items.specs.ItemWalks.{Ended};
-ghost use Rattle.kmip_ttlv_xml.specs.XmlWritings.{IsWrittenTo, IsCanonical, ReadsBack, WhyNot};
+ghost use Rattle.kmip_ttlv_json.specs.Printings.{IsThere};
+ghost use Rattle.kmip_ttlv_xml.specs.XmlWritings.{AreFound, HasUnheld, IsWrittenTo, AreCanonical, ReadsBack, WhyNot, WhyNotAdded};
 
 use crate::failure::{WriteError, XmlError};
+use crate::held::first_unheld;
 use crate::read::from_xml_by;
 use crate::text::text_of;
 use kmip_ttlv_items::{Fault, FoundItem, ItemWalk, Step};
@@ -20,9 +22,10 @@ fn finished<A: Allocator>(
     items: Vec<FoundItem, A>,
     fault: Option<Fault>,
 ) -> Result<Vec<FoundItem, A>, WriteError>
-    requires { Ended _message.now items.items fault }
-    ensures ok { IfOk result (λ v. Lists _message.now v.items) }
-    ensures err { IfErr result (WhyNot _message.now) }
+    requires ended { Ended _message.now items.items fault }
+    requires there { AllByRecursion (IsThere _message.now) items.items }
+    ensures ok { IfOk result (λ v. AreFound _message.now v.items) }
+    ensures err { IfErr result (WhyNotAdded _message.now) }
 {
     match fault {
         None => Ok(items),
@@ -32,8 +35,8 @@ fn finished<A: Allocator>(
 
 // The items of a message, or its first fault.
 fn items_of<A: Allocator + Copy>(alloc: A, message: &[u8]) -> Result<Vec<FoundItem, A>, WriteError>
-    ensures ok { IfOk result (λ v. Lists message.now v.items) }
-    ensures err { IfErr result (WhyNot message.now) }
+    ensures ok { IfOk result (λ v. AreFound message.now v.items) }
+    ensures err { IfErr result (WhyNotAdded message.now) }
 {
     let mut walk = ItemWalk::new(alloc, message);
     let mut found = Vec::new(alloc);
@@ -45,13 +48,14 @@ fn items_of<A: Allocator + Copy>(alloc: A, message: &[u8]) -> Result<Vec<FoundIt
     }
 }
 
-// The canonical bytes of a message with these items.
+// The canonical bytes of the message with these items.
 fn canonical_of<A: Allocator>(
     alloc: A,
     items: &[FoundItem],
     message: &[u8],
 ) -> Result<Vec<u8, A>, AllocError>
-    ensures { IfOk result (λ v. IsCanonical message.now items.now v.items) }
+    requires { AreFound message.now items.now }
+    ensures { IfOk result (λ v. AreCanonical message.now v.items) }
 {
     a_message_is_written_back();
     items_have_one_text();
@@ -61,8 +65,35 @@ fn canonical_of<A: Allocator>(
     }
 }
 
-// Whether a text is read as these bytes.
-fn reads_back<A: Allocator + Copy>(
+/// A message's text, which isn't read back yet, and its canonical bytes.
+#[derive(Drop)]
+pub struct Draft<A: Allocator> {
+    pub text: String<A>,
+    pub bytes: Vec<u8, A>,
+}
+
+/// The text and the canonical bytes of a message.
+pub fn draft_of<A: Allocator + Copy>(
+    alloc: A,
+    words: &Words<A>,
+    message: &[u8],
+) -> Result<Draft<A>, WriteError>
+    ensures ok { IfOk result (λ d. AreCanonical message.now d.bytes.items) }
+    ensures held { IfOk result (λ _. HasUnheld message.now None) }
+    ensures err { IfErr result (WhyNotAdded message.now) }
+{
+    let items = items_of(alloc, message)?;
+    let found = items.as_slice();
+    if let Some(offset) = first_unheld(alloc, found, message)? {
+        return Err(WriteError::NotHeld { offset });
+    }
+    let bytes = canonical_of(alloc, found, message)?;
+    let text = text_of(alloc, words, found, message)?;
+    Ok(Draft { text, bytes })
+}
+
+/// Whether a text is read as these bytes.
+pub fn reads_back<A: Allocator + Copy>(
     alloc: A,
     words: &mut LateWords<A>,
     text: &str,
@@ -116,13 +147,11 @@ pub fn push_xml_by<A: Allocator + Copy>(
     ensures unchanged { OnErr result (string_bytes out.new ≡ string_bytes out.old) }
     ensures err { IfErr result (WhyNot message.now) }
 {
-    let items = items_of(alloc, message)?;
-    let bytes = canonical_of(alloc, items.as_slice(), message)?;
-    let text = text_of(alloc, words, items.as_slice(), message)?;
-    let is_same = reads_back(alloc, late, text.as_str(), bytes.as_slice())?;
+    let draft = draft_of(alloc, words, message)?;
+    let is_same = reads_back(alloc, late, draft.text.as_str(), draft.bytes.as_slice())?;
     if !is_same {
         return Err(WriteError::NotReadBack);
     }
-    out.push_str(text.as_str())?;
+    out.push_str(draft.text.as_str())?;
     Ok(())
 }
