@@ -16,14 +16,18 @@ _ttlv() {
     esac
     [ "$COMP_CWORD" -gt 1 ] && command=${COMP_WORDS[1]}
     case $command in
-    '') options='show diag undiag check hex json from-json --help --version' ;;
-    show) options='--redact --redact=all --redact=keys --secrets --strict --raw --find --offsets --lengths --width --tag --get --color --names --input --port --help' ;;
+    '') options='show html diag undiag check hex json xml from-xml from-json diff --help --version' ;;
+    show) options='--redact --redact=all --redact=keys --secrets --strict --raw --find --offsets --lengths --bytes --width --tag --get --color --names --input --port --help' ;;
+    html) options='--redact --redact=all --redact=keys --secrets --strict --width --tag --names --input --port --help' ;;
     diag) options='--prefix --closed --unclosed --strict --input --port --help' ;;
     undiag) options='--prefix --names --help' ;;
     check) options='--kmip --allow-empty --input --port --help' ;;
-    hex) options='--input --port --help' ;;
+    hex) options='--strict --input --port --help' ;;
     json) options='--names --redact --redact=all --redact=keys --secrets --strict --input --port --help' ;;
+    xml) options='--strict --input --port --help' ;;
+    from-xml) options='--raw --help' ;;
     from-json) options='--raw --help' ;;
+    diff) options='--names --input --port --help' ;;
     esac
     if [ -z "$command" ] || [[ $word == -* ]]; then
         COMPREPLY=($(compgen -W "$options" -- "$word"))

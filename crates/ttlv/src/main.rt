@@ -1,4 +1,4 @@
-//! Prints and checks messages in TTLV: `ttlv show|diag|undiag|check|hex|json|from-json [FILE..]`.
+//! Prints and checks messages in TTLV: `ttlv show|diag|undiag|check|hex|json|from-json|diff [FILE..]`.
 //!
 //! Here the words of the command line, the files and the streams of the process are handed to
 //! `ttlv_run`, which does the rest over any reader and any writers.
@@ -69,8 +69,8 @@ fn shows_progress(rt: &HostRuntime, asked: Asked<'_>) -> bool {
             task: Task::Check { .. },
             ..
         } => false,
-        Asked::Print { .. } | Asked::Get { .. } | Asked::Find { .. } => true,
-        Asked::ReadBack { .. } | Asked::FromJson { .. } => false,
+        Asked::Print { .. } | Asked::Gather { .. } | Asked::Find { .. } => true,
+        Asked::ReadBack { .. } | Asked::FromJson { .. } | Asked::FromXml { .. } => false,
     };
     rt.stderr().is_terminal() && !(is_printing && rt.stdout().is_terminal())
 }

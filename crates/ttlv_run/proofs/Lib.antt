@@ -12,12 +12,13 @@ pub mod DigitRuns
 pub mod DumpLines
 pub mod Entries
 pub mod FrontsDecided
-pub mod Getting
+pub mod Gathering
 pub mod Good
 pub mod Groups
 pub mod Inputs
 pub mod Naming
 pub mod Packets
+pub mod Pages
 pub mod Parts
 pub mod Paths
 pub mod Plain
@@ -39,3 +40,8 @@ pub mod Written
 pub mod Finding
 pub mod Chains
 pub mod TrafficTexts
+pub mod XmlReads
+pub mod LineLists
+pub mod MarkedLines
+pub mod Comparing
+pub mod PrintedLines

@@ -1,11 +1,12 @@
 -- The value of an item in its line.
-use Rattle.std.proofs.Common.{◌≡◌, ◌≢◌, ℕ, ◌+◌, ◌-◌, Bool, List, [], ◌∷◌, ◌++◌, Option, take, drop, ap, sym, refl, arith}
+use Rattle.std.proofs.Common.{◌≡◌, ◌≢◌, ℕ, ◌+◌, ◌-◌, Bool, List, [], ◌∷◌, ◌++◌, Option, take, drop, ap, sym, refl, ◌∙◌, arith}
 use Rattle.std.specs.Prelude.{codes}
 use Rattle.kmip_ttlv_types.specs.{declared.typ.TtlvType.TtlvType, declared.typ.TtlvType.TheVariants.Structure, Places.length_at}
+use Rattle.kmip_ttlv_util.specs.Pretty.{value_shown}
 use Rattle.kmip_ttlv_items.specs.{declared.found.FoundItem.FoundItem, ItemWalks.content_at}
 use Rattle.ttlv_run.specs.declared.{job.Look.Look, job.Values.Values, lines.Reach.Reach}
 use Rattle.ttlv_run.specs.Attributes.{naming_tag}
-use Rattle.ttlv_run.specs.Texts.{Names, value_text, paint, painted_value, values_shown, value_part, bare_text, bare_line}
+use Rattle.ttlv_run.specs.Texts.{Names, value_text, paint, painted_value, values_shown, value_part, bare_text, bare_line, content_bytes, own_bytes}
 use Rattle.kmip_ttlv_types.specs.declared.typ.TtlvType.TheVariants.{Integer, LongInteger, BigInteger, Enumeration, Boolean, TextString, ByteString}
 use Rattle.kmip_ttlv_types.specs.declared.typ.TtlvType.TheVariants.{DateTime, Interval}
 
@@ -64,3 +65,28 @@ pub bare_line_is : (names : Names) (look : Look) (r : Reach) (bytes : List ℕ) 
 unfolding bare_line
 bare_line_is names look r bytes i values tag content v t is = rw (v, t) (ap (λ (s : List ℕ). s ++ 10 ∷ [])
     (bare_same names (values_shown look r.secret i) look.width (naming_tag r.attribute i) i.typ content (content_at bytes i.offset) is))
+
+-- ---- bytes
+
+-- a structure's are the same whatever is taken for its content
+content_same : (width : Option ℕ) (typ : TtlvType) (a b : List ℕ) → (typ ≢ Structure → a ≡ b) → content_bytes width typ a ≡ content_bytes width typ b
+content_same width Structure a b h = refl
+content_same width Integer a b h = ap (content_bytes width Integer) (h (λ is. absurd (cc)))
+content_same width LongInteger a b h = ap (content_bytes width LongInteger) (h (λ is. absurd (cc)))
+content_same width BigInteger a b h = ap (content_bytes width BigInteger) (h (λ is. absurd (cc)))
+content_same width Enumeration a b h = ap (content_bytes width Enumeration) (h (λ is. absurd (cc)))
+content_same width Boolean a b h = ap (content_bytes width Boolean) (h (λ is. absurd (cc)))
+content_same width TextString a b h = ap (content_bytes width TextString) (h (λ is. absurd (cc)))
+content_same width ByteString a b h = ap (content_bytes width ByteString) (h (λ is. absurd (cc)))
+content_same width DateTime a b h = ap (content_bytes width DateTime) (h (λ is. absurd (cc)))
+content_same width Interval a b h = ap (content_bytes width Interval) (h (λ is. absurd (cc)))
+
+-- the bytes of an item, by its parts as the code has them
+pub own_bytes_are : (width : Option ℕ) (bytes : List ℕ) (i : FoundItem) (header content : List ℕ)
+    → header ≡ take 8 (drop i.offset bytes) → (i.typ ≢ Structure → content ≡ content_at bytes i.offset)
+    → value_shown ByteString header ++ (content_bytes width i.typ content ++ codes "\t") ≡ own_bytes width bytes i
+unfolding own_bytes
+own_bytes_are width bytes i header content is own =
+    ap (λ (s : List ℕ). value_shown ByteString s ++ (content_bytes width i.typ content ++ codes "\t")) is
+    ∙ ap (λ (s : List ℕ). value_shown ByteString (take 8 (drop i.offset bytes)) ++ (s ++ codes "\t"))
+    (content_same width i.typ content (content_at bytes i.offset) own)

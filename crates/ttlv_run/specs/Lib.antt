@@ -2,14 +2,17 @@ pub mod AttributeNames
 pub mod Attributes
 pub mod Backs
 pub mod Columns
+pub mod Compares
 pub mod Dates
 pub mod Decoding
+pub mod Documents
+pub mod Differences
 pub mod DumpLines
 pub mod Ends
 pub mod Escapes
 pub mod Files
 pub mod Fronts
-pub mod Gets
+pub mod Gathers
 pub mod Guesses
 pub mod Headings
 pub mod Inputs
@@ -19,8 +22,10 @@ pub mod JsonValues
 pub mod Masks
 pub mod Messages
 pub mod Misreadings
+pub mod Pages
 pub mod Paths
 pub mod Prints
+pub mod Products
 pub mod Reasons
 pub mod Redactions
 pub mod Requests
@@ -33,5 +38,6 @@ pub mod Texts
 pub mod Tools
 pub mod Finds
 pub mod Kinds
+pub mod XmlTexts
 pub mod Peers
 pub mod Traffic

@@ -7,13 +7,14 @@ use Rattle.kmip_ttlv_items.specs.ItemWalks.{content_at}
 use Rattle.ttlv_run.specs.declared.job.Look.{Look}
 use Rattle.ttlv_run.specs.declared.job.Values.TheVariants.{Hidden}
 
--- how redacted lines of all items are printed, without offsets and lengths
+-- how redacted lines of all items are printed, without offsets, lengths and bytes
 abbrev pub redacted_look : Option ℕ → Bool → Look
 redacted_look width colored = record {
   values = Hidden;
   secrets_hidden = false;
   offsets = false;
   lengths = false;
+  bytes = false;
   width = width;
   colored = colored;
   only = None;

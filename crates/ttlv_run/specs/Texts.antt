@@ -1,7 +1,7 @@
 -- What is printed of one message.
 use Rattle.std.specs.Borrow.{Bor}
 use Rattle.std.specs.Prelude.{◌≡◌, ℕ, ◌+◌, ◌==◌, Bool, true, false, ◌&&◌, List, [], ◌∷◌, ◌++◌}
-use Rattle.std.specs.Prelude.{length, take, nat_lt, nat_le, slice_index}
+use Rattle.std.specs.Prelude.{length, take, drop, nat_lt, nat_le, slice_index}
 use Rattle.std.specs.Prelude.{Option, Some, None, if◌then◌else◌, codes}
 use Rattle.std.specs.List.{flat_map, list_any}
 use Rattle.std.specs.Fmt.{decimal, signed_decimal}
@@ -24,11 +24,11 @@ use Rattle.kmip_ttlv_json.specs.Printings.{secrets_of, shown_of, has_line, json_
 use Rattle.kmip_ttlv_json.specs.declared.print.Style.{Style}
 use Rattle.kmip_ttlv_json.specs.declared.print.Style.TheVariants.{Digits, Names as Named}
 use Rattle.ttlv_run.specs.declared.job.Strict.{Strict}
-use Rattle.ttlv_run.specs.declared.job.Strict.TheVariants.{Show as ShowWhole, Diagnose as DiagnoseWhole, Json as JsonWhole}
+use Rattle.ttlv_run.specs.declared.job.Strict.TheVariants.{Show as ShowWhole, Diagnose as DiagnoseWhole, Hexadecimal as HexadecimalWhole, Json as JsonWhole}
 use Rattle.ttlv_run.specs.declared.job.Task.{Task}
 use Rattle.ttlv_run.specs.declared.job.Task.TheVariants.{Show, Diagnose, Hexadecimal, Json, Whole, Check}
 use Rattle.ttlv_run.specs.declared.job.Values.{Values}
-use Rattle.ttlv_run.specs.declared.job.Values.TheVariants.{Hidden, Secret, Escaped}
+use Rattle.ttlv_run.specs.declared.job.Values.TheVariants.{Hidden, Secret, Escaped, Lasting}
 use Rattle.ttlv_run.specs.declared.job.Look.{Look}
 use Rattle.ttlv_run.specs.declared.lines.Reach.{Reach}
 use Rattle.ttlv_run.specs.Attributes.{attribute_after, naming_tag, enumeration_name}
@@ -73,6 +73,21 @@ bytes_shown (Some width) content =
     if nat_le (length content) width then value_shown ByteString content
     else value_shown ByteString (take width content) ++ count_shown (length content)
 
+-- a value differs in each run: that of a date, and what has a tag of identifiers, which stand where the secret ones do otherwise
+abbrev pub passes : Names → ℕ → TtlvType → Bool
+passes names tag DateTime = true
+passes names tag typ = names.secrets tag
+
+-- the value of a leaf that is no enumeration, if it lasts, with the names of a mask's bits, and a text escaped
+abbrev pub kept_text : Names → Option ℕ → ℕ → TtlvType → List ℕ → List ℕ
+kept_text names width tag TextString content = escape content
+kept_text names width tag Integer content = value_shown Integer content ++ names.masks tag (from_be_bytes w32 content)
+kept_text names width tag ByteString content = bytes_shown width content
+kept_text names width tag typ content = value_shown typ content
+
+unfoldable pub lasting_text : Names → Option ℕ → ℕ → TtlvType → List ℕ → List ℕ
+lasting_text names width tag typ content = if passes names tag typ then codes "<left out>" else kept_text names width tag typ content
+
 -- the value of a leaf, with the name that an enumeration's has, those of a mask's bits, and a date; nothing of a secret
 -- one; where values are hidden, of an enumeration alone; a text is escaped, if it isn't to be raw
 unfoldable pub value_text : Names → Values → Option ℕ → ℕ → TtlvType → List ℕ → List ℕ
@@ -81,6 +96,7 @@ value_text names Secret width tag typ content = hidden
 value_text names values width tag Enumeration content =
     value_shown Enumeration content ++ behind_space (enumeration_name names.values names.tags tag (from_be_bytes w32 content))
 value_text names Hidden width tag typ content = hidden
+value_text names Lasting width tag typ content = lasting_text names width tag typ content
 value_text names Escaped width tag TextString content = escape content
 value_text names values width tag Integer content =
     value_shown Integer content ++ names.masks tag (from_be_bytes w32 content)
@@ -100,6 +116,7 @@ bare_text names Secret width tag typ content = hidden
 bare_text names values width tag Enumeration content =
     name_alone (enumeration_name names.values names.tags tag (from_be_bytes w32 content)) content
 bare_text names Hidden width tag typ content = hidden
+bare_text names Lasting width tag typ content = lasting_text names width tag typ content
 bare_text names Escaped width tag TextString content = escape content
 bare_text names values width tag Integer content = signed_decimal (cast_signed w32 (from_be_bytes w32 content))
 bare_text names values width tag LongInteger content = signed_decimal (cast_signed w64 (from_be_bytes w64 content))
@@ -119,6 +136,28 @@ paint colored color text = color_part colored color ++ (text ++ color_part color
 -- a number and a tab, where such numbers are printed
 abbrev pub column_part : Bool → ℕ → List ℕ
 column_part printed number = if printed then decimal number ++ codes "\t" else []
+
+-- a string of bytes in hexadecimal, as many as may be printed, and `..` if it has more
+abbrev pub bytes_front : Option ℕ → List ℕ → List ℕ
+bytes_front None content = value_shown ByteString content
+bytes_front (Some width) content =
+    if nat_le (length content) width then value_shown ByteString content
+    else value_shown ByteString (take width content) ++ codes ".."
+
+-- that of the value of a leaf; the items in a structure have bytes of their own
+abbrev pub content_bytes : Option ℕ → TtlvType → List ℕ → List ℕ
+content_bytes width Structure content = []
+content_bytes width typ content = bytes_front width content
+
+-- the bytes of an item among those of a message, and a tab: its header, and of a leaf its value, without padding
+unfoldable pub own_bytes : Option ℕ → List ℕ → FoundItem → List ℕ
+own_bytes width bytes i =
+    value_shown ByteString (take 8 (drop i.offset bytes))
+    ++ (content_bytes width i.typ (content_at bytes i.offset) ++ codes "\t")
+
+-- the same, where they are printed
+abbrev pub bytes_part : Bool → Option ℕ → List ℕ → FoundItem → List ℕ
+bytes_part printed width bytes i = if printed then own_bytes width bytes i else []
 
 -- the beginning of an item's line, up to its tag
 unfoldable pub tag_part : Names → Bool → FoundItem → List ℕ
@@ -180,14 +219,15 @@ value_part names look r bytes i =
     painted_value look.colored i.typ
     (value_text names (values_shown look r.secret i) look.width (naming_tag r.attribute i) i.typ (content_at bytes i.offset))
 
--- the line of an item of a message that begins at an offset: the item's offset and the length of its value, if asked for, the depth,
--- tag, type and value
+-- the line of an item of a message that begins at an offset: the item's offset, the length of its value and its bytes, if asked for, the
+-- depth, tag, type and value
 unfoldable pub item_line : Names → Look → Reach → ℕ → List ℕ → FoundItem → List ℕ
 item_line names look r at bytes i =
     column_part look.offsets (at + i.offset)
     ++ (column_part look.lengths i.length
+    ++ (bytes_part look.bytes look.width bytes i
     ++ (tag_part names look.colored i
-    ++ (data_part i.typ ++ (value_part names look r bytes i ++ 10 ∷ []))))
+    ++ (data_part i.typ ++ (value_part names look r bytes i ++ 10 ∷ [])))))
 
 -- an item is passed over: tags are asked for, and neither it nor one around it has one of them, so that no item of these tags reaches
 -- behind its first byte
@@ -242,6 +282,7 @@ abbrev pub whole_text : Names → Strict → ℕ → (bytes : List ℕ) → (fou
 whole_text names (ShowWhole look) at bytes found lists = lines_from names look at bytes no_reach found
 whole_text names (DiagnoseWhole closed prefix) at bytes found lists =
     hostile prefix.now closed (length bytes) (trace closed bytes) ++ 10 ∷ []
+whole_text names HexadecimalWhole at bytes found lists = encode_upper bytes ++ 10 ∷ []
 whole_text names (JsonWhole hiding named) at bytes found lists =
     json_text (style_in named) (secrets_of hiding names.secrets) (shown_of hiding) bytes found None lists
 

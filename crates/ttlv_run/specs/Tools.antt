@@ -11,16 +11,20 @@ use Rattle.kmip_ttlv_names.specs.declared.enumerations.TheConstants.{STANDARD_VA
 use Rattle.kmip_ttlv_names.specs.declared.masks.TheConstants.{STANDARD_MASKS}
 use Rattle.kmip_ttlv_names.specs.declared.secrets.TheConstants.{STANDARD_SECRETS}
 use Rattle.kmip_ttlv_json.specs.Printings.{is_there}
+use Rattle.ttlv_run.specs.declared.compared.Pair.{Pair}
+use Rattle.ttlv_run.specs.declared.identifiers.TheConstants.{STANDARD_IDENTIFIERS}
 use Rattle.ttlv_run.specs.declared.job.Asked.{Asked}
-use Rattle.ttlv_run.specs.declared.job.Asked.TheVariants.{Print, Get, Find}
+use Rattle.ttlv_run.specs.declared.job.Asked.TheVariants.{Print, Gather, Find}
 use Rattle.ttlv_run.specs.declared.job.Encoding.{Encoding}
 use Rattle.ttlv_run.specs.declared.job.Task.{Task}
+use Rattle.ttlv_run.specs.declared.job.Product.TheVariants.{Values}
 use Rattle.ttlv_run.specs.declared.job.Strict.TheVariants.{Show as ShowWhole}
 use Rattle.ttlv_run.specs.declared.job.Task.TheVariants.{Show, Whole}
 use Rattle.ttlv_run.specs.declared.run_error.RunError.TheVariants.{UnopenedInput, NoMemory}
 use Rattle.ttlv_run.specs.declared.table.TableFault.{TableFault}
 use Rattle.ttlv_run.specs.Escapes.{escape}
 use Rattle.ttlv_run.specs.Ends.{IsDone}
+use Rattle.ttlv_run.specs.Compares.{ComparesFiles}
 use Rattle.ttlv_run.specs.Files.{At, Opening, FilesDone}
 use Rattle.ttlv_run.specs.Masks.{value_named, mask_names}
 use Rattle.ttlv_run.specs.Reasons.{error_line}
@@ -91,19 +95,23 @@ pub data LacksOne
 abbrev pub only_of : Bor (List ℕ) → Option (Bor (List ℕ))
 only_of tags = if length tags.now == 0 then None else Some tags
 
--- what is asked, with the colours and the tags of readable lines
+-- what is printed of messages, with the colours and the tags of readable lines
+abbrev pub lines_with : Task → Bool → Bor (List ℕ) → Task
+lines_with (Show look) colored tags = Show (record look { colored = colored; only = only_of tags })
+lines_with (Whole (ShowWhole look)) colored tags = Whole (ShowWhole (record look { colored = colored; only = only_of tags }))
+lines_with task colored tags = task
+
+-- so is what is asked; what is printed into memory has no colours
 abbrev pub with_look : Asked → Bool → Bor (List ℕ) → Asked
-with_look (Print (Show look) encoding) colored tags =
-    Print (Show (record look { colored = colored; only = only_of tags })) encoding
-with_look (Print (Whole (ShowWhole look)) encoding) colored tags =
-    Print (Whole (ShowWhole (record look { colored = colored; only = only_of tags }))) encoding
+with_look (Print task encoding) colored tags = Print (lines_with task colored tags) encoding
+with_look (Gather task encoding product) colored tags = Gather (lines_with task false tags) encoding product
 with_look (Find look) colored tags = Find (record look { colored = colored; only = only_of tags })
 with_look asked colored tags = asked
 
 -- what is asked of messages, for the values of a path
 abbrev pub getting : Task → Bor (List ℕ) → Encoding → Asked
-getting (Show look) path encoding = Get (Show (record look { path = Some path })) encoding
-getting (Whole (ShowWhole look)) path encoding = Get (Whole (ShowWhole (record look { path = Some path }))) encoding
+getting (Show look) path encoding = Gather (Show (record look { path = Some path })) encoding Values
+getting (Whole (ShowWhole look)) path encoding = Gather (Whole (ShowWhole (record look { path = Some path }))) encoding Values
 getting task path encoding = Print task encoding
 
 -- so is it if a path is named
@@ -172,13 +180,14 @@ InputsDone how names asked [] old new can_fail input input_left status =
     (streams can_fail input input_left old.output new.output) old.errors new.errors status
 InputsDone how names asked (f ∷ fs) old new can_fail input input_left status = FilesDone how names asked (f ∷ fs) old new status
 
--- a request is done: by the tables that it names, with its tags and colours, and nothing is reported before that; or it is refused: a
--- beginning of the line that says why is reported, and nothing is printed
+-- a request is done: by the tables that it names, with its tags and colours, and nothing is reported before that; or two files are
+-- compared, by the names of its table; or it is refused: a beginning of the line that says why is reported, and nothing is printed
 pub data RequestDone
     {T J O I : Type 0} (tables : Opening T J) (files : Opening O I) (r : Request) (terminal : Terminal) (old_tables new_tables : T)
     (old new : At O) (can_fail : Bool) (input input_left : Option (List ℕ)) (status : ℕ) : Type 0 where
   done :
       (tags secret : List ℕ) (only path : Bor (List ℕ))
+      → r.compares ≡ None
       → AreRead tables r.names r.secrets old_tables new_tables tags secret
       → bad_line secret ≡ None
       → AreTags tags r.tags.items only.now
@@ -186,6 +195,12 @@ pub data RequestDone
       → InputsDone files (names_for tags secret)
       (with_path (with_look r.asked (is_colored r.color terminal.is_one (option_map (λ s. s.now) terminal.no_color)) only) path)
       r.files.items old new can_fail input input_left status
+      → RequestDone tables files r terminal old_tables new_tables old new can_fail input input_left status
+  compared :
+      (tags : List ℕ) (pair : Pair)
+      → r.compares ≡ Some pair
+      → IsTable tables STANDARD_TAGS.now old_tables new_tables r.names tags
+      → ComparesFiles files (names_for tags STANDARD_IDENTIFIERS.now) r.asked pair old new status
       → RequestDone tables files r terminal old_tables new_tables old new can_fail input input_left status
   refused :
       (line : List ℕ)

@@ -39,7 +39,7 @@ fn is_printed(values: Values) -> bool
 {
     match values {
         Values::Hidden | Values::Secret => false,
-        Values::Escaped | Values::Raw => true,
+        Values::Escaped | Values::Lasting | Values::Raw => true,
     }
 }
 

@@ -16,7 +16,7 @@ ghost use Rattle.ttlv_run.specs.Texts.{names_of, name_alone, bare_text};
 use crate::attributes::enumeration_name;
 use crate::escape::push_escaped;
 use crate::job::{Names, Values};
-use crate::values::{number_of, push_bytes};
+use crate::values::{number_of, push_bytes, push_lasting};
 use itoa::Buffer;
 use kmip_ttlv_types::{TtlvTag, TtlvType};
 use kmip_ttlv_util::{TextSink, push_value};
@@ -115,6 +115,7 @@ pub fn push_bare<S: TextSink, A: Allocator>(
         _ if values == Values::Secret => out.push_str("<redacted>"),
         TtlvType::Enumeration => push_enumeration(out, names, tag, content),
         _ if values == Values::Hidden => out.push_str("<redacted>"),
+        _ if values == Values::Lasting => push_lasting(out, names, width, tag, typ, content),
         TtlvType::TextString if values == Values::Escaped => push_escaped(out, content),
         TtlvType::Integer => push_integer(out, content),
         TtlvType::LongInteger | TtlvType::DateTime => push_long(out, content),

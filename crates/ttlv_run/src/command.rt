@@ -10,12 +10,16 @@ const VERSION: &str = "0.1.0";
 const EXAMPLES: &str = "Examples:
   ttlv show capture.bin          what a capture says, item by item
   ttlv show --redact < log.hex   the same without values, to be kept in a log
+  ttlv html capture.bin > a.html the same as a page, with the bytes beside each item
   ttlv diag --prefix 4200 a b    one short line for each message, without values
   ttlv undiag --prefix 4200      such lines, read back
   ttlv check *.bin               the first fault of each file, if there is one
   ttlv hex capture.b64           one line of hexadecimal digits for each message
   ttlv json capture.bin          one line of JSON for each message
   ttlv from-json messages.json   the message of each value of JSON, in hexadecimal
+  ttlv xml capture.bin           the messages as one document of XML, in the form of OASIS's test cases
+  ttlv from-xml test-case.xml    the messages of such a document, in hexadecimal
+  ttlv diff run1.bin run2.bin    the messages that differ, but for dates and identifiers
   ttlv show --find server.log    the messages within anything else
   ttlv show capture.pcapng       the messages that TCP carries in a packet capture
   tcpdump -xr a.pcap | ttlv show the same of what tcpdump -x, -X, -xx or -XX prints
@@ -44,6 +48,8 @@ const ENCODINGS: [&str; 11] = [
 #[derive(Clone, Copy)]
 enum Part {
     Files,
+    File,
+    Two,
     Input,
     Port,
     Prefix,
@@ -51,6 +57,7 @@ enum Part {
     Named,
     Offsets,
     Lengths,
+    Bytes,
     Find,
     Width,
     Tag,
@@ -60,7 +67,7 @@ enum Part {
     Secrets,
     Strict,
     Raw,
-    Bytes,
+    RawBytes,
     Closed,
     Unclosed,
     Kmip,
@@ -68,7 +75,7 @@ enum Part {
 }
 
 /// Each command: its name, what it does, and what may stand behind it.
-const COMMANDS: [(&str, &str, &[Part]); 7] = [
+const COMMANDS: [(&str, &str, &[Part]); 11] = [
     (
         "show",
         "Prints a readable line for each item; control characters in texts are escaped",
@@ -80,6 +87,7 @@ const COMMANDS: [(&str, &str, &[Part]); 7] = [
             Part::Find,
             Part::Offsets,
             Part::Lengths,
+            Part::Bytes,
             Part::Width,
             Part::Tag,
             Part::Get,
@@ -88,6 +96,21 @@ const COMMANDS: [(&str, &str, &[Part]); 7] = [
             Part::Input,
             Part::Port,
             Part::Files,
+        ],
+    ),
+    (
+        "html",
+        "Prints a page of HTML with the lines of show, in which structures fold, and the bytes of each item",
+        &[
+            Part::Redact,
+            Part::Secrets,
+            Part::Strict,
+            Part::Width,
+            Part::Tag,
+            Part::Names,
+            Part::Input,
+            Part::Port,
+            Part::File,
         ],
     ),
     (
@@ -122,7 +145,7 @@ const COMMANDS: [(&str, &str, &[Part]); 7] = [
     (
         "hex",
         "Prints each message in hexadecimal digits, a line each",
-        &[Part::Input, Part::Port, Part::Files],
+        &[Part::Strict, Part::Input, Part::Port, Part::Files],
     ),
     (
         "json",
@@ -138,9 +161,24 @@ const COMMANDS: [(&str, &str, &[Part]); 7] = [
         ],
     ),
     (
+        "xml",
+        "Prints the messages as one document of XML",
+        &[Part::Strict, Part::Input, Part::Port, Part::File],
+    ),
+    (
+        "from-xml",
+        "Prints the messages that a document of XML is, in hexadecimal digits, a line each",
+        &[Part::RawBytes, Part::Files],
+    ),
+    (
         "from-json",
         "Prints the messages that values of JSON are, in hexadecimal digits, a line each",
-        &[Part::Bytes, Part::Files],
+        &[Part::RawBytes, Part::Files],
+    ),
+    (
+        "diff",
+        "Prints the lines of messages that differ in two files, but for dates and identifiers",
+        &[Part::Names, Part::Input, Part::Port, Part::Two],
     ),
 ];
 
@@ -150,6 +188,20 @@ fn files<'w>(alloc: Global) -> Arg<'w> {
         .num_args(0..)
         .action(ArgAction::Append)
         .help("What to read; standard input where none is named")
+}
+
+fn file<'w>(alloc: Global) -> Arg<'w> {
+    Arg::new(alloc, "files")
+        .value_name("FILE")
+        .help("What to read; standard input if it isn't named")
+}
+
+fn two<'w>(alloc: Global) -> Arg<'w> {
+    Arg::new(alloc, "files")
+        .value_name("FILE")
+        .num_args(0..)
+        .action(ArgAction::Append)
+        .help("The two files whose messages are compared; - is standard input")
 }
 
 fn input<'w>(alloc: Global) -> Arg<'w> {
@@ -211,6 +263,15 @@ fn lengths<'w>(alloc: Global) -> Arg<'w> {
         )
 }
 
+fn bytes<'w>(alloc: Global) -> Arg<'w> {
+    Arg::new(alloc, "bytes")
+        .long("bytes")
+        .action(ArgAction::SetTrue)
+        .help(
+            "Prints the bytes of each item in hexadecimal digits, in front of its line: its header and, but for a structure, its value; not with --redact",
+        )
+}
+
 fn find<'w>(alloc: Global) -> Arg<'w> {
     Arg::new(alloc, "find")
         .long("find")
@@ -225,7 +286,7 @@ fn width<'w>(alloc: Global) -> Arg<'w> {
         .long("width")
         .value_name("BYTES")
         .value_parser(ValueParser::unsigned(0, u64::MAX))
-        .help("The most bytes that are printed of a byte string")
+        .help("The most bytes that are printed of a byte string, and with --bytes of each value")
 }
 
 fn tag<'w>(alloc: Global) -> Arg<'w> {
@@ -289,7 +350,7 @@ fn raw<'w>(alloc: Global) -> Arg<'w> {
         .help("Prints texts as they are, with their control characters and backslashes")
 }
 
-fn bytes<'w>(alloc: Global) -> Arg<'w> {
+fn raw_bytes<'w>(alloc: Global) -> Arg<'w> {
     Arg::new(alloc, "raw")
         .long("raw")
         .action(ArgAction::SetTrue)
@@ -327,6 +388,8 @@ fn empty<'w>(alloc: Global) -> Arg<'w> {
 fn arg<'w>(alloc: Global, part: Part) -> Arg<'w> {
     match part {
         Part::Files => files(alloc),
+        Part::File => file(alloc),
+        Part::Two => two(alloc),
         Part::Input => input(alloc),
         Part::Port => port(alloc),
         Part::Prefix => prefix(alloc),
@@ -334,6 +397,7 @@ fn arg<'w>(alloc: Global, part: Part) -> Arg<'w> {
         Part::Named => named(alloc),
         Part::Offsets => offsets(alloc),
         Part::Lengths => lengths(alloc),
+        Part::Bytes => bytes(alloc),
         Part::Find => find(alloc),
         Part::Width => width(alloc),
         Part::Tag => tag(alloc),
@@ -343,7 +407,7 @@ fn arg<'w>(alloc: Global, part: Part) -> Arg<'w> {
         Part::Secrets => secrets(alloc),
         Part::Strict => strict(alloc),
         Part::Raw => raw(alloc),
-        Part::Bytes => bytes(alloc),
+        Part::RawBytes => raw_bytes(alloc),
         Part::Closed => closed(alloc),
         Part::Unclosed => unclosed(alloc),
         Part::Kmip => kmip(alloc),

@@ -26,8 +26,8 @@ pub trait Opener {
         ensures { opens self.old name.now result self.new };
 }
 
-// Does with a file what is asked, behind the line of its name if one is due.
-fn run_file<A: Allocator + Copy, B: Allocator + Copy, O: Opener, W: Sink, E: Sink>(
+/// Does with a file what is asked, behind the line of its name if one is due.
+pub(crate) fn run_file<A: Allocator + Copy, B: Allocator + Copy, O: Opener, W: Sink, E: Sink>(
     memory: Memory<A, B>,
     asked: Asked<'_>,
     headed: bool,
@@ -57,8 +57,8 @@ fn run_file<A: Allocator + Copy, B: Allocator + Copy, O: Opener, W: Sink, E: Sin
     }
 }
 
-// The greater of two statuses.
-fn greater(a: u8, b: u8) -> u8
+/// The greater of two statuses.
+pub fn greater(a: u8, b: u8) -> u8
     ensures { result ≡ greater a b }
 {
     if a < b { b } else { a }

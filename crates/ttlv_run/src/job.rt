@@ -19,6 +19,9 @@ pub enum Values {
     /// The value; control characters and backslashes of a text as Rust's `char::escape_debug` writes
     /// them, so that a text stays in its line and sends a terminal nothing.
     Escaped,
+    /// The same, but `<left out>` in place of a value that differs in each run: a date, and what has a tag of identifiers. The tags of
+    /// identifiers are [`Names::secrets`] then.
+    Lasting,
     /// The value, and a text as it is.
     Raw,
 }
@@ -34,7 +37,10 @@ pub struct Look<'w> {
     pub offsets: bool,
     /// Whether the length of an item's value, in bytes and without padding, and a tab stand in front of its line, behind the offset.
     pub lengths: bool,
-    /// The most bytes of a Byte String that are printed; all where there is no limit.
+    /// Whether the bytes of an item in hexadecimal and a tab stand in front of its line, behind the length: of a Structure its header, of
+    /// any other item its header and its value, without padding.
+    pub bytes: bool,
+    /// The most bytes of a Byte String that are printed, and of each value in front of a line; all where there is no limit.
     pub width: Option<usize>,
     /// Whether tags and values are coloured.
     pub colored: bool,
@@ -45,12 +51,13 @@ pub struct Look<'w> {
 }
 
 impl Look<'_> {
-    /// All lines without offsets, lengths or colours, with values and whole Byte Strings, where texts are escaped.
+    /// All lines without offsets, lengths, bytes or colours, with values and whole Byte Strings, where texts are escaped.
     pub const PLAIN: Look<'static> = Look {
         values: Values::Escaped,
         secrets_hidden: false,
         offsets: false,
         lengths: false,
+        bytes: false,
         width: None,
         colored: false,
         only: None,
@@ -65,6 +72,8 @@ pub enum Strict<'w> {
     Show { look: Look<'w> },
     /// Its diagnostic and a line feed, as [`Task::Diagnose`] does.
     Diagnose { closed: bool, prefix: &'w str },
+    /// Its bytes in hexadecimal and a line feed.
+    Hexadecimal,
     /// A line of JSON: with the standard's names, or by digits.
     Json { hiding: Hiding, named: bool },
 }
@@ -135,19 +144,47 @@ impl Encoding {
     }
 }
 
+/// What is made of what was printed of an input.
+#[derive(Clone, Copy, Debug, PartialEq, Eq)]
+pub enum Product {
+    /// It itself: the values of the items of a path. An input that has none of them is malformed.
+    Values,
+    /// Of messages in hexadecimal, each in a line of its own, a document of XML. An input with a text that XML can't hold is malformed.
+    Document,
+    /// Of readable lines without colours a page of HTML, in which structures fold.
+    Page,
+}
+
 /// What is to be done with each input.
 #[derive(Clone, Copy, Debug, PartialEq, Eq)]
 pub enum Asked<'w> {
     /// To print its messages, which stand in it so.
-    Print { task: Task<'w>, encoding: Encoding },
-    /// To print the values of the items of a path in its messages, at its end; an input that has none of them is malformed.
-    Get { task: Task<'w>, encoding: Encoding },
+    Print {
+        task: Task<'w>,
+        encoding: Encoding,
+    },
+    /// To print its messages into memory, and what is made of that when all of it was read.
+    Gather {
+        task: Task<'w>,
+        encoding: Encoding,
+        product: Product,
+    },
     /// To read back its diagnostics, which leave these digits out of tags.
-    ReadBack { prefix: &'w str },
+    ReadBack {
+        prefix: &'w str,
+    },
     /// To print the messages that its values of JSON are: as raw bytes, or in hexadecimal, each in a line of its own.
-    FromJson { raw: bool },
+    FromJson {
+        raw: bool,
+    },
+    /// To print the messages that it is the XML of, likewise.
+    FromXml {
+        raw: bool,
+    },
     /// To print the messages that stand anywhere in it, as readable lines, each behind a line that says where it begins.
-    Find { look: Look<'w> },
+    Find {
+        look: Look<'w>,
+    },
 }
 
 /// What is to be printed of an input's messages.
@@ -174,7 +211,7 @@ pub struct Names<'n, A: Allocator = Global> {
     pub masks: LentTagMap<'n, A>,
     /// A user's own names of values and of bits, which come before those of the lists.
     pub own: ValueMap<'n, A>,
-    /// The tags of items whose values are secret, each with a name of any kind.
+    /// The tags of items whose values are secret, or differ in each run, each with a name of any kind.
     pub secrets: LentTagMap<'n, A>,
     /// The words of JSON with names. Where there are none, they are made for each message that is printed so.
     pub words: Option<Words<A>>,

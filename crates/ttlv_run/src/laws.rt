@@ -1,8 +1,8 @@
 //! Laws of the definitions that the run's contract cites, each on a function without a body.
 
 ghost use Rattle.std.specs.Borrow.{Bor};
-ghost use Rattle.std.specs.Prelude.{◌≡◌, ◌≢◌, ◌<◌, ◌≤◌, ◌++◌, ℕ, Bool, not, List, [], ◌∷◌, Option, Some, None, length};
-ghost use Rattle.std.specs.List.{list_any};
+ghost use Rattle.std.specs.Prelude.{◌≡◌, ◌≢◌, ◌<◌, ◌≤◌, ◌++◌, ℕ, Bool, false, not, List, [], ◌∷◌, Option, Some, None, length};
+ghost use Rattle.std.specs.List.{All, list_any};
 ghost use Rattle.kmip_ttlv_items.specs.declared.found.Fault.{Fault as AFault};
 ghost use Rattle.kmip_ttlv_items.specs.declared.found.FoundItem.{FoundItem as AnItem};
 ghost use Rattle.kmip_ttlv_items.specs.ItemWalks.{AreBytes, Meets};
@@ -14,6 +14,8 @@ ghost use Rattle.ttlv_run.specs.declared.job.Strict.TheVariants.{Show as ShowWho
 ghost use Rattle.ttlv_run.specs.declared.job.Task.TheVariants.{Show as ToShow, Whole as OfWhole};
 ghost use Rattle.ttlv_run.specs.declared.job.Look.{Look as TheLook};
 ghost use Rattle.ttlv_run.specs.declared.form.Form.TheVariants.{DumpText};
+ghost use Rattle.ttlv_run.specs.Backs.{IsOneLine};
+ghost use Rattle.ttlv_run.specs.Differences.{AreMarked, first_printed, second_printed};
 ghost use Rattle.ttlv_run.specs.DumpLines.{ColonLine, BareLine, CountsColumn};
 ghost use Rattle.ttlv_run.specs.declared.job.Encoding.{Encoding as AnEncoding};
 ghost use Rattle.ttlv_run.specs.declared.job.Job.{Job as AJob};
@@ -22,6 +24,7 @@ ghost use Rattle.ttlv_run.specs.AttributeNames.{NamesAttribute};
 ghost use Rattle.ttlv_run.specs.Fronts.{StandsFront};
 ghost use Rattle.ttlv_run.specs.Inputs.{Stands};
 ghost use Rattle.ttlv_run.specs.Messages.{Whole, message_at, Continues, place_told};
+ghost use Rattle.ttlv_run.specs.Pages.{is_tab, is_markup, page_text};
 ghost use Rattle.ttlv_run.specs.Paths.{tags_to};
 ghost use Rattle.ttlv_run.specs.Redactions.{redacted_look, outline};
 ghost use Rattle.ttlv_run.specs.Runs.{Streams as TheStreams, HasText, Faults, Unwritten};
@@ -105,4 +108,18 @@ pub fn an_attribute_is_named_by_its_name()
     ensures alone { (names : TheNames) (look : TheLook) (bytes : List ℕ) (met : List AnItem) (attribute : AnAttribute)
         → (reach_all names look bytes no_reach met).attribute ≡ Some attribute
         → NamesAttribute names look bytes met attribute }
+{}
+
+/// In a page a text without tabs has no `<`, `>` or `"`. So none of a value is an element or an attribute, since no value is printed with
+/// a tab in it.
+pub fn a_value_is_no_markup()
+    ensures { (text : List ℕ) → list_any is_tab text ≡ false → list_any is_markup (page_text text) ≡ false }
+{}
+
+/// What is printed of two texts that differ tells the lines of both.
+pub fn differences_tell_both_texts()
+    ensures first { (first second : List (List ℕ)) (text : List ℕ) → All IsOneLine first → All IsOneLine second
+        → AreMarked first second text → first_printed text ≡ first }
+    ensures second { (first second : List (List ℕ)) (text : List ℕ) → All IsOneLine first → All IsOneLine second
+        → AreMarked first second text → second_printed text ≡ second }
 {}

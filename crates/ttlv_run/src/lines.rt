@@ -14,6 +14,7 @@ use crate::attributes::{Attribute, attribute_after, naming_tag};
 use crate::bare::push_bare;
 use crate::colors::{NONE, TAG, VALUE, push_color};
 use crate::job::{Look, Names, Values};
+use crate::own_bytes::{content_of, push_own_bytes};
 use crate::values::push_shown;
 use itoa::Buffer;
 use kmip_ttlv_items::{Fault, FoundItem, ItemWalk, Step};
@@ -43,8 +44,8 @@ fn reach_end(is_one: bool, end: u128, item: &FoundItem) -> u128
     if is_one && end < own { own } else { end }
 }
 
-// Whether a tag's values are secret.
-fn is_secret<A: Allocator>(names: &Names<'_, A>, tag: TtlvTag) -> bool
+/// Whether a tag's values are secret.
+pub fn is_secret<A: Allocator>(names: &Names<'_, A>, tag: TtlvTag) -> bool
     ensures { result ≡ (names_of names.now).secrets tag }
 {
     match names.secrets.get(&tag) {
@@ -193,21 +194,11 @@ fn push_line<S: TextSink, A: Allocator>(
 {
     push_column(out, look.offsets, at + item.offset)?;
     push_column(out, look.lengths, item.length as usize)?;
+    push_own_bytes(out, look, bytes, item)?;
     push_head(out, names, look.colored, item)?;
     push_data_part(out, item.typ)?;
     push_content(out, names, look, reach, bytes, item)?;
     out.push_str("\n")
-}
-
-// The value of an item; nothing of a structure, which has none of its own.
-fn content_of<'b>(bytes: &'b [u8], item: &FoundItem) -> &'b [u8]
-    requires { IsGood bytes.now item.now }
-    ensures { item.now.typ ≢ TheStructure → result.now ≡ content_at bytes.now item.now.offset }
-{
-    if item.typ == TtlvType::Structure {
-        return &[];
-    }
-    &bytes[item.offset + 8..item.offset + 8 + item.length as usize]
 }
 
 // Adds the line of an item's value alone.

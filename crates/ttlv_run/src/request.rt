@@ -1,13 +1,14 @@
 //! What the words ask for.
 
-ghost use Rattle.std.specs.Prelude.{◌≡◌, ℕ, List, false, map, bytes_eq, codes, IfOk};
+ghost use Rattle.std.specs.Prelude.{◌≡◌, ℕ, List, false, map, bytes_eq, codes, IfOk, option_map};
 ghost use Rattle.clap.specs.Matches.{found_of, one_text};
 ghost use Rattle.clap.specs.declared.parser.matches.Found.{Found};
-ghost use Rattle.ttlv_run.specs.Requests.{is_given, is_set, port_or, by_port, encoding_in, IsEncoding, prefix_in, values_in, IsWidth, IsLook, hiding_in, color_in, is_closed, is_strict, IsTask, texts_in, IsAsked, IsRequest, is_useless, tells_lengths, finds, names_encoding, path_words, path_in, gets_lines, names_capture, names_port};
+ghost use Rattle.ttlv_run.specs.Requests.{is_given, is_set, port_or, by_port, encoding_in, IsEncoding, prefix_in, values_in, IsWidth, IsLook, hiding_in, color_in, is_closed, is_redacted, is_strict, IsHexadecimal, page_values, IsPageLook, IsPageTask, IsTask, texts_in, IsAsked, IsRequest, is_useless, tells_values, finds, names_encoding, path_words, path_in, gets_lines, names_capture, names_port, pair_of, lacks_pair};
 
 use crate::command::program;
+use crate::compared::Pair;
 use crate::guess::KMIP_PORT;
-use crate::job::{Asked, Encoding, Look, Strict, Task, Values};
+use crate::job::{Asked, Encoding, Look, Product, Strict, Task, Values};
 use clap::error::ErrorKind;
 use clap::{ArgMatches, Error};
 use kmip_ttlv_json::Hiding;
@@ -16,8 +17,8 @@ use std::alloc::{AllocError, Global};
 /// Why a table of secrets is refused.
 const NO_USE: &str = "--secrets hides nothing without --redact=keys";
 
-/// Why lengths are refused.
-const TELLS: &str = "--lengths tells how long the values are that --redact hides";
+/// Why lengths and bytes are refused.
+const TELLS: &str = "--lengths and --bytes tell of the values that --redact hides";
 
 /// Why an encoding and a port are refused where messages are looked for.
 const ANY_NOTATION: &str =
@@ -25,7 +26,10 @@ const ANY_NOTATION: &str =
 
 /// Why what stands in lines of items is refused where values are asked for.
 const VALUES_ALONE: &str =
-    "--get prints values alone, so it takes no --find, --tag, --offsets and --lengths";
+    "--get prints values alone, so it takes no --find, --tag, --offsets, --lengths and --bytes";
+
+/// Why files are refused where two are compared.
+const TWO_FILES: &str = "diff compares two files, so it takes two names";
 
 /// Why a port is refused.
 const NO_PORT: &str = "--port is that of a packet capture, and --input names another encoding";
@@ -58,6 +62,8 @@ pub struct Request<'w> {
     pub color: Color,
     /// The files to be read; none for standard input.
     pub files: Vec<&'w str>,
+    /// These files, if their messages are compared.
+    pub compares: Option<Pair<'w>>,
 }
 
 // Whether the word of an option is this one.
@@ -180,6 +186,7 @@ fn look_of<'w>(matches: &ArgMatches<'w>) -> Look<'w>
         secrets_hidden: is_given(matches, "redact", "keys"),
         offsets: is_set(matches, "offsets"),
         lengths: is_set(matches, "lengths"),
+        bytes: is_set(matches, "bytes"),
         width: width_of(matches),
         colored: false,
         only: None,
@@ -220,19 +227,65 @@ fn is_closed(matches: &ArgMatches<'_>) -> bool
     is_set(matches, "closed") || !is_set(matches, "unclosed")
 }
 
+// Whether any values are hidden.
+fn is_redacted(matches: &ArgMatches<'_>) -> bool
+    ensures { result ≡ is_redacted (found_of matches.now) }
+{
+    is_given(matches, "redact", "all") || is_given(matches, "redact", "keys")
+}
+
 // Whether nothing is printed of a malformed message.
 fn is_strict(matches: &ArgMatches<'_>) -> bool
     ensures { result ≡ is_strict (found_of matches.now) }
 {
-    is_set(matches, "strict")
-        || is_given(matches, "redact", "all")
-        || is_given(matches, "redact", "keys")
+    is_set(matches, "strict") || is_redacted(matches)
 }
 
 fn show_of<'w>(matches: &ArgMatches<'w>) -> Task<'w>
     ensures { IsTask (codes "show") (found_of matches.now) result }
 {
     let look = look_of(matches);
+    if is_strict(matches) {
+        let strict = Strict::Show { look };
+        return Task::Whole { strict };
+    }
+    Task::Show { look }
+}
+
+// What a page says of values.
+fn page_values(matches: &ArgMatches<'_>) -> Values
+    ensures { result ≡ page_values (found_of matches.now) }
+{
+    if is_given(matches, "redact", "all") {
+        Values::Hidden
+    } else {
+        Values::Escaped
+    }
+}
+
+// How the lines of a page are printed.
+fn page_look<'w>(matches: &ArgMatches<'w>) -> Look<'w>
+    ensures { IsPageLook (found_of matches.now) result }
+{
+    let shown = !is_redacted(matches);
+    Look {
+        values: page_values(matches),
+        secrets_hidden: is_given(matches, "redact", "keys"),
+        offsets: shown,
+        lengths: shown,
+        bytes: shown,
+        width: width_of(matches),
+        colored: false,
+        only: None,
+        path: None,
+    }
+}
+
+// The lines of a page.
+fn page_task<'w>(matches: &ArgMatches<'w>) -> Task<'w>
+    ensures { IsPageTask (found_of matches.now) result }
+{
+    let look = page_look(matches);
     if is_strict(matches) {
         let strict = Strict::Show { look };
         return Task::Whole { strict };
@@ -264,9 +317,23 @@ fn json_of<'w>(matches: &ArgMatches<'w>) -> Task<'w>
     Task::Json { hiding, named }
 }
 
+// Each message in hexadecimal, also for a document that is made of it.
+fn hexadecimal_of(matches: &ArgMatches<'_>) -> Task<'static>
+    ensures { IsHexadecimal (found_of matches.now) result }
+{
+    if is_strict(matches) {
+        let strict = Strict::Hexadecimal;
+        return Task::Whole { strict };
+    }
+    Task::Hexadecimal
+}
+
 fn task_of<'w>(command: &str, matches: &ArgMatches<'w>) -> Task<'w>
     requires undiag { bytes_eq command.now (codes "undiag") ≡ false }
     requires from_json { bytes_eq command.now (codes "from-json") ≡ false }
+    requires from_xml { bytes_eq command.now (codes "from-xml") ≡ false }
+    requires xml { bytes_eq command.now (codes "xml") ≡ false }
+    requires html { bytes_eq command.now (codes "html") ≡ false }
     ensures { IsTask command.now (found_of matches.now) result }
 {
     if command == "show" {
@@ -274,6 +341,8 @@ fn task_of<'w>(command: &str, matches: &ArgMatches<'w>) -> Task<'w>
     } else if command == "diag" {
         diagnose_of(matches)
     } else if command == "hex" {
+        hexadecimal_of(matches)
+    } else if command == "diff" {
         Task::Hexadecimal
     } else if command == "json" {
         json_of(matches)
@@ -333,6 +402,22 @@ fn asked_of<'w>(command: &str, matches: &ArgMatches<'w>) -> Asked<'w>
         Asked::FromJson {
             raw: is_set(matches, "raw"),
         }
+    } else if command == "from-xml" {
+        Asked::FromXml {
+            raw: is_set(matches, "raw"),
+        }
+    } else if command == "xml" {
+        Asked::Gather {
+            task: hexadecimal_of(matches),
+            encoding: encoding_of(matches),
+            product: Product::Document,
+        }
+    } else if command == "html" {
+        Asked::Gather {
+            task: page_task(matches),
+            encoding: encoding_of(matches),
+            product: Product::Page,
+        }
     } else if finds(command, matches) {
         Asked::Find {
             look: look_of(matches),
@@ -342,6 +427,19 @@ fn asked_of<'w>(command: &str, matches: &ArgMatches<'w>) -> Asked<'w>
             task: task_of(command, matches),
             encoding: encoding_of(matches),
         }
+    }
+}
+
+// The two files of a command that compares.
+fn pair_of<'w>(command: &str, files: &[&'w str]) -> Option<Pair<'w>>
+    ensures { option_map (λ p. (p.first.now, p.second.now)) result ≡ pair_of command.now (map (λ s. s.now) files.now) }
+{
+    if command != "diff" {
+        return None;
+    }
+    match files {
+        [first, second] => Some(Pair { first, second }),
+        _ => None,
     }
 }
 
@@ -355,6 +453,7 @@ pub fn request_in<'w>(
 ) -> Result<Request<'w>, AllocError>
     ensures { IfOk result (IsRequest command.now (found_of matches.now)) }
 {
+    let files = texts_of(alloc, matches, "files")?;
     Ok(Request {
         asked: asked_of(command, matches),
         names: matches.get_str("names"),
@@ -362,8 +461,16 @@ pub fn request_in<'w>(
         tags: texts_of(alloc, matches, "tag")?,
         path: path_of(alloc, matches)?,
         color: color_of(matches),
-        files: texts_of(alloc, matches, "files")?,
+        compares: pair_of(command, files.as_slice()),
+        files,
     })
+}
+
+// Whether two files are to be compared, and others are named.
+fn lacks_pair(command: &str, request: &Request<'_>) -> bool
+    ensures { result ≡ lacks_pair command.now request.now }
+{
+    command == "diff" && request.compares.is_none()
 }
 
 // Whether a table of secrets is named where they are not hidden.
@@ -373,12 +480,11 @@ fn is_useless(matches: &ArgMatches<'_>) -> bool
     matches.contains_id("secrets") && !is_given(matches, "redact", "keys")
 }
 
-// Whether lengths are asked for where values are hidden.
-fn tells_lengths(matches: &ArgMatches<'_>) -> bool
-    ensures { result ≡ tells_lengths (found_of matches.now) }
+// Whether lengths or bytes are asked for where values are hidden.
+fn tells_values(matches: &ArgMatches<'_>) -> bool
+    ensures { result ≡ tells_values (found_of matches.now) }
 {
-    is_set(matches, "lengths")
-        && (is_given(matches, "redact", "all") || is_given(matches, "redact", "keys"))
+    (is_set(matches, "lengths") || is_set(matches, "bytes")) && is_redacted(matches)
 }
 
 // Whether messages are looked for in any notation, and an encoding or a port is named.
@@ -396,7 +502,8 @@ fn gets_lines(matches: &ArgMatches<'_>) -> bool
         && (is_set(matches, "find")
             || matches.contains_id("tag")
             || is_set(matches, "offsets")
-            || is_set(matches, "lengths"))
+            || is_set(matches, "lengths")
+            || is_set(matches, "bytes"))
 }
 
 // Whether an encoding is that of a packet capture.
@@ -415,13 +522,14 @@ fn names_port(matches: &ArgMatches<'_>) -> bool
     matches.contains_id("port") && matches.contains_id("input") && !names_capture(matches)
 }
 
-/// What words ask for, the first of which is the program's name. `--secrets` without `--redact=keys` is wrong usage, and so are
-/// `--lengths` with any `--redact`, `--find` with `--input` or `--port`, `--get` with `--find`, `--tag`, `--offsets` or `--lengths`, and
-/// `--port` with an `--input` that is no packet capture. The error is to be printed, on standard output for help and the version, and has the exit status.
+/// What words ask for, the first of which is the program's name. Wrong usage are `--secrets` without `--redact=keys`, `--lengths` or `--bytes`
+/// with any `--redact`, `--find` with `--input` or `--port`, `--get` with `--find`, `--tag`, `--offsets`, `--lengths` or `--bytes`, `--port` with an
+/// `--input` that is no packet capture, and `diff` without two files. The error is to be printed, on standard output for help and the version, and
+/// has the exit status.
 pub fn request_of<'w>(alloc: Global, words: &'w [String]) -> Result<Request<'w>, Error>
     ensures { IfOk result (λ r. (command : List ℕ) × (f : Found) × IsRequest command f r
-        × (is_useless f ≡ false) × (tells_lengths f ≡ false) × (names_encoding f ≡ false)
-        × (gets_lines f ≡ false) × (names_port f ≡ false)) }
+        × (is_useless f ≡ false) × (tells_values f ≡ false) × (names_encoding f ≡ false)
+        × (gets_lines f ≡ false) × (names_port f ≡ false) × (lacks_pair command r ≡ false)) }
 {
     let mut program = program(alloc)?;
     let matches = program.try_get_matches_from_mut(words)?;
@@ -431,7 +539,7 @@ pub fn request_of<'w>(alloc: Global, words: &'w [String]) -> Result<Request<'w>,
     if is_useless(found) {
         return Err(program.error(ErrorKind::MissingRequiredArgument, NO_USE)?);
     }
-    if tells_lengths(found) {
+    if tells_values(found) {
         return Err(program.error(ErrorKind::ArgumentConflict, TELLS)?);
     }
     if names_encoding(found) {
@@ -443,5 +551,9 @@ pub fn request_of<'w>(alloc: Global, words: &'w [String]) -> Result<Request<'w>,
     if names_port(found) {
         return Err(program.error(ErrorKind::ArgumentConflict, NO_PORT)?);
     }
-    Ok(request_in(alloc, command, found)?)
+    let request = request_in(alloc, command, found)?;
+    if lacks_pair(command, &request) {
+        return Err(program.error(ErrorKind::WrongNumberOfValues, TWO_FILES)?);
+    }
+    Ok(request)
 }

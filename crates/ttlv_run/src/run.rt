@@ -7,7 +7,6 @@ ghost use Rattle.kmip_ttlv_util.specs.Pieces.{SomeText};
 ghost use Rattle.ttlv_run.specs.Backs.{ReadsBack, ReadsFront, back_line};
 ghost use Rattle.ttlv_run.specs.Ends.{Responds, IsEnded, IsDone};
 ghost use Rattle.ttlv_run.specs.Prints.{RespondsAlone, RespondsPrint};
-ghost use Rattle.ttlv_run.specs.Gets.{SendsValues, RespondsGet};
 ghost use Rattle.ttlv_run.specs.Escapes.{escape};
 ghost use Rattle.ttlv_run.specs.Reasons.{IsOfPrinting, PrintsFront, IsOfError, Reports, place_report, error_line};
 ghost use Rattle.ttlv_run.specs.Fronts.{front_size, Begins, BeginFails};
@@ -22,7 +21,9 @@ use crate::coding::{encoding_of, form_of, front_size, port_of};
 use crate::digits::print_digits;
 use crate::escape::{NameSink, push_text};
 use crate::find::{find_messages, report_find_fault};
-use crate::from_json::{read_json, report_value_fault, send};
+use crate::from_json::{read_json, report_value_fault};
+use crate::from_xml::{read_xml, report_xml_fault};
+use crate::gather::gather;
 use crate::job::{Asked, Encoding, Job, Names, Task};
 use crate::memory::Memory;
 use crate::messages::{Place, Reached, fault_line, print_all, wants_message};
@@ -31,7 +32,7 @@ use crate::run_error::{RunError, status_in};
 use crate::traffic::respond_packets;
 use crate::window::Window;
 use itoa::Buffer;
-use kmip_ttlv_types::stream::{MemorySink, Sink, Source};
+use kmip_ttlv_types::stream::{Sink, Source};
 use kmip_ttlv_util::Pieces;
 use std::alloc::Allocator;
 use std::io::{Error, ErrorKind};
@@ -330,9 +331,9 @@ fn print_alone<A: Allocator + Copy, B: Allocator + Copy, R: Source, W: Sink, E: 
     Ok(false)
 }
 
-// Prints what a job asks for of an input's messages, or of those of a packet capture, and returns whether all is whole. What isn't is
-// reported.
-fn print_asked<A: Allocator + Copy, B: Allocator + Copy, R: Source, W: Sink, E: Sink>(
+/// Prints what a job asks for of an input's messages, or of those of a packet capture, and returns whether all is whole. What isn't is
+/// reported.
+pub(crate) fn print_asked<A: Allocator + Copy, B: Allocator + Copy, R: Source, W: Sink, E: Sink>(
     memory: Memory<A, B>,
     job: &Job<'_>,
     names: &Names<'_, B>,
@@ -354,57 +355,6 @@ fn print_asked<A: Allocator + Copy, B: Allocator + Copy, R: Source, W: Sink, E: 
         }
         None => print_alone(memory, job, names, window, ended, input, output, errors),
     }
-}
-
-// Sends the values that were printed of an input, of which this came, and returns whether it is whole and has some. If it has none,
-// that is reported.
-fn send_values<W: Sink, E: Sink>(
-    values: &[u8],
-    outcome: Result<bool, RunError>,
-    name: &str,
-    output: &mut W,
-    errors: &mut E,
-) -> Result<bool, RunError>
-    ensures { SendsValues values.now outcome name.now (held W.emitted W.room output.old) (held W.emitted W.room output.new)
-        (held E.emitted E.room errors.old) (held E.emitted E.room errors.new) result }
-{
-    match outcome {
-        Ok(true) => {
-            send(output, values)?;
-            if values.is_empty() {
-                report_words(errors, name, "no item has this path");
-                return Ok(false);
-            }
-            Ok(true)
-        }
-        Ok(false) => {
-            let _ = send(output, values);
-            Ok(false)
-        }
-        Err(early) => {
-            send(output, values)?;
-            Err(early)
-        }
-    }
-}
-
-// Prints what a job asks for of an input, where values are asked for: when all of it was read. Returns whether it is whole and has
-// some. What isn't is reported.
-fn get_values<A: Allocator + Copy, B: Allocator + Copy, R: Source, W: Sink, E: Sink>(
-    memory: Memory<A, B>,
-    job: &Job<'_>,
-    names: &Names<'_, B>,
-    input: &mut R,
-    output: &mut W,
-    errors: &mut E,
-) -> Result<bool, RunError>
-    ensures { RespondsGet (names_of names.now) job.now
-        (streams R.can_fail (R.left input.old) (R.left input.new) (held W.emitted W.room output.old) (held W.emitted W.room output.new))
-        (held E.emitted E.room errors.old) (held E.emitted E.room errors.new) result }
-{
-    let mut values = MemorySink(Vec::new(memory.rest));
-    let outcome = print_asked(memory, job, names, input, &mut values, errors);
-    send_values(values.0.as_slice(), outcome, job.name, output, errors)
 }
 
 // Does with an input what is asked, and returns whether all of it is whole. What is malformed is reported.
@@ -430,13 +380,17 @@ fn respond<A: Allocator + Copy, B: Allocator + Copy, R: Source, W: Sink, E: Sink
             };
             print_asked(memory, &job, names, input, output, errors)
         }
-        Asked::Get { task, encoding } => {
+        Asked::Gather {
+            task,
+            encoding,
+            product,
+        } => {
             let job = Job {
                 name,
                 task,
                 encoding,
             };
-            get_values(memory, &job, names, input, output, errors)
+            gather(memory, &job, product, names, input, output, errors)
         }
         Asked::ReadBack { prefix } => {
             let Some(fault) = read_back(memory, prefix, names, input, output)? else {
@@ -450,6 +404,13 @@ fn respond<A: Allocator + Copy, B: Allocator + Copy, R: Source, W: Sink, E: Sink
                 return Ok(true);
             };
             report_value_fault(errors, name, fault);
+            Ok(false)
+        }
+        Asked::FromXml { raw } => {
+            let Some(fault) = read_xml(memory, raw, names, input, output)? else {
+                return Ok(true);
+            };
+            report_xml_fault(errors, name, fault);
             Ok(false)
         }
         Asked::Find { look } => {
@@ -502,12 +463,18 @@ pub(crate) fn run_to_end<A: Allocator + Copy, B: Allocator + Copy, R: Source, W:
 ///
 /// *The values of a path* are printed when all of the input was read. With status 1 there is none, or the output has those up to the fault.
 ///
+/// *A page of HTML and a document of XML* are printed when all of the input was read. With status 1 it has what is printed up to the fault; or
+/// a text has a character that XML can't hold, and nothing is printed.
+///
 /// *Diagnostics* are read back, each in a line of its own, which is printed before the next read if all of it is there. With status 1 all
 /// lines are read back, each as far as it goes, and the first that is not whole is reported. With status 2 the output has what the lines
 /// before are read back as: those that came before reading failed, or that are in front of the one that is not UTF-8.
 ///
 /// *JSON*: each value is a message, and is printed before the next read if all of it is there. With status 1 the messages before the
 /// first value that is none are printed, and nothing more is read. With status 2 those of the values before are.
+///
+/// *XML*: what the input is the XML of is printed when all of it was read. With status 1 it is none, and nothing is printed; or an item of it is
+/// no message, and those before it are. With status 2 nothing is.
 ///
 /// *Messages within anything else* are looked for when all of the input was read, and printed one after the other. With status 1 there
 /// is none, or the search ended early, since too much looked like messages; with status 2 nothing is printed.

@@ -112,6 +112,10 @@ fn push_judged<S: TextSink, A: Allocator + Copy>(
     match strict {
         Strict::Show { look } => push_lines(alloc, out, names, look, at, message),
         Strict::Json { hiding, named } => push_styled(alloc, out, names, hiding, named, message),
+        Strict::Hexadecimal => {
+            push_hexadecimal(out, message)?;
+            Ok(None)
+        }
         Strict::Diagnose { closed, prefix } => {
             push_diagnostic(alloc, out, closed, prefix, message)?;
             Ok(None)

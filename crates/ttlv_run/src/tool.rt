@@ -7,10 +7,11 @@ ghost use Rattle.kmip_ttlv_names.specs.NameTables.{bad_line};
 ghost use Rattle.kmip_ttlv_names.specs.declared.table.TableError.TheVariants.{BadLine as ABadLine};
 ghost use Rattle.ttlv_run.specs.Texts.{names_of};
 ghost use Rattle.ttlv_run.specs.Tags.{AreTags};
-ghost use Rattle.ttlv_run.specs.Tools.{is_colored, IsUsage, no_memory_line, IsTable, LacksFile, AreRead, LacksOne, HasBadLine, word_of, LacksTag, only_of, getting, with_path, with_look, names_for, InputsDone, RequestDone};
+ghost use Rattle.ttlv_run.specs.Tools.{is_colored, IsUsage, no_memory_line, IsTable, LacksFile, AreRead, LacksOne, HasBadLine, word_of, LacksTag, only_of, getting, with_path, lines_with, with_look, names_for, InputsDone, RequestDone};
 
+use crate::comparison::run_comparison;
 use crate::files::{Opener, run_files};
-use crate::job::{Asked, Encoding, Look, Names, Strict, Task};
+use crate::job::{Asked, Encoding, Look, Names, Product, Strict, Task};
 use crate::memory::Memory;
 use crate::request::{Color, Request};
 use crate::run::{report_words, run};
@@ -56,8 +57,8 @@ fn is_colored(color: Color, terminal: Terminal<'_>) -> bool
     }
 }
 
-// Reports that memory ran out before an input was read, and returns the exit status.
-fn no_memory<E: Sink>(errors: &mut E) -> u8
+/// Reports that memory ran out before an input was read, and returns the exit status.
+pub(crate) fn no_memory<E: Sink>(errors: &mut E) -> u8
     ensures status { result ≡ 3 }
     ensures reported { Says (held E.emitted E.room errors.old) (held E.emitted E.room errors.new) no_memory_line }
 {
@@ -79,8 +80,8 @@ pub fn report_usage<R: Print + Eprint, E: Sink>(rt: &R, errors: &mut E, error: &
     if printed.is_err() { FAILED } else { 0 }
 }
 
-// A table of tags, and behind it that of a file, if one is named; or the status where there is none.
-fn table<B: Allocator + Copy, T: Opener, E: Sink>(
+/// A table of tags, and behind it that of a file, if one is named; or the status where there is none.
+pub(crate) fn table<B: Allocator + Copy, T: Opener, E: Sink>(
     alloc: B,
     tables: &mut T,
     standard: &str,
@@ -159,7 +160,11 @@ fn getting<'w>(task: Task<'w>, path: &'w [u32], encoding: Encoding) -> Asked<'w>
             let task = Task::Show {
                 look: Look { path, ..look },
             };
-            Asked::Get { task, encoding }
+            Asked::Gather {
+                task,
+                encoding,
+                product: Product::Values,
+            }
         }
         Task::Whole {
             strict: Strict::Show { look },
@@ -169,7 +174,11 @@ fn getting<'w>(task: Task<'w>, path: &'w [u32], encoding: Encoding) -> Asked<'w>
                 look: Look { path, ..look },
             };
             let task = Task::Whole { strict };
-            Asked::Get { task, encoding }
+            Asked::Gather {
+                task,
+                encoding,
+                product: Product::Values,
+            }
         }
         task => Asked::Print { task, encoding },
     }
@@ -188,29 +197,22 @@ fn with_path<'w>(asked: Asked<'w>, path: &'w [u32]) -> Asked<'w>
     }
 }
 
-// What is asked, with the colours and the tags of readable lines.
-fn with_look<'w>(asked: Asked<'w>, colored: bool, tags: &'w [u32]) -> Asked<'w>
-    ensures { result ≡ with_look asked.entry colored tags.entry }
+// What is printed of messages, with the colours and the tags of readable lines.
+fn lines_with<'w>(task: Task<'w>, colored: bool, tags: &'w [u32]) -> Task<'w>
+    ensures { result ≡ lines_with task.entry colored tags.entry }
 {
     let only = only_of(tags);
-    match asked {
-        Asked::Print {
-            task: Task::Show { look },
-            encoding,
-        } => {
+    match task {
+        Task::Show { look } => {
             let look = Look {
                 colored,
                 only,
                 ..look
             };
-            let task = Task::Show { look };
-            Asked::Print { task, encoding }
+            Task::Show { look }
         }
-        Asked::Print {
-            task: Task::Whole {
-                strict: Strict::Show { look },
-            },
-            encoding,
+        Task::Whole {
+            strict: Strict::Show { look },
         } => {
             let look = Look {
                 colored,
@@ -218,13 +220,34 @@ fn with_look<'w>(asked: Asked<'w>, colored: bool, tags: &'w [u32]) -> Asked<'w>
                 ..look
             };
             let strict = Strict::Show { look };
-            let task = Task::Whole { strict };
-            Asked::Print { task, encoding }
+            Task::Whole { strict }
         }
+        task => task,
+    }
+}
+
+// What is asked, with the colours and the tags of readable lines; those that are printed into memory have no colours.
+fn with_look<'w>(asked: Asked<'w>, colored: bool, tags: &'w [u32]) -> Asked<'w>
+    ensures { result ≡ with_look asked.entry colored tags.entry }
+{
+    match asked {
+        Asked::Print { task, encoding } => Asked::Print {
+            task: lines_with(task, colored, tags),
+            encoding,
+        },
+        Asked::Gather {
+            task,
+            encoding,
+            product,
+        } => Asked::Gather {
+            task: lines_with(task, false, tags),
+            encoding,
+            product,
+        },
         Asked::Find { look } => Asked::Find {
             look: Look {
                 colored,
-                only,
+                only: only_of(tags),
                 ..look
             },
         },
@@ -257,8 +280,8 @@ fn words_for<B: Allocator + Copy>(alloc: B, worded: bool) -> Result<Option<Words
     Ok(Some(standard_words(alloc)?))
 }
 
-// The names of tags and of values, and the tags of secrets, by their tables.
-fn names_in<'t, B: Allocator + Copy>(
+/// The names of tags and of values, and the tags of secrets, by their tables.
+pub(crate) fn names_in<'t, B: Allocator + Copy>(
     alloc: B,
     tags: &'t str,
     secrets: &'t str,
@@ -358,6 +381,9 @@ pub fn run_request<B: Allocator + Copy, T: Opener, O: Opener, R: Source, W: Sink
         (record { opener = opener.new; output = held W.emitted W.room output.new; errors = held E.emitted E.room errors.new })
         R.can_fail (R.left stdin.old) (R.left stdin.new) result }
 {
+    if let Some(pair) = request.compares {
+        return run_comparison(alloc, request, pair, tables, opener, output, errors);
+    }
     let (tags, secret) = match tables_of(alloc, tables, request.names, request.secrets, errors) {
         Ok(read) => read,
         Err(status) => return status,

@@ -11,12 +11,13 @@ ghost use Rattle.kmip_ttlv_types.specs.Leaves.{is_valid};
 ghost use Rattle.kmip_ttlv_util.specs.Pretty.{value_shown};
 ghost use Rattle.ttlv_run.specs.Attributes.{enumeration_name};
 ghost use Rattle.ttlv_run.specs.Dates.{date_shown};
-ghost use Rattle.ttlv_run.specs.Texts.{names_of, behind_space, count_shown, bytes_shown, value_text};
+ghost use Rattle.ttlv_run.specs.Texts.{names_of, behind_space, count_shown, bytes_shown, passes, lasting_text, value_text};
 
 use crate::attributes::enumeration_name;
 use crate::dates::push_date;
 use crate::escape::push_escaped;
 use crate::job::{Names, Values};
+use crate::lines::is_secret;
 use crate::masks::push_mask;
 use itoa::Buffer;
 use kmip_ttlv_types::{TtlvTag, TtlvType};
@@ -148,6 +149,44 @@ pub fn push_bytes<S: TextSink>(
     push_count(out, content.len())
 }
 
+// Whether a value differs in each run: that of a date, and what has a tag of identifiers.
+fn passes<A: Allocator>(names: &Names<'_, A>, tag: TtlvTag, typ: TtlvType) -> bool
+    ensures { result ≡ passes (names_of names.now) tag typ }
+{
+    match typ {
+        TtlvType::DateTime => true,
+        _ => is_secret(names, tag),
+    }
+}
+
+/// Adds the value of a leaf that is no enumeration, as in a readable line, unless it differs in each run: `<left out>` then.
+///
+/// It fails where the sink fails.
+#[tactic(auto, unfolding(crate::specs::Texts::lasting_text))]
+pub fn push_lasting<S: TextSink, A: Allocator>(
+    out: &mut S,
+    names: &Names<'_, A>,
+    width: Option<usize>,
+    tag: TtlvTag,
+    typ: TtlvType,
+    content: &[u8],
+) -> Result<(), S::Error>
+    requires leaf { typ ≢ TheStructure }
+    requires valid { is_valid typ content.now ≡ true }
+    ensures ok { OnOk result (S.adds out.old (lasting_text (names_of names.now) width tag typ content.now) out.new) }
+    ensures err { OnErr result (S.breaks out.old (lasting_text (names_of names.now) width tag typ content.now) out.new) }
+{
+    if passes(names, tag, typ) {
+        return out.push_str("<left out>");
+    }
+    match typ {
+        TtlvType::TextString => push_escaped(out, content),
+        TtlvType::Integer => push_integer(out, names, tag, content),
+        TtlvType::ByteString => push_bytes(out, width, content),
+        _ => push_value(out, typ, content),
+    }
+}
+
 /// Adds the value of a leaf, if it isn't hidden, named as those of this tag are; a text escaped, if it isn't to be raw, and a
 /// string of bytes as far as `width` allows.
 ///
@@ -171,6 +210,7 @@ pub fn push_shown<S: TextSink, A: Allocator>(
         _ if values == Values::Secret => out.push_str("<redacted>"),
         TtlvType::Enumeration => push_enumeration(out, names, tag, content),
         _ if values == Values::Hidden => out.push_str("<redacted>"),
+        _ if values == Values::Lasting => push_lasting(out, names, width, tag, typ, content),
         TtlvType::TextString if values == Values::Escaped => push_escaped(out, content),
         TtlvType::Integer => push_integer(out, names, tag, content),
         TtlvType::DateTime => push_date_time(out, content),

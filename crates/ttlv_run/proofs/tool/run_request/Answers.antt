@@ -15,6 +15,7 @@ returns g c =
     let only = c.as_slice-3.result in
     let path = c.as_slice-4.result in
     done (string_bytes c.in-Ok.read.0) (string_bytes c.in-Ok.read.1) only path
+    c.in_default.is
     c.in-Ok.ensures.ok
     (ap bad_line (sym c.as_str-4.ensures.value) ∙ c.in-Ok-names_in.ensures.tags_alone)
     (tags_as c.as_str.ensures.value c.as_slice.ensures.value (sym c.as_slice-3.ensures.value) c.in-Ok-tags_of.ensures.ok)
@@ -25,6 +26,11 @@ returns g c =
     (ap (λ e. record { opener = c.args.opener.now; output = held g.W.Sink.emitted g.W.Sink.room c.args.output.now; errors = of e })
     (c.in-Ok-tags_of-2.ensures.quiet ∙ c.in-Ok-tags_of.ensures.quiet ∙ c.in-Ok.ensures.quiet))
     c.run_inputs.ensures)
+
+pub returns-in-Some : goal.returns-in-Some
+returns-in-Some g c =
+    let left = g.R.Source.left c.args.stdin.now in
+    c.run_comparison.ensures c.args.terminal g.R.Source.can_fail left left
 
 pub returns-in-Err : goal.returns-in-Err
 returns-in-Err g c = let h = c.in-Err.ensures.err in refused h.0 (lacks_table h.1) h.2 (rests _)

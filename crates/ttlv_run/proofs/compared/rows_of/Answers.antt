@@ -1,0 +1,11 @@
+use Rattle.std.proofs.Common.{rules}
+use borrow.Author.Tests.{tests}
+use Rattle.std.proofs.lemmas.Iterator.Consumers.{map_from_collect}
+use Rattle.std.proofs.lemmas.Iterator.Splits.{YieldsList-from_slice_split}
+use Rattle.kmip_ttlv_names.specs.NameTables.{is_line_feed}
+use Rattle.ttlv_run.proofs.compared.rows_of.Goals as goal
+
+pub returns : goal.returns
+returns g c = map_from_collect _ c.collect.ensures.ran
+    (YieldsList-from_slice_split _ is_line_feed c.args.text.now c.split.ensures.rest c.split.ensures.done c.split.ensures.closure
+    (λ x r q k. search (rules, tests)))
