@@ -1,7 +1,7 @@
 //! Tests of the tool `ttlv`: what a run prints of worked messages in each encoding, the status and the
 //! error line of malformed or undecodable input, the results of failing allocations, failing writers and
 //! closed pipes, the memory of long lines, what is printed of long inputs, packet captures and raw messages, texts and diagnostics that come in pieces, what the
-//! command line asks for, and what each of its options comes to.
+//! command line asks for, what each of its options comes to, and pages of HTML.
 #![tactic(auto)]
 
 #[cfg(test)]
@@ -33,6 +33,8 @@ mod names;
 #[cfg(test)]
 mod own;
 #[cfg(test)]
+mod pages;
+#[cfg(test)]
 mod pieces;
 #[cfg(test)]
 mod printed;
@@ -46,3 +48,5 @@ mod texts;
 mod tool;
 #[cfg(test)]
 mod words;
+#[cfg(test)]
+mod xmls;

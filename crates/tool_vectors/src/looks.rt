@@ -28,6 +28,19 @@ const BOTH: Look<'static> = Look {
     ..Look::PLAIN
 };
 
+const BYTES: Look<'static> = Look {
+    bytes: true,
+    ..Look::PLAIN
+};
+
+const ALL_COLUMNS: Look<'static> = Look {
+    offsets: true,
+    lengths: true,
+    bytes: true,
+    width: Some(4),
+    ..Look::PLAIN
+};
+
 const COLORS: Look<'static> = Look {
     colored: true,
     ..Look::PLAIN
@@ -61,7 +74,7 @@ const SEVERAL: Look<'static> = Look {
     ..Look::PLAIN
 };
 
-const ROWS: [Row; 10] = [
+const ROWS: [Row; 12] = [
     (
         OFFSETS,
         VERSION,
@@ -84,6 +97,18 @@ const ROWS: [Row; 10] = [
         BOTH,
         VERSION,
         "0\t32\tTag: Protocol Version (0x420069), Type: Structure (0x01), Data:\n8\t4\t  Tag: Protocol Version Major (0x42006A), Type: Integer (0x02), Data: 0x000001 (1)\n24\t4\t  Tag: Protocol Version Minor (0x42006B), Type: Integer (0x02), Data: 0x000000 (0)\n",
+    ),
+    // Of a structure its header, of a leaf its header and its value.
+    (
+        BYTES,
+        VERSION,
+        "4200690100000020\tTag: Protocol Version (0x420069), Type: Structure (0x01), Data:\n42006A020000000400000001\t  Tag: Protocol Version Major (0x42006A), Type: Integer (0x02), Data: 0x000001 (1)\n42006B020000000400000000\t  Tag: Protocol Version Minor (0x42006B), Type: Integer (0x02), Data: 0x000000 (0)\n",
+    ),
+    // Bytes come last; of a value at most as many as of a byte string.
+    (
+        ALL_COLUMNS,
+        "42009101000000284200430800000004010203AB000000004200430800000005010203AB050000004200430800000000",
+        "0\t40\t4200910100000028\tTag: Template-Attribute (0x420091), Type: Structure (0x01), Data:\n8\t4\t4200430800000004010203AB\t  Tag: Key Material (0x420043), Type: ByteString (0x08), Data: 010203AB\n24\t5\t4200430800000005010203AB..\t  Tag: Key Material (0x420043), Type: ByteString (0x08), Data: 010203AB.. (5 bytes)\n40\t0\t4200430800000000\t  Tag: Key Material (0x420043), Type: ByteString (0x08), Data: \n",
     ),
     (
         COLORS,

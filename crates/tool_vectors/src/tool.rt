@@ -23,6 +23,16 @@ const OWN: &str =
 // Key Material whose length is 0, with the bytes of the key behind it: no header.
 const LEAK: &str = "420040010000001042004301000000003031323334353637";
 
+// Requests of three runs: a time, an identifier and a count, which differs in the third.
+const RUN_1: &str = "420078010000003042009209000000080000000000000001420094070000000\
+36F6E65000000000042000D02000000040000000100000000";
+
+const RUN_2: &str = "420078010000003042009209000000080000000000000002420094070000000\
+374776F000000000042000D02000000040000000100000000";
+
+const RUN_3: &str = "420078010000003042009209000000080000000000000003420094070000000\
+3736978000000000042000D02000000040000000200000000";
+
 // A file or a table in memory.
 #[derive(Drop)]
 struct Held {
@@ -49,6 +59,9 @@ impl Opener for Folder {
             "key" => KEY.as_bytes(),
             "own" => OWN.as_bytes(),
             "leak" => LEAK.as_bytes(),
+            "run1" => RUN_1.as_bytes(),
+            "run2" => RUN_2.as_bytes(),
+            "run3" => RUN_3.as_bytes(),
             "capture" => TALK.as_slice(),
             "tagged" => TAGGED.as_slice(),
             "own.txt" => b"# Ours.\n540002 Own Secret\n".as_slice(),
@@ -116,7 +129,13 @@ const COLORED_ONE: &str =
 const LEAK_LINES: &str =
     "Tag: Key Block (0x420040), Type: Structure (0x01), Data:\n  Tag: Key Material (0x420043), Type: Structure (0x01), Data:\n";
 
-const ROWS: [Row; 65] = [
+const OTHER_COUNT: &str =
+    "  Tag: Request Message (0x420078), Type: Structure (0x01), Data:\n    Tag: Time Stamp (0x420092), Type: DateTime (0x09), Data: <left out>\n    Tag: Unique Identifier (0x420094), Type: TextString (0x07), Data: <left out>\n-   Tag: Batch Count (0x42000D), Type: Integer (0x02), Data: 0x000001 (1)\n+   Tag: Batch Count (0x42000D), Type: Integer (0x02), Data: 0x000002 (2)\n";
+
+const OTHER_MESSAGE: &str =
+    "- Tag: Key Block (0x420040), Type: Structure (0x01), Data:\n-   Tag: Key Material (0x420043), Type: Structure (0x01), Data:\n+ Tag: Request Message (0x420078), Type: Structure (0x01), Data:\n+   Tag: Time Stamp (0x420092), Type: DateTime (0x09), Data: <left out>\n+   Tag: Unique Identifier (0x420094), Type: TextString (0x07), Data: <left out>\n+   Tag: Batch Count (0x42000D), Type: Integer (0x02), Data: 0x000001 (1)\n";
+
+const ROWS: [Row; 72] = [
     ("show --redact=keys key", PLAIN, 0, SHOWN_KEY, ""),
     ("show --raw --redact=keys key", PLAIN, 0, SHOWN_KEY, ""),
     ("show --redact key", PLAIN, 0, REDACTED_KEY, ""),
@@ -380,6 +399,13 @@ const ROWS: [Row; 65] = [
         "8\t3\t  Tag: 0x540002, Type: ByteString (0x08), Data: 0A0B0C\n",
         "",
     ),
+    (
+        "show --bytes --tag 540002 own",
+        PLAIN,
+        0,
+        "54000208000000030A0B0C\t  Tag: 0x540002, Type: ByteString (0x08), Data: 0A0B0C\n",
+        "",
+    ),
     // Names in other spellings.
     ("show --tag KeyMaterial key", PLAIN, 0, MATERIAL, ""),
     ("show --tag key-material key", PLAIN, 0, MATERIAL, ""),
@@ -449,6 +475,31 @@ const ROWS: [Row; 65] = [
         "capture: no message on TCP port 443 (--port)\n",
     ),
     ("show --redact tagged", PLAIN, 0, TAGGED_LINES, ""),
+    // Two files compared: alike but for a time and an identifier, with another count, malformed, and not there.
+    ("diff run1 run2", PLAIN, 0, "", ""),
+    ("diff run2 run3", COLORED, 1, OTHER_COUNT, ""),
+    (
+        "diff leak run1",
+        PLAIN,
+        1,
+        OTHER_MESSAGE,
+        "leak: byte 16: 0x303132: unknown type\n",
+    ),
+    ("diff run1 none", PLAIN, 2, "", "none: it can't be opened\n"),
+    (
+        "diff none nothing",
+        PLAIN,
+        2,
+        "",
+        "none: it can't be opened\nnothing: it can't be opened\n",
+    ),
+    (
+        "diff --names none.txt run1 run3",
+        PLAIN,
+        2,
+        "",
+        "none.txt: it can't be opened\n",
+    ),
 ];
 
 // A tag as it is named, the table of names, a file, and what is printed of it.
@@ -571,6 +622,55 @@ fn each_growth_for_tags_may_fail(rt: HostRuntime) -> Result<(), AllocError> {
         return Err(AllocError);
     };
     assert!(rt; ends_without_memory(rt.alloc(), &request));
+    Ok(())
+}
+
+// What a comparison comes to where an allocation fails, and whether it did.
+fn compared_after(alloc: Global, request: &Request<'_>, before: u64) -> (Outcome, bool) {
+    let heap = BoundedAllocator::failing_after(alloc, before);
+    let mut stdin = b"".as_slice();
+    let mut output = Vec::new(alloc);
+    let mut errors = Vec::new(alloc);
+    let status = run_request(
+        &heap,
+        request,
+        PLAIN,
+        &mut Folder,
+        &mut Folder,
+        &mut stdin,
+        &mut output,
+        &mut errors,
+    );
+    let outcome = Outcome {
+        status,
+        output,
+        errors,
+    };
+    (outcome, heap.has_failed())
+}
+
+// Whether each allocation that fails gives status 3, unless less memory did as well: lines are collected so.
+fn compares_without_memory(alloc: Global, request: &Request<'_>) -> bool {
+    for before in 0..1_000u64 {
+        let (outcome, failed) = compared_after(alloc, request, before);
+        let whole = outcome.is(1, OTHER_COUNT, "");
+        if !failed {
+            return whole;
+        }
+        if !whole && outcome.status != 3 {
+            return false;
+        }
+    }
+    false
+}
+
+#[test]
+fn each_growth_for_two_files_may_fail(rt: HostRuntime) -> Result<(), AllocError> {
+    let words = words_of(rt.alloc(), "diff run2 run3")?;
+    let Ok(request) = request_of(rt.alloc(), words.as_slice()) else {
+        return Err(AllocError);
+    };
+    assert!(rt; compares_without_memory(rt.alloc(), &request));
     Ok(())
 }
 

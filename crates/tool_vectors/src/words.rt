@@ -1,12 +1,12 @@
 //! What the command line asks for.
 
 use std::alloc::{AllocError, Global};
-use ttlv_run::{Asked, Encoding, Hiding, Look, Strict, Task, Values, request_of};
+use ttlv_run::{Asked, Encoding, Hiding, Look, Pair, Product, Strict, Task, Values, request_of};
 
 // Arguments, what they ask for, the file of names, and how many files are read.
 type Row = (&'static str, Asked<'static>, Option<&'static str>, usize);
 
-const ASKED: [Row; 29] = [
+const ASKED: [Row; 39] = [
     ("ttlv from-json", Asked::FromJson { raw: false }, None, 0),
     (
         "ttlv show --find a",
@@ -140,6 +140,74 @@ const ASKED: [Row; 29] = [
         None,
         1,
     ),
+    (
+        "ttlv show --bytes --width 8",
+        Asked::Print {
+            task: Task::Show {
+                look: Look {
+                    bytes: true,
+                    width: Some(8),
+                    ..Look::PLAIN
+                },
+            },
+            encoding: Encoding::Detected,
+        },
+        None,
+        0,
+    ),
+    // The lines of a page have everything in front of them, and redacted ones nothing.
+    (
+        "ttlv html --width 8 a",
+        Asked::Gather {
+            task: Task::Show {
+                look: Look {
+                    offsets: true,
+                    lengths: true,
+                    bytes: true,
+                    width: Some(8),
+                    ..Look::PLAIN
+                },
+            },
+            encoding: Encoding::Detected,
+            product: Product::Page,
+        },
+        None,
+        1,
+    ),
+    (
+        "ttlv html --redact --names own.txt",
+        Asked::Gather {
+            task: Task::Whole {
+                strict: Strict::Show {
+                    look: Look {
+                        values: Values::Hidden,
+                        ..Look::PLAIN
+                    },
+                },
+            },
+            encoding: Encoding::Detected,
+            product: Product::Page,
+        },
+        Some("own.txt"),
+        0,
+    ),
+    (
+        "ttlv html --redact=keys --port 1 a",
+        Asked::Gather {
+            task: Task::Whole {
+                strict: Strict::Show {
+                    look: Look {
+                        secrets_hidden: true,
+                        ..Look::PLAIN
+                    },
+                },
+            },
+            encoding: Encoding::Capture { port: 1 },
+            product: Product::Page,
+        },
+        None,
+        1,
+    ),
     // `--redact` hides values even with `--raw`.
     (
         "ttlv show --raw --redact",
@@ -213,6 +281,15 @@ const ASKED: [Row; 29] = [
         0,
     ),
     ("ttlv undiag", Asked::ReadBack { prefix: "" }, None, 0),
+    (
+        "ttlv diff --names own.txt --input raw a b",
+        Asked::Print {
+            task: Task::Hexadecimal,
+            encoding: Encoding::Raw,
+        },
+        Some("own.txt"),
+        2,
+    ),
     (
         "ttlv check --input hex a b c",
         Asked::Print {
@@ -318,6 +395,46 @@ const ASKED: [Row; 29] = [
         None,
         0,
     ),
+    ("ttlv from-xml", Asked::FromXml { raw: false }, None, 0),
+    (
+        "ttlv from-xml --raw a b",
+        Asked::FromXml { raw: true },
+        None,
+        2,
+    ),
+    (
+        "ttlv xml --input raw a",
+        Asked::Gather {
+            task: Task::Hexadecimal,
+            encoding: Encoding::Raw,
+            product: Product::Document,
+        },
+        None,
+        1,
+    ),
+    (
+        "ttlv xml --strict --port 5697",
+        Asked::Gather {
+            task: Task::Whole {
+                strict: Strict::Hexadecimal,
+            },
+            encoding: Encoding::Capture { port: 5697 },
+            product: Product::Document,
+        },
+        None,
+        0,
+    ),
+    (
+        "ttlv hex --strict",
+        Asked::Print {
+            task: Task::Whole {
+                strict: Strict::Hexadecimal,
+            },
+            encoding: Encoding::Detected,
+        },
+        None,
+        0,
+    ),
     (
         "ttlv hex",
         Asked::Print {
@@ -330,12 +447,17 @@ const ASKED: [Row; 29] = [
 ];
 
 // Arguments that ask for no run, and the exit status: help, the version, and mistakes.
-const OTHERS: [(&str, i32); 23] = [
+const OTHERS: [(&str, i32); 38] = [
+    ("ttlv xml a b", 2),
+    ("ttlv xml --redact", 2),
+    ("ttlv from-xml --input raw", 2),
+    ("ttlv xml --help", 0),
     ("ttlv show --find --port 5696", 2),
     ("ttlv show --get 420078 --find", 2),
     ("ttlv show --get 420078 --tag 420078", 2),
     ("ttlv show --get 420078 --offsets", 2),
     ("ttlv show --get 420078 --lengths", 2),
+    ("ttlv show --get 420078 --bytes", 2),
     ("ttlv diag --get 420078", 2),
     ("ttlv show --port 5696 --input hex", 2),
     ("ttlv check --input raw --port 5696", 2),
@@ -346,15 +468,26 @@ const OTHERS: [(&str, i32); 23] = [
     ("ttlv", 2),
     ("ttlv shout", 2),
     ("ttlv show --closed", 2),
-    // Lengths tell something of values that are hidden.
+    // Lengths tell something of values that are hidden, and bytes all.
     ("ttlv show --lengths --redact", 2),
     ("ttlv show --redact=all --lengths", 2),
     ("ttlv show --lengths --redact=keys", 2),
     ("ttlv json --lengths", 2),
+    ("ttlv show --bytes --redact", 2),
+    ("ttlv show --redact=keys --bytes", 2),
+    ("ttlv json --bytes", 2),
+    // A page is of one file; its texts are escaped, and it has no colours.
+    ("ttlv html a b", 2),
+    ("ttlv html --raw a", 2),
+    ("ttlv html --color always a", 2),
+    ("ttlv html --secrets own.txt a", 2),
     ("ttlv diag --redact", 2),
     ("ttlv diag --raw", 2),
     ("ttlv check --input ebcdic", 2),
     ("ttlv diag --prefix", 2),
+    ("ttlv diff", 2),
+    ("ttlv diff a", 2),
+    ("ttlv diff a b c", 2),
 ];
 
 fn words_of(alloc: Global, line: &str) -> Result<Vec<String>, AllocError> {
@@ -402,6 +535,27 @@ fn tables_of_secrets(rt: HostRuntime) {
     ] {
         assert!(rt; has_secrets(rt.alloc(), line, secrets), "{line}");
     }
+}
+
+// The files that a line compares.
+fn has_pair(alloc: Global, line: &str, pair: Option<Pair<'_>>) -> bool {
+    let Ok(words) = words_of(alloc, line) else {
+        return false;
+    };
+    match request_of(alloc, words.as_slice()) {
+        Ok(request) => request.compares == pair,
+        Err(_) => false,
+    }
+}
+
+#[test]
+fn pairs(rt: HostRuntime) {
+    let pair = Pair {
+        first: "a",
+        second: "-",
+    };
+    assert!(rt; has_pair(rt.alloc(), "ttlv diff a -", Some(pair)));
+    assert!(rt; has_pair(rt.alloc(), "ttlv hex a -", None));
 }
 
 fn ends(alloc: Global, line: &str, status: i32) -> bool {
